@@ -1,5 +1,5 @@
 -- Code that is put together from parts: lists of orders, the way of a loop, and switches.
-use Rattle.std.proofs.Common.{get_or, suc, ◌<◌, ◌≡◌, ℕ, ◌+◌, ◌*◌, List, [], ◌∷◌, ◌++◌, length, drop, drop-cons, sym, ap, ap₂, ◌∙◌, subst, append_assoc, arith, length-append, ℤ}
+use Rattle.std.proofs.Common.{get_or, suc, ◌<◌, ◌≡◌, ℕ, Bool, ◌+◌, ◌*◌, List, [], ◌∷◌, ◌++◌, length, drop, drop-cons, sym, ap, ap₂, ◌∙◌, subst, append_assoc, arith, length-append, ℤ}
 use Rattle.cw_i86.specs.declared.instr.Instr.{Instr}
 use Rattle.cw_i86.specs.declared.instr.Instr.TheVariants as i86
 use Rattle.cw_unit.specs.declared.unit.Goal.{Goal}
@@ -22,9 +22,9 @@ use Rattle.cw_tmpl.specs.Names.{Names, no_names, own, switch_size}
 use Rattle.cw_tmpl.specs.Blocks.{block_at, orders_left}
 use Rattle.cw_tmpl.specs.Pieces.{blanks, relocations}
 use Rattle.cw_order.specs.declared.order.Order.TheVariants as order
-use Rattle.cw_tmpl.specs.Templates.{template, back_jump, distance, number_compared, goal_words, mark_words, loop_way, switch_pieces, with_both_bounds, block_pieces, block_size, entry_pieces}
+use Rattle.cw_tmpl.specs.Templates.{Forms, is_short, template, back_jump, distance, number_compared, goal_words, mark_words, loop_way, switch_pieces, with_both_bounds, block_pieces, block_size, entry_pieces}
 use Rattle.cw_tmpl.specs.ReferenceCode.{templates, landings, switches, places_from, entry_size, landings_place, switches_place, names_of, pieces_of}
-use Rattle.cw_tmpl.proofs.Sizes.{size_everywhere, size_of_switch, size_of_templates, size_of_landings, landings_at}
+use Rattle.cw_tmpl.proofs.Sizes.{size_to, size_everywhere, size_of_switch, size_of_templates, size_of_landings, landings_at}
 use Rattle.cw_tmpl.proofs.Growing.{adds_then, Coming, coming_more}
 
 as_pieces : (old new : Assembly) (ps qs : List Coded) → ps ≡ qs → Adds old ps new → Adds old qs new
@@ -64,32 +64,37 @@ loop_added old one two new n w i1 i2 t names marks a en ew e1 e2 et b d =
 
 -- ---- one item of a list
 
-pub next_block : (old new : Assembly) (names : Names) (list : List Order) (k left next : ℕ) (b : Block) (o : Order) (bytes : List ℕ) (relocs : List Reloc) → drop k list ≡ o ∷ drop (k + 1) list
-    → b ≡ block_at left (drop k list) → next ≡ orders_left b → Adds old (block_pieces names (length old.bytes) b o) new
-    → Coming old (templates names (length old.bytes) left (drop k list)) bytes relocs → Coming new (templates names (length new.bytes) next (drop (k + 1) list)) bytes relocs
-next_block old new names list k left next b o bytes relocs e is_block is_next added coming =
+pub next_block : (old new : Assembly) (names : Names) (list : List Order) (k left next : ℕ) (short : Bool) (b : Block) (o : Order) (bytes : List ℕ) (relocs : List Reloc) → drop k list ≡ o ∷ drop (k + 1) list
+    → b ≡ block_at left (drop k list) → next ≡ orders_left b → short ≡ is_short names.reach k b o → Adds old (block_pieces names (length old.bytes) short b o) new
+    → Coming old (templates names (length old.bytes) k left (drop k list)) bytes relocs → Coming new (templates names (length new.bytes) (k + 1) next (drop (k + 1) list)) bytes relocs
+next_block old new names list k left next short b o bytes relocs e is_block is_next is_form added coming =
     let at = length old.bytes in
     let rest = drop (k + 1) list in
     let c = block_at left (o ∷ rest) in
+    let s = is_short names.reach k c o in
     let same : b ≡ c = is_block ∙ ap (block_at left) e in
-    let pieces = block_pieces names at c o in
-    let added' : Adds old pieces new = subst (λ x. Adds old (block_pieces names at x o) new) same added in
-    let long : at + block_size c o ≡ length new.bytes = omega (arith, ap length added'.bytes, length-append old.bytes (blanks pieces), size_everywhere names at c o) in
-    let here : Coming old (pieces ++ templates names (at + block_size c o) (orders_left c) rest) bytes relocs = subst (λ xs. Coming old (templates names at left xs) bytes relocs) e coming in
+    let pieces = block_pieces names at s c o in
+    let added' : Adds old pieces new = subst (λ x. Adds old (block_pieces names at (is_short names.reach k x o) x o) new) same (subst (λ t. Adds old (block_pieces names at t b o) new) is_form added) in
+    let long : at + block_size s c o ≡ length new.bytes = omega (arith, ap length added'.bytes, length-append old.bytes (blanks pieces), size_everywhere names at s c o) in
+    let here : Coming old (pieces ++ templates names (at + block_size s c o) (suc k) (orders_left c) rest) bytes relocs = subst (λ xs. Coming old (templates names at k left xs) bytes relocs) e coming in
     let left_is : orders_left c ≡ next = ap orders_left (sym same) ∙ sym is_next in
-    subst (λ m. Coming new (templates names (length new.bytes) m rest) bytes relocs) left_is
-    (subst (λ n. Coming new (templates names n (orders_left c) rest) bytes relocs) long (coming_more old new pieces (templates names (at + block_size c o) (orders_left c) rest) bytes relocs added' here))
+    let number : suc k ≡ k + 1 = omega arith in
+    subst (λ m. Coming new (templates names (length new.bytes) (k + 1) m rest) bytes relocs) left_is
+    (subst (λ m. Coming new (templates names (length new.bytes) m (orders_left c) rest) bytes relocs) number
+    (subst (λ n. Coming new (templates names n (suc k) (orders_left c) rest) bytes relocs) long (coming_more old new pieces (templates names (at + block_size s c o) (suc k) (orders_left c) rest) bytes relocs added' here)))
 
-pub next_place : (places : List ℕ) (at left size next : ℕ) (list : List Order) (k : ℕ) (b : Block) (o : Order) (whole : List ℕ) → drop k list ≡ o ∷ drop (k + 1) list → b ≡ block_at left (drop k list) → next ≡ orders_left b → size ≡ at + block_size b o
-    → places ++ places_from at left (drop k list) ≡ whole → (places ++ at ∷ []) ++ places_from size next (drop (k + 1) list) ≡ whole
-next_place places at left size next list k b o whole e is_block is_next is_size h =
+pub next_place : (forms : Forms) (places : List ℕ) (at left size next : ℕ) (list : List Order) (k : ℕ) (b : Block) (o : Order) (whole : List ℕ) → drop k list ≡ o ∷ drop (k + 1) list → b ≡ block_at left (drop k list) → next ≡ orders_left b
+    → size ≡ at + block_size (forms k b o) b o → places ++ places_from forms at k left (drop k list) ≡ whole → (places ++ at ∷ []) ++ places_from forms size (k + 1) next (drop (k + 1) list) ≡ whole
+next_place forms places at left size next list k b o whole e is_block is_next is_size h =
     let rest = drop (k + 1) list in
     let c = block_at left (o ∷ rest) in
     let same : b ≡ c = is_block ∙ ap (block_at left) e in
-    append_assoc places (at ∷ []) (places_from size next rest)
-    ∙ ap₂ (λ m n. places ++ (at ∷ places_from m n rest)) is_size is_next
-    ∙ ap (λ x. places ++ (at ∷ places_from (at + block_size x o) (orders_left x) rest)) same
-    ∙ ap (λ l. places ++ places_from at left l) (sym e) ∙ h
+    let number : k + 1 ≡ suc k = omega arith in
+    append_assoc places (at ∷ []) (places_from forms size (k + 1) next rest)
+    ∙ ap₂ (λ m n. places ++ (at ∷ places_from forms m (k + 1) n rest)) is_size is_next
+    ∙ ap (λ x. places ++ (at ∷ places_from forms (at + block_size (forms k x o) x o) (k + 1) (orders_left x) rest)) same
+    ∙ ap (λ n. places ++ (at ∷ places_from forms (at + block_size (forms k c o) c o) n (orders_left c) rest)) number
+    ∙ ap (λ l. places ++ places_from forms at k left l) (sym e) ∙ h
 
 pub next_switch : (old new : Assembly) (names : Names) (list : List (List Goal)) (k : ℕ) (gs : List Goal) (bytes : List ℕ) (relocs : List Reloc) → drop k list ≡ gs ∷ drop (k + 1) list → Adds old (switch_pieces names (length old.bytes) gs) new
     → Coming old (switches names (length old.bytes) (drop k list)) bytes relocs → Coming new (switches names (length new.bytes) (drop (k + 1) list)) bytes relocs
@@ -103,27 +108,28 @@ next_switch old new names list k gs bytes relocs e added coming =
 
 -- ---- all parts of a segment's code
 
-whole_added : (a b c d : Assembly) (o : Orders) (names : Names) → names ≡ names_of o → Adds (record { bytes = []; relocs = [] }) entry_pieces a → Adds a (templates names (length a.bytes) 0 o.list) b → Adds b (landings names (length b.bytes) o.labels) c
+whole_added : (a b c d : Assembly) (o : Orders) (names : Names) → names ≡ names_of o → Adds (record { bytes = []; relocs = [] }) entry_pieces a → Adds a (templates names (length a.bytes) 0 0 o.list) b → Adds b (landings names (length b.bytes) o.labels) c
     → Adds c (switches names (length c.bytes) o.switches) d → (d.bytes ≡ blanks (pieces_of o)) × (d.relocs ≡ relocations 0 (pieces_of o))
 whole_added a b c d o names same ha hb hc hd =
     let start : Assembly = record { bytes = []; relocs = [] } in
     let N = names_of o in
     let size_a : length a.bytes ≡ entry_size = ap length ha.bytes in
-    let size_b : length b.bytes ≡ landings_place o = omega (arith, ap length hb.bytes, length-append a.bytes (blanks (templates names (length a.bytes) 0 o.list)), size_of_templates names (length a.bytes) 0 o.list, size_a, landings_at o) in
+    let sizes = ap (λ n. size_to (is_short n.reach) 0 0 o.list (length o.list)) same in
+    let size_b : length b.bytes ≡ landings_place o = omega (arith, sizes, ap length hb.bytes, length-append a.bytes (blanks (templates names (length a.bytes) 0 0 o.list)), size_of_templates names (length a.bytes) 0 0 o.list, size_a, landings_at o) in
     let size_c : length c.bytes ≡ switches_place o = omega (arith, ap length hc.bytes, length-append b.bytes (blanks (landings names (length b.bytes) o.labels)), size_of_landings names (length b.bytes) o.labels, size_b) in
-    let hb' : Adds a (templates N entry_size 0 o.list) b = as_pieces a b (templates names (length a.bytes) 0 o.list) (templates N entry_size 0 o.list) (ap (λ n. templates n (length a.bytes) 0 o.list) same ∙ ap (λ n. templates N n 0 o.list) size_a) hb in
+    let hb' : Adds a (templates N entry_size 0 0 o.list) b = as_pieces a b (templates names (length a.bytes) 0 0 o.list) (templates N entry_size 0 0 o.list) (ap (λ n. templates n (length a.bytes) 0 0 o.list) same ∙ ap (λ n. templates N n 0 0 o.list) size_a) hb in
     let hc' : Adds b (landings N (landings_place o) o.labels) c = as_pieces b c (landings names (length b.bytes) o.labels) (landings N (landings_place o) o.labels) (ap (λ n. landings n (length b.bytes) o.labels) same ∙ ap (λ n. landings N n o.labels) size_b) hc in
     let hd' : Adds c (switches N (switches_place o) o.switches) d = as_pieces c d (switches names (length c.bytes) o.switches) (switches N (switches_place o) o.switches) (ap (λ n. switches n (length c.bytes) o.switches) same ∙ ap (λ n. switches N n o.switches) size_c) hd in
-    let all = adds_then start a d entry_pieces _ ha (adds_then a b d (templates N entry_size 0 o.list) _ hb' (adds_then b c d (landings N (landings_place o) o.labels) (switches N (switches_place o) o.switches) hc' hd')) in
+    let all = adds_then start a d entry_pieces _ ha (adds_then a b d (templates N entry_size 0 0 o.list) _ hb' (adds_then b c d (landings N (landings_place o) o.labels) (switches N (switches_place o) o.switches) hc' hd')) in
     (all.bytes, all.relocs)
 
 pub whole_from : (a b c d : Assembly) (bytes : List ℕ) (relocs : List Reloc) (o : Orders) (names : Names) (ls : List Order) (ms : List LabelMark) (ss : List (List Goal)) → bytes ≡ [] → relocs ≡ [] → ls ≡ o.list → ms ≡ o.labels → ss ≡ o.switches → names ≡ names_of o
-    → Adds (record { bytes = bytes; relocs = relocs }) entry_pieces a → Adds a (templates names (length a.bytes) 0 ls) b → Adds b (landings names (length b.bytes) ms) c
+    → Adds (record { bytes = bytes; relocs = relocs }) entry_pieces a → Adds a (templates names (length a.bytes) 0 0 ls) b → Adds b (landings names (length b.bytes) ms) c
     → Adds c (switches names (length c.bytes) ss) d → (d.bytes ≡ blanks (pieces_of o)) × (d.relocs ≡ relocations 0 (pieces_of o))
 whole_from a b c d bytes relocs o names ls ms ss eb er el em es same ha hb hc hd =
     whole_added a b c d o names same
     (subst (λ xs. Adds (record { bytes = xs; relocs = [] }) entry_pieces a) eb (subst (λ rs. Adds (record { bytes = bytes; relocs = rs }) entry_pieces a) er ha))
-    (subst (λ xs. Adds a (templates names (length a.bytes) 0 xs) b) el hb)
+    (subst (λ xs. Adds a (templates names (length a.bytes) 0 0 xs) b) el hb)
     (subst (λ xs. Adds b (landings names (length b.bytes) xs) c) em hc)
     (subst (λ xs. Adds c (switches names (length c.bytes) xs) d) es hd)
 

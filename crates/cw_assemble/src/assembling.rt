@@ -9,12 +9,12 @@ ghost use Rattle.cw_tmpl.specs.ReferenceCode.{templates, landings, switches, nam
 use crate::blocks::put_block;
 use crate::jumping::{put_landing, put_switch};
 use crate::places::{
-    label_places, mark_places, order_places, place_at, procedure_places, statement_places,
-    switch_places, switches_place,
+    label_places, longest_places, mark_places, order_places, place_at, procedure_places,
+    statement_places, switch_places, switches_place,
 };
 use cw_order::{LabelMark, Order, Orders};
 use cw_tmpl::library::START;
-use cw_tmpl::{Assembly, Code, Coded, Limit, Names, Target, block_in, orders_left};
+use cw_tmpl::{Assembly, Code, Coded, Limit, Names, Reach, Target, block_in, orders_left};
 use cw_unit::unit::Goal;
 use cw_word::{List, NoMemory};
 use std::alloc::Global;
@@ -35,12 +35,14 @@ fn put_entry(code: &mut Assembly) -> Result<(), NoMemory>
 /// Adds the code of orders.
 fn put_orders(code: &mut Assembly, list: &[Order], names: &Names) -> Result<(), NoMemory>
     requires { All HasCode list.now }
-    ensures { OnOk result (Adds code.old (templates names.now (length code.old.bytes) 0 list.now) code.new) }
+    ensures { OnOk result (Adds code.old (templates names.now (length code.old.bytes) 0 0 list.now) code.new) }
 {
     let mut left = 0;
     for k in 0..list.len() {
+        let order = &list[k];
         let block = block_in(left, list, k);
-        put_block(code, block, &list[k], names)?;
+        let short = names.reach.is_short(k, block, order);
+        put_block(code, short, block, order, names)?;
         left = orders_left(block);
     }
     Ok(())
@@ -90,13 +92,18 @@ pub fn assemble(alloc: Global, orders: &Orders) -> Result<Code, NoMemory>
     requires { All HasCode orders.now.list }
     ensures { IfOk result (λ code. code ≡ orders_code orders.now) }
 {
-    let places = order_places(alloc, orders.list.as_slice())?;
+    let longest = longest_places(alloc, orders.list.as_slice())?;
+    let reach = Reach {
+        marks: orders.marks.as_slice(),
+        longest: longest.as_slice(),
+    };
+    let places = order_places(alloc, orders.list.as_slice(), &reach)?;
     let landings = place_at(places.as_slice(), orders.list.as_slice().len());
     let first = switches_place(landings, orders.labels.as_slice().len())?;
     let switches = switch_places(alloc, first, orders.switches.as_slice())?;
     let names = Names {
         places: places.as_slice(),
-        marks: orders.marks.as_slice(),
+        reach,
         labels: orders.labels.as_slice(),
         procedures: orders.procedures.as_slice(),
         landings,

@@ -1,5 +1,5 @@
 //! Code of blocks of several orders.
-ghost use Rattle.std.specs.Prelude.{◌≡◌, ◌≤◌, ◌+◌, ◌-ℤ◌, true, ◌<◌, ◌++◌, ◌∷◌, [], length, OnOk};
+ghost use Rattle.std.specs.Prelude.{◌≡◌, ◌≤◌, ◌+◌, ◌-ℤ◌, true, false, ◌<◌, ◌++◌, ◌∷◌, [], length, OnOk};
 ghost use Rattle.cw_order.specs.HasCode.{HasCode};
 ghost use Rattle.cw_order.specs.declared.order.Order.TheVariants as order;
 ghost use Rattle.cw_tmpl.specs.Assembling.{Adds};
@@ -10,13 +10,13 @@ ghost use Rattle.cw_tmpl.specs.declared.pieces.Target.TheVariants as target;
 ghost use Rattle.cw_tmpl.specs.declared.pieces.Coded.TheVariants as coded;
 ghost use Rattle.cw_tmpl.specs.declared.blocks.Block.TheVariants as block;
 ghost use Rattle.cw_tmpl.specs.declared.blocks.Simple.TheVariants as simple;
-ghost use Rattle.cw_tmpl.specs.Templates.{address_pieces, load_place, store_place, operate_place, change_place, index_added, index_loaded, from_lower, indexes_between, index_below, address_tested, index_tested, element_address, operation, with_operand, product_with, pieces_size, checked, branch, operated, top_from_lower, times_entry, formed, bounded_address, block_pieces};
+ghost use Rattle.cw_tmpl.specs.Templates.{address_pieces, load_place, store_place, operate_place, change_place, index_added, index_loaded, from_lower, indexes_between, index_below, address_tested, index_tested, element_address, operation, with_operand, product_with, pieces_size, checked, branch_by, template_by, operated, top_from_lower, times_entry, formed, bounded_address, block_pieces};
 
 use crate::arithmetic::put_checked;
 use crate::calling::frame_field;
 use crate::indexes::{indexes_to, put_top_below};
-use crate::jumping::{distance, opposite};
-use crate::orders::put_order;
+use crate::jumping::{condition, distance, opposite, short_distance};
+use crate::orders::{put_order, put_short_order};
 use crate::parts::{put_part_taken, put_shifted_down_signed, put_shifted_up};
 use crate::words::mask;
 use cw_i86::Instr;
@@ -240,7 +240,7 @@ fn put_fetch_part(
     signed: bool,
 ) -> Result<(), NoMemory>
     requires { t + b ≤ 16 }
-    ensures { OnOk result (Adds code.old (block_pieces no_names 0 (block.FetchPart place t b signed) order.Save) code.new) }
+    ensures { OnOk result (Adds code.old (block_pieces no_names 0 false (block.FetchPart place t b signed) order.Save) code.new) }
 {
     put_address(code, place)?;
     code.put_all(&[load_place(place)])?;
@@ -250,7 +250,7 @@ fn put_fetch_part(
 fn put_assign_part(code: &mut Assembly, place: Place, t: u8, b: u8) -> Result<(), NoMemory>
     requires some { 1 ≤ t }
     requires within { t + b ≤ 16 }
-    ensures { OnOk result (Adds code.old (block_pieces no_names 0 (block.AssignPart place t b) order.Save) code.new) }
+    ensures { OnOk result (Adds code.old (block_pieces no_names 0 false (block.AssignPart place t b) order.Save) code.new) }
 {
     put_shifted_up(code, b)?;
     put_address(code, place)?;
@@ -263,7 +263,7 @@ fn put_assign_part(code: &mut Assembly, place: Place, t: u8, b: u8) -> Result<()
 
 /// Adds one more, or less, in AX.
 fn put_count(code: &mut Assembly, down: bool, line: u16) -> Result<(), NoMemory>
-    ensures { OnOk result (Adds code.old (block_pieces no_names 0 (block.Count down line) order.Save) code.new) }
+    ensures { OnOk result (Adds code.old (block_pieces no_names 0 false (block.Count down line) order.Save) code.new) }
 {
     code.put_all(&[Coded::Whole(if down { decrease(AX) } else { increase(AX) })])?;
     put_checked(code, line)
@@ -355,36 +355,57 @@ fn put_product(code: &mut Assembly, operand: Simple, line: u16) -> Result<(), No
     put_checked(code, line)
 }
 
+/// Adds a jump behind a comparison, where that holds.
+fn put_branch(
+    code: &mut Assembly,
+    short: bool,
+    comparator: Comparator,
+    to: u64,
+) -> Result<(), NoMemory>
+    ensures { OnOk result (Adds code.old (branch_by short comparator (length code.old.bytes) to) code.new) }
+{
+    let place = code.bytes.as_slice().len();
+    if short {
+        code.put_all(&[Coded::Whole(Instr::JumpIf {
+            cond: condition(comparator),
+            by: short_distance(place + 2, to),
+        })])
+    } else {
+        code.put_all(&[
+            Coded::Whole(Instr::JumpIf {
+                cond: opposite(comparator),
+                by: 3,
+            }),
+            Coded::Whole(Instr::Jump(distance(place + 5, to))),
+        ])
+    }
+}
+
 /// Adds a jump where a comparison of AX with a simple operand holds.
 fn put_comparison(
     code: &mut Assembly,
+    short: bool,
     operand: Simple,
     comparator: Comparator,
     to: u64,
 ) -> Result<(), NoMemory>
     requires { OperandWithin operand }
-    ensures { OnOk result (Adds code.old (with_operand 7 operand ++ branch comparator (length code.old.bytes + pieces_size (with_operand 7 operand) + 5) to) code.new) }
+    ensures { OnOk result (Adds code.old (with_operand 7 operand ++ branch_by short comparator (length code.old.bytes + pieces_size (with_operand 7 operand)) to) code.new) }
 {
     put_with_operand(code, 7, operand)?;
-    let end = code.bytes.as_slice().len() + 5;
-    code.put_all(&[
-        Coded::Whole(Instr::JumpIf {
-            cond: opposite(comparator),
-            by: 3,
-        }),
-        Coded::Whole(Instr::Jump(distance(end, to))),
-    ])
+    put_branch(code, short, comparator, to)
 }
 
-/// Adds the code of a simple operand and an order that uses it.
+/// Adds the code of a simple operand and an order that uses it, whose jump may be short.
 fn put_operated(
     code: &mut Assembly,
+    short: bool,
     operand: Simple,
     with: Use,
     names: &Names,
 ) -> Result<(), NoMemory>
     requires { OperandWithin operand }
-    ensures { OnOk result (Adds code.old (operated names.now (length code.old.bytes) operand with) code.new) }
+    ensures { OnOk result (Adds code.old (operated names.now (length code.old.bytes) short operand with) code.new) }
 {
     match with {
         Use::Add(line) => put_sum(code, 0, operand, line),
@@ -394,7 +415,13 @@ fn put_operated(
         Use::Union => put_with_operand(code, 1, operand),
         Use::Differ => put_with_operand(code, 6, operand),
         Use::Compare { comparator, mark } => {
-            put_comparison(code, operand, comparator, u64::from(names.mark(mark)))
+            put_comparison(
+                code,
+                short,
+                operand,
+                comparator,
+                u64::from(names.mark(mark)),
+            )
         }
     }
 }
@@ -498,7 +525,7 @@ fn put_bounded(code: &mut Assembly, bounded: Bounded) -> Result<(), NoMemory>
 
 /// Adds the code of a quotient by a number in the processor's own division.
 fn put_divided_by(code: &mut Assembly, number: u16) -> Result<(), NoMemory>
-    ensures { OnOk result (Adds code.old (block_pieces no_names 0 (block.Divide number 0) order.Save) code.new) }
+    ensures { OnOk result (Adds code.old (block_pieces no_names 0 false (block.Divide number 0) order.Save) code.new) }
 {
     code.put_all(&[
         Coded::Whole(set_word(BX, number)),
@@ -507,25 +534,43 @@ fn put_divided_by(code: &mut Assembly, number: u16) -> Result<(), NoMemory>
     ])
 }
 
-/// Adds the code of a block that begins with an order.
+/// Adds the code of an order alone, whose jump may be short.
+fn put_single(
+    code: &mut Assembly,
+    short: bool,
+    order: &Order,
+    names: &Names,
+) -> Result<(), NoMemory>
+    requires { HasCode order.now }
+    ensures { OnOk result (Adds code.old (template_by short names.now (length code.old.bytes) order.now) code.new) }
+{
+    if short {
+        put_short_order(code, order, names)
+    } else {
+        put_order(code, order, names)
+    }
+}
+
+/// Adds the code of a block that begins with an order, and whose jump may be short.
 pub(crate) fn put_block(
     code: &mut Assembly,
+    short: bool,
     block: Block,
     order: &Order,
     names: &Names,
 ) -> Result<(), NoMemory>
     requires code { HasCode order.now }
     requires parts { NamesParts block }
-    ensures { OnOk result (Adds code.old (block_pieces names.now (length code.old.bytes) block order.now) code.new) }
+    ensures { OnOk result (Adds code.old (block_pieces names.now (length code.old.bytes) short block order.now) code.new) }
 {
     match block {
         Block::Within(_) => code.put_all(&[]),
-        Block::Single => put_order(code, order, names),
+        Block::Single => put_single(code, short, order, names),
         Block::Fetch(place) => put_fetch(code, place),
         Block::Assign(place) => put_assign(code, place),
         Block::Write => code.put_all(&[Coded::Whole(Instr::Out(0x12))]),
         Block::Divide { by, .. } => put_divided_by(code, by),
-        Block::Operate { operand, with } => put_operated(code, operand, with, names),
+        Block::Operate { operand, with } => put_operated(code, short, operand, with, names),
         Block::FetchPart {
             place,
             t,

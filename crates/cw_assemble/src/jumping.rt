@@ -4,7 +4,7 @@ ghost use Rattle.cw_run86.specs.Views.{condition_of};
 ghost use Rattle.cw_order.specs.declared.order.Order.TheVariants as order;
 ghost use Rattle.cw_tmpl.specs.Assembling.{Adds};
 ghost use Rattle.cw_tmpl.specs.Names.{no_names};
-ghost use Rattle.cw_tmpl.specs.Templates.{template, past_limit, number_compared, mark_words, goal_words, loop_way, switch_pieces, landing_pieces, base_jump, switch_near, jump_where, jump_near, distance, opposite_of};
+ghost use Rattle.cw_tmpl.specs.Templates.{template, past_limit, number_compared, mark_words, goal_words, loop_way, switch_pieces, landing_pieces, base_jump, switch_near, jump_where, short_where, jump_near, jump_short, distance, short_distance, comparison_of, opposite_of};
 
 use cw_i86::Instr;
 use cw_order::{Comparator, LabelMark};
@@ -24,6 +24,29 @@ pub(crate) fn distance(from: usize, to: u64) -> u16
     let from = (from % 65_536) as u16;
     let to = (to % 65_536) as u16;
     to.wrapping_sub(from)
+}
+
+/// The same as a byte.
+pub(crate) fn short_distance(from: usize, to: u64) -> u8
+    ensures { result ≡ short_distance from to }
+{
+    let from = (from % 256) as u8;
+    let to = (to % 256) as u8;
+    to.wrapping_sub(from)
+}
+
+/// The number of the condition that holds where the comparison does.
+pub(crate) fn condition(comparator: Comparator) -> u8
+    ensures { result ≡ condition_of (comparison_of comparator) }
+{
+    match comparator {
+        Comparator::Less => 12,
+        Comparator::LessEqual => 14,
+        Comparator::Equal => 4,
+        Comparator::GreaterEqual => 13,
+        Comparator::Greater => 15,
+        Comparator::Unequal => 5,
+    }
 }
 
 /// The number of the condition that holds where the comparison does not.
@@ -48,6 +71,14 @@ pub(crate) fn put_jump(code: &mut Assembly, to: u64) -> Result<(), NoMemory>
     code.put_all(&[Coded::Whole(Instr::Jump(distance(end, to)))])
 }
 
+/// Adds a jump to a place of the segment that is close by.
+pub(crate) fn put_short_jump(code: &mut Assembly, to: u64) -> Result<(), NoMemory>
+    ensures { OnOk result (Adds code.old (jump_short (length code.old.bytes + 2) to ∷ []) code.new) }
+{
+    let end = code.bytes.as_slice().len() + 2;
+    code.put_all(&[Coded::Whole(Instr::JumpShort(short_distance(end, to)))])
+}
+
 /// Adds a jump to a place where a comparison of the two operands on top holds.
 pub(crate) fn put_jump_if(
     code: &mut Assembly,
@@ -65,6 +96,25 @@ pub(crate) fn put_jump_if(
             by: 3,
         }),
         Coded::Whole(Instr::Jump(distance(end, to))),
+    ])
+}
+
+/// The same to a place that is close by.
+pub(crate) fn put_short_jump_if(
+    code: &mut Assembly,
+    comparator: Comparator,
+    to: u64,
+) -> Result<(), NoMemory>
+    ensures { OnOk result (Adds code.old (short_where comparator (length code.old.bytes) to) code.new) }
+{
+    let end = code.bytes.as_slice().len() + 5;
+    code.put_all(&[
+        Coded::Whole(Instr::Pop(BX)),
+        Coded::Whole(compare(BX, AX)),
+        Coded::Whole(Instr::JumpIf {
+            cond: condition(comparator),
+            by: short_distance(end, to),
+        }),
     ])
 }
 

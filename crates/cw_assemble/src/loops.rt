@@ -5,13 +5,15 @@ ghost use Rattle.cw_run86.specs.Views.{condition_of, Greater};
 ghost use Rattle.cw_tmpl.specs.Assembling.{Adds};
 ghost use Rattle.cw_tmpl.specs.declared.pieces.Coded.TheVariants as coded;
 ghost use Rattle.cw_tmpl.specs.Library.{next_step_entry};
-ghost use Rattle.cw_tmpl.specs.Templates.{place_doubled, step_taken, one_way, loop_ways, call_library, jump_near};
+ghost use Rattle.cw_tmpl.specs.Templates.{place_doubled, step_taken, one_way, short_way, loop_ways, call_library, jump_near};
 
 use crate::calling::bytes_of_words;
-use crate::jumping::{distance, opposite, put_loop_way};
+use crate::jumping::{distance, opposite, put_loop_way, short_distance};
 use cw_i86::Instr;
 use cw_order::{Comparator, Place};
-use cw_tmpl::instructions::{AX, BASE, BX, decrease, jump_if_unequal, load, operate_number};
+use cw_tmpl::instructions::{
+    AX, BASE, BX, decrease, jump_if_equal, jump_if_unequal, load, operate_number,
+};
 use cw_tmpl::library::NEXT_STEP;
 use cw_tmpl::{Assembly, Coded, Names, Target};
 use cw_word::NoMemory;
@@ -71,6 +73,18 @@ fn put_one_way(code: &mut Assembly, mark: u32, names: &Names) -> Result<(), NoMe
         Coded::Whole(decrease(AX)),
         Coded::Whole(jump_if_unequal(3)),
         Coded::Whole(Instr::Jump(distance(end, to))),
+    ])
+}
+
+/// The same where its mark is close by.
+pub(crate) fn put_short_way(code: &mut Assembly, mark: u32, names: &Names) -> Result<(), NoMemory>
+    ensures { OnOk result (Adds code.old (short_way names.now (length code.old.bytes) mark) code.new) }
+{
+    let end = code.bytes.as_slice().len() + 3;
+    let to = u64::from(names.mark(mark));
+    code.put_all(&[
+        Coded::Whole(decrease(AX)),
+        Coded::Whole(jump_if_equal(short_distance(end, to))),
     ])
 }
 

@@ -4,7 +4,7 @@ ghost use Rattle.cw_order.specs.HasCode.{HasCode};
 ghost use Rattle.cw_order.specs.declared.order.Order.TheVariants as order;
 ghost use Rattle.cw_tmpl.specs.Assembling.{Adds};
 ghost use Rattle.cw_tmpl.specs.Names.{no_names};
-ghost use Rattle.cw_tmpl.specs.Templates.{template};
+ghost use Rattle.cw_tmpl.specs.Templates.{template, short_template};
 
 use crate::arithmetic::{
     put_checked, put_less, put_on_both, put_product, put_quotient, put_rescale, put_with_word,
@@ -18,9 +18,9 @@ use crate::indexes::{
 };
 use crate::jumping::{
     put_base_jump, put_go_special, put_go_switch, put_go_switch_common, put_go_switch_special,
-    put_jump, put_jump_if, put_past_limit,
+    put_jump, put_jump_if, put_past_limit, put_short_jump, put_short_jump_if,
 };
-use crate::loops::{put_loop_ways, put_next_step};
+use crate::loops::{put_loop_ways, put_next_step, put_short_way};
 use crate::parts::{put_load_part, put_store_part, put_take};
 use cw_i86::Instr;
 use cw_order::Order;
@@ -209,5 +209,27 @@ pub(crate) fn put_order(code: &mut Assembly, order: &Order, names: &Names) -> Re
         Order::WriteByte => put_write_byte(code),
         Order::NextBody => put_next_body(code),
         Order::Drop | Order::Mark | Order::Start(_) => Ok(()),
+    }
+}
+
+/// The same where the jump of the order is short, if it has one that can be.
+pub(crate) fn put_short_order(
+    code: &mut Assembly,
+    order: &Order,
+    names: &Names,
+) -> Result<(), NoMemory>
+    requires { HasCode order.now }
+    ensures { OnOk result (Adds code.old (short_template names.now (length code.old.bytes) order.now) code.new) }
+{
+    match order {
+        Order::Jump(mark) => put_short_jump(code, u64::from(names.mark(*mark))),
+        Order::JumpIf { comparator, mark } => {
+            put_short_jump_if(code, *comparator, u64::from(names.mark(*mark)))
+        }
+        Order::LoopWay(marks) => match marks.as_slice() {
+            [mark] => put_short_way(code, *mark, names),
+            _ => put_order(code, order, names),
+        },
+        _ => put_order(code, order, names),
     }
 }

@@ -2,19 +2,20 @@
 ghost use Rattle.std.specs.Prelude.{◌≡◌, ◌+◌, ◌*◌, map, slice_index, Some, IfOk, All};
 ghost use Rattle.cw_order.specs.HasCode.{HasCode};
 ghost use Rattle.cw_tmpl.specs.Names.{mark_place, way_to_label};
-ghost use Rattle.cw_tmpl.specs.ReferenceCode.{order_places, switch_places, label_starts, statements_from};
+ghost use Rattle.cw_tmpl.specs.Templates.{is_short};
+ghost use Rattle.cw_tmpl.specs.ReferenceCode.{longest_places, places_by, switch_places, label_starts, statements_from};
 
-use crate::sizes::{block_size, sum, table_size};
+use crate::sizes::{block_size, near_size, sum, table_size};
 use cw_order::{LabelMark, Order};
-use cw_tmpl::{LANDING, Names, block_in, orders_left};
+use cw_tmpl::{LANDING, Names, Reach, block_in, orders_left};
 use cw_unit::unit::Goal;
 use cw_word::{List, NoMemory};
 use std::alloc::Global;
 
-/// The places of the orders' code, and of the end.
-pub(crate) fn order_places(alloc: Global, orders: &[Order]) -> Result<List<u32>, NoMemory>
+/// The places of the orders' code, and of the end, where no jump is short.
+pub(crate) fn longest_places(alloc: Global, orders: &[Order]) -> Result<List<u32>, NoMemory>
     requires { All HasCode orders.now }
-    ensures { IfOk result (λ list. list ≡ order_places orders.now) }
+    ensures { IfOk result (λ list. list ≡ longest_places orders.now) }
 {
     let mut list = List::new(alloc);
     let mut at: u32 = 11;
@@ -22,7 +23,30 @@ pub(crate) fn order_places(alloc: Global, orders: &[Order]) -> Result<List<u32>,
     for k in 0..orders.len() {
         list.push(at)?;
         let block = block_in(left, orders, k);
-        at = sum(at, block_size(block, &orders[k])?)?;
+        at = sum(at, near_size(block, &orders[k])?)?;
+        left = orders_left(block);
+    }
+    list.push(at)?;
+    Ok(list)
+}
+
+/// The same where the jumps are short that reach their marks so.
+pub(crate) fn order_places(
+    alloc: Global,
+    orders: &[Order],
+    reach: &Reach,
+) -> Result<List<u32>, NoMemory>
+    requires { All HasCode orders.now }
+    ensures { IfOk result (λ list. list ≡ places_by (is_short reach.now) orders.now) }
+{
+    let mut list = List::new(alloc);
+    let mut at: u32 = 11;
+    let mut left = 0;
+    for k in 0..orders.len() {
+        list.push(at)?;
+        let block = block_in(left, orders, k);
+        let short = reach.is_short(k, block, &orders[k]);
+        at = sum(at, block_size(short, block, &orders[k])?)?;
         left = orders_left(block);
     }
     list.push(at)?;

@@ -1,14 +1,15 @@
 //! The sizes of the code of orders and of their blocks.
-ghost use Rattle.std.specs.Prelude.{◌≡◌, ◌≤◌, ◌+◌, ◌*◌, ◌++◌, ◌∷◌, [], IfOk};
+ghost use Rattle.std.specs.Prelude.{◌≡◌, ◌≤◌, ◌+◌, ◌*◌, ◌++◌, ◌∷◌, [], true, false, IfOk};
 ghost use Rattle.cw_order.specs.HasCode.{HasCode};
 ghost use Rattle.cw_order.specs.declared.order.Order.TheVariants as order;
 ghost use Rattle.cw_tmpl.specs.Blocks.{NamesParts};
 ghost use Rattle.cw_tmpl.specs.declared.blocks.Block.TheVariants as block;
 ghost use Rattle.cw_tmpl.specs.declared.blocks.Simple.TheVariants as simple;
-ghost use Rattle.cw_tmpl.specs.Templates.{address_pieces, load_place, pieces_size, index_size, lower_size, element_size, used_size, shift_size, part_size, times_size, width_size, bound_size, word_size, bounds_size, top_lower_size, formed_size, doubled_size, loop_ways_size, listed_size, order_size, block_size};
+ghost use Rattle.cw_tmpl.specs.Templates.{address_pieces, load_place, pieces_size, index_size, lower_size, element_size, used_size, shift_size, part_size, times_size, width_size, bound_size, word_size, bounds_size, top_lower_size, formed_size, doubled_size, loop_ways_size, listed_size, order_size, saved, block_size};
 
 use crate::words::power;
 use cw_order::{Order, Place};
+use cw_tmpl::laws::sizes;
 use cw_tmpl::{Block, Bounded, Element, Form, Simple, Test, Use};
 use cw_word::NoMemory;
 
@@ -174,7 +175,7 @@ fn formed_size(form: Form) -> u32
 
 /// How many bytes the code of an index has that is compared with its bounds, and of an address that is formed of it.
 fn bounded_size(bounded: Bounded) -> u32
-    ensures { result ≡ block_size (block.Bounded bounded) order.Save }
+    ensures { result ≡ block_size false (block.Bounded bounded) order.Save }
 {
     top_lower_size(bounded.bounds.lower) + 10 + formed_size(bounded.form)
 }
@@ -194,15 +195,15 @@ fn used_size(with: Use) -> u32
 
 /// How many bytes the code of an element and an order that uses it has.
 fn element_used_size(element: Element, with: Use) -> u32
-    ensures { result ≡ block_size (block.Operate (simple.Element element) with) order.Save }
+    ensures { result ≡ block_size false (block.Operate (simple.Element element) with) order.Save }
 {
     element_size(element) + used_size(with)
 }
 
 /// How many bytes the code of an element has that is fetched or assigned.
 fn element_moved_size(element: Element) -> u32
-    ensures fetched { result ≡ block_size (block.FetchElement element) order.Save }
-    ensures assigned { result ≡ block_size (block.AssignElement element) order.Save }
+    ensures fetched { result ≡ block_size false (block.FetchElement element) order.Save }
+    ensures assigned { result ≡ block_size false (block.AssignElement element) order.Save }
 {
     element_size(element) + 2
 }
@@ -278,7 +279,7 @@ fn order_size(order: &Order) -> Result<u32, NoMemory>
 
 /// How many bytes the code of a simple operand and an order that uses it has.
 fn operated_size(operand: Simple, with: Use) -> u32
-    ensures { result ≡ block_size (block.Operate operand with) order.Save }
+    ensures { result ≡ block_size false (block.Operate operand with) order.Save }
 {
     match (operand, with) {
         (Simple::Number(_), Use::Add(_) | Use::Subtract(_)) => 10,
@@ -307,11 +308,48 @@ fn place_size(place: Place) -> u32
     }
 }
 
-/// How many bytes the code of a block has that begins with an order.
-pub(crate) fn block_size(block: Block, order: &Order) -> Result<u32, NoMemory>
+/// How many bytes a short jump of a block saves.
+fn saved(block: Block, order: &Order) -> u32
+    ensures { result ≡ saved block order.now }
+{
+    match block {
+        Block::Single => match order {
+            Order::Jump(_) => 1,
+            Order::JumpIf { .. } => 3,
+            Order::LoopWay(marks) => match marks.as_slice() {
+                [_] => 3,
+                _ => 0,
+            },
+            _ => 0,
+        },
+        Block::Operate {
+            with: Use::Compare { .. },
+            ..
+        } => 3,
+        _ => 0,
+    }
+}
+
+/// How many bytes the code of a block has that begins with an order, and whose jump may be short.
+pub(crate) fn block_size(short: bool, block: Block, order: &Order) -> Result<u32, NoMemory>
     requires code { HasCode order.now }
     requires parts { NamesParts block }
-    ensures { IfOk result (λ n. n ≡ block_size block order.now) }
+    ensures { IfOk result (λ n. n ≡ block_size short block order.now) }
+{
+    let size = near_size(block, order)?;
+    if short {
+        sizes();
+        Ok(size - saved(block, order))
+    } else {
+        Ok(size)
+    }
+}
+
+/// How many bytes it has with a near jump.
+pub(crate) fn near_size(block: Block, order: &Order) -> Result<u32, NoMemory>
+    requires code { HasCode order.now }
+    requires parts { NamesParts block }
+    ensures { IfOk result (λ n. n ≡ block_size false block order.now) }
 {
     let size = match block {
         Block::Within(_) => 0,

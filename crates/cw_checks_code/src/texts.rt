@@ -275,8 +275,8 @@ const COUNTED: [(&str, usize, u64); 6] = [
     ("PROCEDURE P(VALUE INTEGER N); W(N); P(5)", 53, 46),
     // The call 6 and 2, the byte 2 and 1; the entry 7 and 19; number and the return 9 and 4, and no other return.
     ("INTEGER PROCEDURE F; ANSWER 5; W(F)", 40, 41),
-    // Load and comparison 11, and 3 where it holds; number and byte 5 and 2, and no jump.
-    ("INTEGER X; IF X = 0 THEN W(7)", 32, 20),
+    // Load, comparison and the jump past the statement 8 and 3; number and byte 5 and 2, and no other jump.
+    ("INTEGER X; IF X = 0 THEN W(7)", 29, 20),
     // The variable's address, the number of the element, the first value, the step and the limit, each stored, 30 and 10; load and byte 5 and 2;
     // the step 13, and 20 or at the end 19. The body runs twice.
     ("INTEGER I; FOR I := 1 STEP 1 UNTIL 2 DO W(I)", 64, 68),

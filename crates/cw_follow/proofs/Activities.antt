@@ -32,15 +32,15 @@ module _ (known : Given) where
 
   -- ---- the way back
 
-  module _ {q : Watched} {g place : ℕ} {a : OrderActivation} {acts : List OrderActivation} {w : Words} (s : Sound p image g place false (a ∷ acts) w q) (by_itself : Alone p image g place false (a ∷ acts) w q s.orders.list) where
+  module _ {q : Watched} {g place : ℕ} {a : OrderActivation} {acts : List OrderActivation} {w : Words} (s : Sound p image g place false (a ∷ acts) w q) (by_itself : Alone p image g place false (a ∷ acts) w q s.orders) where
     abbrev S : OrderState
     S = at g place false (a ∷ acts) w Running
 
     abbrev here : ℕ
-    here = order_place (base_of p g) s.orders.list place
+    here = order_place (base_of p g) s.orders place
 
     abbrev next : ℕ
-    next = order_place (base_of p g) s.orders.list (place + 1)
+    next = order_place (base_of p g) s.orders (place + 1)
 
     pub comes_back_false : (n : ℕ) → slice_get s.orders.list place ≡ Some (order.Return n false) → (b : Bool) → nat_eq (operand_words a.arguments) n ≡ b
         → Follow known (at g place false (a ∷ acts) w Running) q
@@ -51,8 +51,8 @@ module _ (known : Given) where
         let t = at a.segment a.place false acts v Running in
         let goes : step p S ≡ t = step_is known s (Some o) e ∙ ap (λ b. return_with b false w.operands a g place false acts w) is in
         let u = has_unit p a.segment a.place false acts v (never_next known s t goes) in
-        let to = order_place (base_of p a.segment) u.orders.list a.place in
-        let there : code_place p a.segment a.place ≡ to % 65536 = start_is known a.segment u.orders (λ o. own_place o.list a.place) u.unit in
+        let to = order_place (base_of p a.segment) u.orders a.place in
+        let there : code_place p a.segment a.place ≡ to % 65536 = start_is known a.segment u.orders (λ o. own_place o a.place) u.unit in
         leads_to known g place false (a ∷ acts) w t 3 goes (cheap known s o 3 (lit≤ tt) e)
         (onward known (λ r l. inl (sound_in known s by_itself a.segment a.place false acts v r u.orders u.unit (s.comes_back.0 u.orders u.unit) goes s.working.5 s.comes_back.1 l))
         (returns rows p image g a acts n w.memory w.input w.output to w.operands (eqb-true (operand_words a.arguments) n is) there (code known s by_itself o e) by_itself.landed))
@@ -127,7 +127,7 @@ module _ (known : Given) where
         cases (Some (Held (SwitchControl to n owner))) is = absurd (stuck_here known s (called_as (Some (Held (SwitchControl to n owner))) is))
         cases (Some (Held (ProcedureControl to n))) is =
             let o = order.CallSpecial k line in
-            let own = own_place s.orders.list place in
+            let own = own_place s.orders place in
             let st = all.stands g s.orders s.unit in
             let return = st.value 3 0 ((own + 13) % 65536) (here + 3 + 4 + 3) in
             let filled : return ≡ (base_of p g + (own + 13) % 65536) % 65536 = st.fills.places ((own + 13) % 65536) (here + 3 + 4 + 3) in
@@ -142,7 +142,7 @@ module _ (known : Given) where
   -- ---- the way back with an answer
 
   pub comes_back_true : {q : Watched} {g place : ℕ} {a : OrderActivation} {acts : List OrderActivation} (operands : List Operand) (w : Words) → w.operands ≡ operands
-      → (s : Sound p image g place true (a ∷ acts) w q) (by_itself : Alone p image g place true (a ∷ acts) w q s.orders.list)
+      → (s : Sound p image g place true (a ∷ acts) w q) (by_itself : Alone p image g place true (a ∷ acts) w q s.orders)
       (n : ℕ) → slice_get s.orders.list place ≡ Some (order.Return n true) → (b : Bool) → nat_eq (operand_words a.arguments) n ≡ b → Follow known (at g place true (a ∷ acts) w Running) q
   comes_back_true {q} {g} {place} {a} {acts} operands w same s by_itself n e b is = cases operands same b is
     where
@@ -160,10 +160,10 @@ module _ (known : Given) where
           let t = at a.segment a.place true acts v Running in
           let goes : step p (at g place true (a ∷ acts) w Running) ≡ t = goes_as true (Word z ∷ rest) is same in
           let u = has_unit p a.segment a.place true acts v (never_next known s t goes) in
-          let to = order_place (base_of p a.segment) u.orders.list a.place in
-          let there : code_place p a.segment a.place ≡ to % 65536 = start_is known a.segment u.orders (λ o. own_place o.list a.place) u.unit in
-          let l : Landed p image (order_place (base_of p g) s.orders.list place) g true (a ∷ acts) (with_operands w (Word z ∷ rest)) q =
-          subst (λ xs. Landed p image (order_place (base_of p g) s.orders.list place) g true (a ∷ acts) (with_operands w xs) q) same by_itself.landed in
+          let to = order_place (base_of p a.segment) u.orders a.place in
+          let there : code_place p a.segment a.place ≡ to % 65536 = start_is known a.segment u.orders (λ o. own_place o a.place) u.unit in
+          let l : Landed p image (order_place (base_of p g) s.orders place) g true (a ∷ acts) (with_operands w (Word z ∷ rest)) q =
+          subst (λ xs. Landed p image (order_place (base_of p g) s.orders place) g true (a ∷ acts) (with_operands w xs) q) same by_itself.landed in
           leads_to known g place true (a ∷ acts) w t 3 goes (cheap known s o 3 (lit≤ tt) e)
           (onward known (λ r l. inl (sound_in known s by_itself a.segment a.place true acts v r u.orders u.unit (s.comes_back.0 u.orders u.unit) goes s.working.5 s.comes_back.1 l))
           (answers rows p image g a acts n w.memory w.input w.output to z rest (eqb-true (operand_words a.arguments) n is) there (code known s by_itself o e) l))

@@ -16,10 +16,10 @@ use Rattle.cw_order.specs.Activations.{ActivationsStand, StateStands}
 use Rattle.cw_tmpl.specs.declared.blocks.Block.TheVariants as block
 use Rattle.cw_tmpl.specs.Blocks.{block_at, orders_left, left_at}
 use Rattle.cw_tmpl.specs.Library.{enter_entry, enter_place}
-use Rattle.cw_tmpl.specs.Templates.{block_size, block_pieces}
-use Rattle.cw_tmpl.specs.ReferenceCode.{names_of}
+use Rattle.cw_tmpl.specs.Templates.{is_short}
+use Rattle.cw_tmpl.specs.ReferenceCode.{names_of, reach_of}
 use Rattle.cw_follow.specs.Placing.{base_of}
-use Rattle.cw_tmpl.proofs.Sizes.{own_place, left_next}
+use Rattle.cw_tmpl.proofs.Sizes.{own_place, left_next, pieces_by, size_by}
 use Rattle.cw_follow.proofs.Watched.{Watched}
 use Rattle.cw_follow.proofs.Standing.{HasPieces, order_place}
 use Rattle.cw_tmpl.proofs.Shapes.{front_is}
@@ -36,7 +36,7 @@ module _ (known : Given) where
     T = at g place false (a ∷ acts) w Running
 
     abbrev here : ℕ
-    here = order_place (base_of p g) s.orders.list place
+    here = order_place (base_of p g) s.orders place
 
     few_there : g < 255
     few_there = let lt = slice_get_within p.units g s.orders s.unit in omega arith
@@ -84,7 +84,7 @@ module _ (known : Given) where
         let a' : OrderActivation = record a { entered = true; frame_top = a.frame_base + size } in
         let t = at g (place + 1) false (a' ∷ acts) w Running in
         let goes : step p T ≡ t = enter_is ∙ ap (λ x. enter_with false x (nat_le (a.frame_base + size) p.limits.area) size a g place false acts w) es ∙ ap (λ x. enter_with false true x size a g place false acts w) ef in
-        let next : here + 7 ≡ order_place (base_of p g) s.orders.list (place + 1) = ap (λ x. here + block_size x Enters) (sym alone_is) ∙ order_next (base_of p g) s.orders.list place Enters listed in
+        let next : here + 7 ≡ order_place (base_of p g) s.orders (place + 1) = ap (λ x. here + size_by (is_short (reach_of s.orders)) place x Enters) (sym alone_is) ∙ order_next (base_of p g) s.orders place Enters listed in
         let room_there = (stands_there t goes).room in
         let fit = fits_there t goes in
         let top : a.frame_base + size ≤ p.limits.area = leb-true (a.frame_base + size) p.limits.area ef in
@@ -123,7 +123,7 @@ module _ (known : Given) where
     begins_free =
         let size = s.beginning.size in
         let st = all.stands g s.orders s.unit in
-        let i = subst (λ x. HasPieces image st.value here (block_pieces (names_of s.orders) (own_place s.orders.list place) x Enters)) alone_is (st.orders place Enters listed) in
+        let i = subst (λ x. HasPieces image st.value here (pieces_by (names_of s.orders) (own_place s.orders place) place x Enters)) alone_is (st.orders place Enters listed) in
         let number = st.value 8 3 0 (here + 3 + 2 + 2) in
         let by = st.value 7 enter_entry 0 (here + 3) in
         let numbered = st.fills.number (here + 3 + 2 + 2) in

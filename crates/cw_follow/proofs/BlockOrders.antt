@@ -75,7 +75,7 @@ module _ (known : Given) where
 
     -- where the code of the block ends, where its last order is at work
     abbrev pub code_end : ℕ
-    code_end = order_place (base_of p g) s.orders.list (place + 1)
+    code_end = order_place (base_of p g) s.orders (place + 1)
 
     -- ---- the orders before the last one
 
@@ -106,7 +106,7 @@ module _ (known : Given) where
     -- the mode before the block, and that before its last order
     pub record Modes (b m : Bool) : Type 0 where
       pub now : loaded ≡ m
-      pub landed : Landed p image (order_place (base_of p g) s.orders.list s.from) g b acts s.before q
+      pub landed : Landed p image (order_place (base_of p g) s.orders s.from) g b acts s.before q
 
     pub modes : (b c m : Bool) (o : Order) (n : ℕ) (os : List Order) → s.done ≡ suc n → drop s.from s.orders.list ≡ o ∷ os → loaded_after o b ≡ Some c → loaded_after o (not b) ≡ None
         → loaded_silently n os c ≡ Some m → Modes b m
@@ -117,7 +117,7 @@ module _ (known : Given) where
         let both : Some loaded ≡ Some m = sym moded ∙ ap (λ x. loaded_then (loaded_after o x) (loaded_silently n os)) before ∙ same in
         record {
           now = cc;
-          landed = subst (λ x. Landed p image (order_place (base_of p g) s.orders.list s.from) g x acts s.before q) before s.landed;
+          landed = subst (λ x. Landed p image (order_place (base_of p g) s.orders s.from) g x acts s.before q) before s.landed;
         }
 
     pub saved : (m : Bool) (n : ℕ) (os : List Order) → s.done ≡ suc n → drop s.from s.orders.list ≡ order.Save ∷ os → loaded_silently n os false ≡ Some m → Modes true m

@@ -118,10 +118,10 @@ enters rows {image} {q} p g next_place value base ax cx dx bx bp si di n overflo
 module _ (known : Given) where
   open known use {rows, p, image, all, coded, few, low}
 
-  module _ {q : Watched} {g place : ℕ} {acts : List OrderActivation} {w : Words} (s : Sound p image g place false acts w q) (a : Alone p image g place false acts w q s.orders.list) where
+  module _ {q : Watched} {g place : ℕ} {acts : List OrderActivation} {w : Words} (s : Sound p image g place false acts w q) (a : Alone p image g place false acts w q s.orders) where
     -- where the code of the order stands
     abbrev here : ℕ
-    here = order_place (base_of p g) s.orders.list place
+    here = order_place (base_of p g) s.orders place
 
     -- the next body, or the end
     ends_body : slice_get s.orders.list place ≡ Some order.NextBody → acts ≡ [] → (u : Option Orders) → slice_get p.units (g + 1) ≡ u → Follow known (at g place false acts w Running) q
@@ -177,8 +177,8 @@ module _ (known : Given) where
         begins {r} goes is b =
             let k = a.landed.kept in
             let first : u.entry ≡ 0 = coded.entries (g + 1) u is in
-            let place_is : base_of p (g + 1) + 11 ≡ order_place (base_of p (g + 1)) u.list 0 = omega arith in
-            let there : base_of p (g + 1) + 11 ≡ order_place (base_of p (g + 1)) u.list u.entry = place_is ∙ ap (order_place (base_of p (g + 1)) u.list) (sym first) in
+            let place_is : base_of p (g + 1) + 11 ≡ order_place (base_of p (g + 1)) u 0 = omega arith in
+            let there : base_of p (g + 1) + 11 ≡ order_place (base_of p (g + 1)) u u.entry = place_is ∙ ap (order_place (base_of p (g + 1)) u) (sym first) in
             let fit = (fits_next known s (at (g + 1) u.entry false [] (with_operands w []) Running) goes).words in (
               record {
                 orders = u;
@@ -199,7 +199,7 @@ module _ (known : Given) where
                 working = tt;
                 comes_back = tt;
                 fits_before = fit;
-                landed = begun_landed p (order_place (base_of p (g + 1)) u.list u.entry) w.memory w.input w.output there (few_next u is) coded.frames k.words k.long k.read k.wrote k.kind b;
+                landed = begun_landed p (order_place (base_of p (g + 1)) u u.entry) w.memory w.input w.output there (few_next u is) coded.frames k.words k.long k.read k.wrote k.kind b;
                 fits = fit;
                 acts_fit = All-nil ActivationFits;
                 never = never_on p (at g place false acts w Running) (at (g + 1) u.entry false [] (with_operands w []) Running) goes s.never;

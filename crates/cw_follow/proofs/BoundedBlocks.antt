@@ -506,7 +506,7 @@ module _ (known : Given) where
         let most = past_most f n.number z.last n.within in
         let inside = z.inside in
         let word = home_word p.addresses g b.family b.first + words_past f n.number in
-        let size : block_size (block.Bounded b) first_order ≡ top_lower_size b.bounds.lower + 10 + formed_size f = bounded_long b in
+        let size : block_size false (block.Bounded b) first_order ≡ top_lower_size b.bounds.lower + 10 + formed_size f = bounded_long b in
         let behind = ends.behind in
         let to : test_at b.bounds + 3 + 2 + 5 + formed_size f ≡ code_end known s = omega arith in
         let value : word ≡ unsigned (pos word) = sym (unsigned_pos word (omega arith)) in

@@ -18,12 +18,12 @@ use Rattle.cw_tmpl.specs.Names.{landing_start, switch_start}
 use Rattle.cw_tmpl.specs.Library.{entry_place}
 use Rattle.cw_routines.specs.Ways.{HasWord}
 use Rattle.cw_routines.specs.Results.{Stands as LibraryStands}
-use Rattle.cw_tmpl.specs.Templates.{block_pieces, entry_pieces, landing_pieces, switch_pieces}
+use Rattle.cw_tmpl.specs.Templates.{entry_pieces, landing_pieces, switch_pieces}
 use Rattle.cw_tmpl.proofs.Growing.{blanks-append}
 use Rattle.cw_tmpl.specs.Blocks.{block_at, left_at}
 use Rattle.cw_tmpl.specs.ReferenceCode.{names_of, pieces_of, switches_place}
 use Rattle.cw_follow.specs.Placing.{Fills, base_of}
-use Rattle.cw_tmpl.proofs.Sizes.{own_place}
+use Rattle.cw_tmpl.proofs.Sizes.{own_place, pieces_by}
 
 -- a piece stands there with its word filled in
 abbrev pub HasPiece : List ℕ → (word place : ℕ) → Coded → Type 0
@@ -58,12 +58,12 @@ stand_both code value at (p ∷ ps) qs h =
     ((h.0, rest.0), subst (λ n. HasPieces code value n qs) there rest.1)
 
 -- where the code of the order at a place of the list begins in the image
-abbrev pub order_place : (base : ℕ) → List Order → (place : ℕ) → ℕ
-order_place base list k = base + own_place list k
+abbrev pub order_place : (base : ℕ) → Orders → (place : ℕ) → ℕ
+order_place base o k = base + own_place o k
 
 -- the code of the block that begins with the order at a place of the list; none where the order stands in one that has begun
 abbrev pub pieces_at : Orders → (place : ℕ) → Order → List Coded
-pieces_at o k order = block_pieces (names_of o) (own_place o.list k) (block_at (left_at 0 o.list k) (drop k o.list)) order
+pieces_at o k order = pieces_by (names_of o) (own_place o k) k (block_at (left_at 0 o.list k) (drop k o.list)) order
 
 -- a segment's code in an image: its filled words, its entry, each order's pieces, the landings of labels and the routines of switches
 pub record Stands (p : OrderProgram) (image : List ℕ) (g : ℕ) (o : Orders) : Type 0 where
@@ -71,7 +71,7 @@ pub record Stands (p : OrderProgram) (image : List ℕ) (g : ℕ) (o : Orders) :
   pub next_place : ℕ
   pub fills : Fills p g next_place value
   pub entry : HasPieces image value (base_of p g) entry_pieces
-  pub orders : (k : ℕ) (order : Order) → slice_get o.list k ≡ Some order → HasPieces image value (order_place (base_of p g) o.list k) (pieces_at o k order)
+  pub orders : (k : ℕ) (order : Order) → slice_get o.list k ≡ Some order → HasPieces image value (order_place (base_of p g) o k) (pieces_at o k order)
   pub landings : (l : ℕ) (m : LabelMark) → slice_get o.labels l ≡ Some m → HasPieces image value (base_of p g + landing_start (names_of o) l) (landing_pieces (names_of o) (landing_start (names_of o) l) m)
   pub landings_within : (l : ℕ) (m : LabelMark) → slice_get o.labels l ≡ Some m → landing_start (names_of o) l + length (blanks (landing_pieces (names_of o) (landing_start (names_of o) l) m)) ≤ length (blanks (pieces_of o))
   pub switches_within : (n : ℕ) (gs : List Goal) → slice_get o.switches n ≡ Some gs → (switches_place o ≤ switch_start (names_of o) n) × (switch_start (names_of o) n + length (blanks (switch_pieces (names_of o) (switch_start (names_of o) n) gs)) ≤ length (blanks (pieces_of o)))

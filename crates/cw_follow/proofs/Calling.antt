@@ -19,10 +19,10 @@ use Rattle.cw_order.specs.OrderMachine.{after, unrefused, leave_for, called, cal
 use Rattle.cw_order.specs.Activations.{ActivationsStand, Beginning, StateStands}
 use Rattle.cw_tmpl.specs.Blocks.{left_at}
 use Rattle.cw_tmpl.specs.Names.{procedure_start}
-use Rattle.cw_tmpl.specs.Templates.{order_size, distance}
-use Rattle.cw_tmpl.specs.ReferenceCode.{mark_starts, names_of}
+use Rattle.cw_tmpl.specs.Templates.{distance, is_short}
+use Rattle.cw_tmpl.specs.ReferenceCode.{mark_starts, names_of, reach_of}
 use Rattle.cw_follow.specs.Placing.{base_of, start_in, procedure_place, definition_place}
-use Rattle.cw_tmpl.proofs.Sizes.{own_place, mark_start, jump_arrives}
+use Rattle.cw_tmpl.proofs.Sizes.{own_place, mark_start, jump_arrives, size_by}
 use Rattle.cw_follow.proofs.Watched.{Watched}
 use Rattle.cw_follow.proofs.Standing.{order_place, HasFrom}
 use Rattle.cw_follow.proofs.Chains.{to_place}
@@ -33,18 +33,19 @@ use Rattle.cw_follow.proofs.Calls.{calls}
 use Rattle.cw_follow.proofs.Leaving.{controls, goes_main}
 use Rattle.cw_follow.proofs.Naming.{taken_dropped, both_true, some_same, mark_listed, procedure_is, start_is, begins_there}
 use Rattle.cw_follow.proofs.Steps.{leads_to, onward, few_segments, step_is, weight_is, fits_next, stands_next, never_next, stuck_here, does, line_fits, start, Alone, code, behind, begins_next, FollowFrom, begins_here, begun_here, landed_here}
+use Rattle.cw_tmpl.specs.declared.blocks.Block.TheVariants as block
 
 module _ (known : Given) where
   open known use {rows, p, image, all, coded, few, low}
 
-  module _ {q : Watched} {g place : ℕ} {loaded : Bool} {acts : List OrderActivation} {w : Words} (s : Sound p image g place loaded acts w q) (by_itself : Alone p image g place loaded acts w q s.orders.list) where
+  module _ {q : Watched} {g place : ℕ} {loaded : Bool} {acts : List OrderActivation} {w : Words} (s : Sound p image g place loaded acts w q) (by_itself : Alone p image g place loaded acts w q s.orders) where
     abbrev S : OrderState
     S = at g place loaded acts w Running
 
     -- before another block, of any segment
     pub sound_in : (g' to : ℕ) (m : Bool) (acts' : List OrderActivation) (v : Words) (r : Watched) (o : Orders) → slice_get p.units g' ≡ Some o → left_at 0 o.list to ≡ 0
         → step p S ≡ at g' to m acts' v Running → ActivationsStand p g' acts' → ComesBack p acts'
-        → Landed p image (order_place (base_of p g') o.list to) g' m acts' v r → Arrived p image g' to m acts' v r
+        → Landed p image (order_place (base_of p g') o to) g' m acts' v r → Arrived p image g' to m acts' v r
     sound_in g' to m acts' v r o unit begins e working comes_back l =
         let t = at g' to m acts' v Running in
         let fit = fits_next known s t e in
@@ -78,7 +79,7 @@ module _ (known : Given) where
 
     -- words are put, with room
     pub puts_with : {first : Watched} (o : Order) (m : Bool) (v : Words) (limit : ℕ) → slice_get s.orders.list place ≡ Some o → step p S ≡ after p.room 0 (Changed v) g place m acts w → limit ≤ weight p S
-        → (stack_words v.operands acts ≤ 32000 → Leading w.output limit first (Landed p image (order_place (base_of p g) s.orders.list (place + 1)) g m acts v)) → FollowFrom known first S q
+        → (stack_words v.operands acts ≤ 32000 → Leading w.output limit first (Landed p image (order_place (base_of p g) s.orders (place + 1)) g m acts v)) → FollowFrom known first S q
     puts_with o m v limit e is paid d =
         let on = went_on p g place loaded m 0 acts w v is s.never in
         let most = coded.room in
@@ -86,13 +87,13 @@ module _ (known : Given) where
         does known s m 0 (Changed v) limit (begins_next known s by_itself o e) is paid (d (omega arith))
 
     -- the place behind the code of an order
-    pub back_is : (c : OrderActivation) (n : ℕ) (o : Order) → slice_get s.orders.list place ≡ Some o → order_size o ≡ n → c.segment ≡ g → c.place ≡ place + 1
-        → (order_place (base_of p g) s.orders.list place + n) % 65536 ≡ code_place p c.segment c.place
+    pub back_is : (c : OrderActivation) (n : ℕ) (o : Order) → slice_get s.orders.list place ≡ Some o → size_by (is_short (reach_of s.orders)) place block.Single o ≡ n → c.segment ≡ g → c.place ≡ place + 1
+        → (order_place (base_of p g) s.orders place + n) % 65536 ≡ code_place p c.segment c.place
     back_is c n o e size eg ep =
         let next = behind known s by_itself o e in
-        let there : code_place p g (place + 1) ≡ order_place (base_of p g) s.orders.list (place + 1) % 65536 = start_is known g s.orders (λ u. own_place u.list (place + 1)) s.unit in
+        let there : code_place p g (place + 1) ≡ order_place (base_of p g) s.orders (place + 1) % 65536 = start_is known g s.orders (λ u. own_place u (place + 1)) s.unit in
         let same : code_place p c.segment c.place ≡ code_place p g (place + 1) = ap (λ m. code_place p m c.place) eg ∙ ap (code_place p g) ep in
-        let sum : (order_place (base_of p g) s.orders.list place + n) % 65536 ≡ order_place (base_of p g) s.orders.list (place + 1) % 65536 = omega arith in
+        let sum : (order_place (base_of p g) s.orders place + n) % 65536 ≡ order_place (base_of p g) s.orders (place + 1) % 65536 = omega arith in
         sum ∙ sym there ∙ sym same
 
     -- the activation at work owns what is named
@@ -102,7 +103,7 @@ module _ (known : Given) where
     -- where a label's mark is, without the last activations
     pub left_for : {first : Watched} (to m n : ℕ) (limit : ℕ) → step p S ≡ leave_for (place_of p to m) to n g place false acts w → limit ≤ weight p S
         → ((k : ℕ) (o : Orders) → slice_get p.units to ≡ Some o → place_of p to m ≡ Some k → k ≤ length o.list
-        → Leading w.output limit first (Landed p image (order_place (base_of p to) o.list k) to false (drop n acts) (with_operands w []))) → FollowFrom known first S q
+        → Leading w.output limit first (Landed p image (order_place (base_of p to) o k) to false (drop n acts) (with_operands w []))) → FollowFrom known first S q
     left_for {first} to m n limit e paid d = cases (place_of p to m) refl
       where
         cases : (k : Option ℕ) → place_of p to m ≡ k → FollowFrom known first S q
@@ -117,12 +118,12 @@ module _ (known : Given) where
 
   -- ---- all operands on the stack
 
-  module _ {q : Watched} {g place : ℕ} {acts : List OrderActivation} {w : Words} (s : Sound p image g place false acts w q) (by_itself : Alone p image g place false acts w q s.orders.list) where
+  module _ {q : Watched} {g place : ℕ} {acts : List OrderActivation} {w : Words} (s : Sound p image g place false acts w q) (by_itself : Alone p image g place false acts w q s.orders) where
     abbrev F : OrderState
     F = at g place false acts w Running
 
     abbrev here : ℕ
-    here = order_place (base_of p g) s.orders.list place
+    here = order_place (base_of p g) s.orders place
 
     -- ---- calls
 
@@ -157,8 +158,8 @@ module _ (known : Given) where
                 let fits = leb-true (stack_words [] (c x ∷ acts)) p.room (both_true (nat_le x.arguments (length w.operands)) (nat_le (stack_words [] (c x ∷ acts)) p.room) eb).1 in
                 let most = coded.room in
                 let room : stack_words [] (c x ∷ acts) ≤ 32000 = omega arith in
-                let start_there : procedure_start (names_of u.orders) n ≡ own_place u.orders.list k = procedure_is known to n k u.orders x u.unit is ek u.within in
-                let there : procedure_place p to n ≡ order_place (base_of p to) u.orders.list k % 65536 =
+                let start_there : procedure_start (names_of u.orders) n ≡ own_place u.orders k = procedure_is known to n k u.orders x u.unit is ek u.within in
+                let there : procedure_place p to n ≡ order_place (base_of p to) u.orders k % 65536 =
                 start_is known to u.orders (λ o. procedure_start (names_of o) n) u.unit ∙ ap (λ m. (base_of p to + m) % 65536) start_there in
                 leads_to known g place false acts w t limit goes paid
                 (onward known (λ r l. inr (record {
@@ -199,13 +200,13 @@ module _ (known : Given) where
         entry None is = absurd (stuck_here known s (e ∙ ap (λ y. call_entry p line y to g place false acts w) is))
         entry (Some x) is = at_place x is (test x) (place_of p to x.mark) refl refl
 
-    pub landed_as : (c : OrderActivation) → c.segment ≡ g → LandedAt (begins_here known s) p image (order_place (base_of p g) s.orders.list place) c.segment false acts w (begun_here known s)
+    pub landed_as : (c : OrderActivation) → c.segment ≡ g → LandedAt (begins_here known s) p image (order_place (base_of p g) s.orders place) c.segment false acts w (begun_here known s)
     landed_as c eg = subst (λ m. LandedAt (begins_here known s) p image here m false acts w (begun_here known s)) (sym eg) (landed_here known s by_itself)
 
     pub calls_own : (n line : ℕ) → slice_get s.orders.list place ≡ Some (order.CallProc n line) → FollowFrom known (begun_here known s) F q
     calls_own n line e =
         let o = order.CallProc n line in
-        let own = own_place s.orders.list place in
+        let own = own_place s.orders place in
         let by = distance (own + 6) (procedure_start (names_of s.orders) n) in
         let there : procedure_place p g n ≡ (base_of p g + procedure_start (names_of s.orders) n) % 65536 = start_is known g s.orders (λ o. procedure_start (names_of o) n) s.unit in
         let meets = jump_arrives (base_of p g) own 6 (procedure_start (names_of s.orders) n) in
@@ -235,7 +236,7 @@ module _ (known : Given) where
     -- ---- control arguments
 
     pub holds_control : {first : Watched} (o : Order) → slice_get s.orders.list place ≡ Some o → (c : Control) (limit : ℕ) → step p F ≡ after p.room 0 (held (Some c) w) g place false acts w → limit ≤ weight p F
-        → (stack_words (Held c ∷ w.operands) acts ≤ 32000 → Leading w.output limit first (Landed p image (order_place (base_of p g) s.orders.list (place + 1)) g false acts (with_operands w (Held c ∷ w.operands)))) → FollowFrom known first F q
+        → (stack_words (Held c ∷ w.operands) acts ≤ 32000 → Leading w.output limit first (Landed p image (order_place (base_of p g) s.orders (place + 1)) g false acts (with_operands w (Held c ∷ w.operands)))) → FollowFrom known first F q
     holds_control o here_is c limit e paid d = puts_with s by_itself o false (with_operands w (Held c ∷ w.operands)) limit here_is e paid d
 
     -- a place in the code of the segment
@@ -246,29 +247,29 @@ module _ (known : Given) where
         filled ∙ sum ∙ sym (start_is known g s.orders f s.unit)
 
     pub controls_own : (c : Control) (o : Order) (f : Orders → ℕ) → slice_get s.orders.list place ≡ Some o
-        → carry_out p (Some o) g place false acts w ≡ after p.room 0 (held (Some c) w) g place false acts w → 3 ≤ weight_of o → order_size o ≡ 5
+        → carry_out p (Some o) g place false acts w ≡ after p.room 0 (held (Some c) w) g place false acts w → 3 ≤ weight_of o → size_by (is_short (reach_of s.orders)) place block.Single o ≡ 5
         → start_in p g (slice_get p.units g) f ≡ control_place p c → OwnerIs p acts c (record_of acts)
-        → HasFrom (begins_here known s) image (order_place (base_of p g) s.orders.list place)
-        (i86.Push 5 ∷ i86.MovImm 0 (imm.Word ((all.stands g s.orders s.unit).value 3 0 (f s.orders % 65536) (order_place (base_of p g) s.orders.list place + 1 + 3))) ∷ i86.Push 0 ∷ []) → FollowFrom known (begun_here known s) F q
+        → HasFrom (begins_here known s) image (order_place (base_of p g) s.orders place)
+        (i86.Push 5 ∷ i86.MovImm 0 (imm.Word ((all.stands g s.orders s.unit).value 3 0 (f s.orders % 65536) (order_place (base_of p g) s.orders place + 1 + 3))) ∷ i86.Push 0 ∷ []) → FollowFrom known (begun_here known s) F q
     controls_own c o f e acts_as cheap size there owner i =
         let paid = weight_is known s o e in
         let next = behind known s by_itself o e in
-        let end : here + 5 ≡ order_place (base_of p g) s.orders.list (place + 1) = omega arith in
+        let end : here + 5 ≡ order_place (base_of p g) s.orders (place + 1) = omega arith in
         holds_control o e c 3 (step_is known s (Some o) e ∙ acts_as) (let x : 3 ≤ weight p F = omega arith in x) (λ room.
-        controls rows p image g (order_place (base_of p g) s.orders.list (place + 1)) ((all.stands g s.orders s.unit).value 3 0 (f s.orders % 65536) (here + 1 + 3)) acts c w room end (own_filled f (here + 1 + 3) ∙ there) owner i (landed_here known s by_itself))
+        controls rows p image g (order_place (base_of p g) s.orders (place + 1)) ((all.stands g s.orders s.unit).value 3 0 (f s.orders % 65536) (here + 1 + 3)) acts c w room end (own_filled f (here + 1 + 3) ∙ there) owner i (landed_here known s by_itself))
 
     controls_common : (c : Control) (o : Order) (d : ℕ) → slice_get s.orders.list place ≡ Some o → carry_out p (Some o) g place false acts w ≡ after p.room 0 (held (Some c) w) g place false acts w
-        → 3 ≤ weight_of o → order_size o ≡ 5
+        → 3 ≤ weight_of o → size_by (is_short (reach_of s.orders)) place block.Single o ≡ 5
         → definition_place p (defined_at p g d) ≡ control_place p c → OwnerIs p acts c (record_of acts)
-        → HasFrom (begins_here known s) image (order_place (base_of p g) s.orders.list place)
-        (i86.Push 5 ∷ i86.MovImm 0 (imm.Word ((all.stands g s.orders s.unit).value 4 d 0 (order_place (base_of p g) s.orders.list place + 1 + 3))) ∷ i86.Push 0 ∷ []) → FollowFrom known (begun_here known s) F q
+        → HasFrom (begins_here known s) image (order_place (base_of p g) s.orders place)
+        (i86.Push 5 ∷ i86.MovImm 0 (imm.Word ((all.stands g s.orders s.unit).value 4 d 0 (order_place (base_of p g) s.orders place + 1 + 3))) ∷ i86.Push 0 ∷ []) → FollowFrom known (begun_here known s) F q
     controls_common c o d e acts_as cheap size there owner i =
         let paid = weight_is known s o e in
         let next = behind known s by_itself o e in
-        let end : here + 5 ≡ order_place (base_of p g) s.orders.list (place + 1) = omega arith in
+        let end : here + 5 ≡ order_place (base_of p g) s.orders (place + 1) = omega arith in
         let filled = (all.stands g s.orders s.unit).fills.definitions d (here + 1 + 3) in
         holds_control o e c 3 (step_is known s (Some o) e ∙ acts_as) (let x : 3 ≤ weight p F = omega arith in x) (λ room.
-        controls rows p image g (order_place (base_of p g) s.orders.list (place + 1)) ((all.stands g s.orders s.unit).value 4 d 0 (here + 1 + 3)) acts c w room end (filled ∙ there) owner i (landed_here known s by_itself))
+        controls rows p image g (order_place (base_of p g) s.orders (place + 1)) ((all.stands g s.orders s.unit).value 4 d 0 (here + 1 + 3)) acts c w room end (filled ∙ there) owner i (landed_here known s by_itself))
 
     -- what is not defined, or of another sort
     pub labels_common : (d : ℕ) → slice_get s.orders.list place ≡ Some (order.LabelCommon d) → (x : Option (ℕ × Def)) → defined_at p g d ≡ x → FollowFrom known (begun_here known s) F q
@@ -317,7 +318,7 @@ module _ (known : Given) where
 
     pub goes_to_main : (m : ℕ) → slice_get s.orders.list place ≡ Some (order.GoMain m) → FollowFrom known (begun_here known s) F q
     goes_to_main m e =
-        let own = own_place s.orders.list place in
+        let own = own_place s.orders place in
         let by = distance (own + 15) (mark_starts s.orders m) in
         let segment = (all.stands g s.orders s.unit).value 8 3 0 (here + 3 + 3 + 3) in
         let filled = (all.stands g s.orders s.unit).fills.number (here + 3 + 3 + 3) in
@@ -326,7 +327,7 @@ module _ (known : Given) where
         left_for s by_itself g m (length acts) 16 (step_is known s (Some (order.GoMain m)) e) (weight_is known s (order.GoMain m) e) (λ k o unit there within.
         let same : o ≡ s.orders = some_same (sym unit ∙ s.unit) in
         let within' : k ≤ length s.orders.list = subst (λ x. k ≤ length x.list) same within in
-        let at_mark : start known s m ≡ order_place (base_of p g) s.orders.list k = ap (λ n. base_of p g + n) (mark_start s.orders m k (mark_listed known g m k s.orders s.unit there) within') in
-        subst (λ x. Leading w.output 16 (begun_here known s) (Landed p image (order_place (base_of p g) x.list k) g false (drop (length acts) acts) (with_operands w []))) (sym same)
+        let at_mark : start known s m ≡ order_place (base_of p g) s.orders k = ap (λ n. base_of p g + n) (mark_start s.orders m k (mark_listed known g m k s.orders s.unit there) within') in
+        subst (λ x. Leading w.output 16 (begun_here known s) (Landed p image (order_place (base_of p g) x k) g false (drop (length acts) acts) (with_operands w []))) (sym same)
         (subst (λ a. Leading w.output 16 (begun_here known s) (Landed p image a g false (drop (length acts) acts) (with_operands w []))) at_mark
         (goes_main rows p image g (start known s m) by segment acts w is_number few_here (jump_arrives (base_of p g) own 15 (mark_starts s.orders m)) (code known s by_itself (order.GoMain m) e) (landed_here known s by_itself))))

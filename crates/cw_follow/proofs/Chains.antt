@@ -189,6 +189,14 @@ module _ (rows : Rows) where
       let here = has i (omega arith) h s in
       went i here s (subst (λ n. Sees image.bytes (with_place n v) (processor_step p.processor)) e (rows.near image.bytes (placed at v) by here.there p.processor s.sees))
 
+  pub short : {image : Image} {at : ℕ} {v : View} {p : Watched} {first : Bool} (by : ℕ) → HasAt first image at (i86.JumpShort by) → IsAt first image at v p → Is image (at + 2 + sign_extended by) v (watched_step p)
+  short {image} {at} {v} {p} by h s =
+      let i = i86.JumpShort by in
+      let x = sign_extended by in
+      let e : (at % 65536 + 2 + x) % 65536 ≡ (at + 2 + x) % 65536 = omega arith in
+      let here = has i (omega arith) h s in
+      went i here s (subst (λ n. Sees image.bytes (with_place n v) (processor_step p.processor)) e (rows.short image.bytes (placed at v) by here.there p.processor s.sees))
+
   pub no_overflow : {image : Image} {at : ℕ} {v : View} {p : Watched} {first : Bool} (by : ℕ) → v.overflow ≡ false → HasAt first image at (i86.JumpIf 1 by) → IsAt first image at v p → Is image (at + 2 + sign_extended by) v (watched_step p)
   no_overflow {image} {at} {v} {p} by off h s =
       let i = i86.JumpIf 1 by in

@@ -36,21 +36,21 @@ use Rattle.cw_tmpl.specs.declared.blocks.Block.TheVariants as block
 use Rattle.cw_tmpl.specs.Pieces.{blanks}
 use Rattle.cw_tmpl.specs.Blocks.{address_orders, block_at, orders_left, left_at}
 use Rattle.cw_tmpl.specs.Names.{label_start, procedure_start, switch_start}
-use Rattle.cw_tmpl.specs.Templates.{distance}
-use Rattle.cw_tmpl.specs.ReferenceCode.{mark_starts, names_of, order_places}
+use Rattle.cw_tmpl.specs.Templates.{distance, is_short, template_by, is_close, short_distance, block_size}
+use Rattle.cw_tmpl.specs.ReferenceCode.{mark_starts, names_of, order_places, reach_of}
 use Rattle.cw_tmpl.proofs.Sizes.{size_everywhere, own_place, jump_arrives}
 use Rattle.cw_follow.specs.Passing.{at_work, passes, size_at, NotBehindStart}
 use Rattle.cw_follow.specs.Placing.{StandsBehind, base_of}
 use Rattle.cw_follow.specs.Showing.{shown_as}
 use Rattle.cw_follow.proofs.Watched.{Watched, watched_machine, over, fresh, unwatched, still_fresh, fresh_behind}
 use Rattle.cw_follow.proofs.Passed.{listed_place, notes_one}
-use Rattle.cw_follow.proofs.Standing.{may_begin, first_of, is_start, behind_start, pieces_at, order_place}
+use Rattle.cw_follow.proofs.Standing.{may_begin, first_of, is_start, behind_start, pieces_at, order_place, HasPiecesFrom, HasPieces}
 use Rattle.cw_follow.proofs.Chains.{Leads, at_work as works, shows}
-use Rattle.cw_follow.proofs.Orders.{Landed, jumps, chooses}
+use Rattle.cw_follow.proofs.Orders.{Landed, jumps, chooses, short_jumps}
 use Rattle.cw_tmpl.proofs.Shapes.{IsBlock, front_is, shape}
 use Rattle.cw_follow.proofs.InBlocks.{begins_at, left_split, slice_drop}
 use Rattle.cw_follow.proofs.States.{Given, Sound, Starting, LastStarts, length_in, left}
-use Rattle.cw_follow.proofs.Steps.{FollowFrom, Follow, waits, passes_on, moves, Arrives, is_codeless, order_is, step_is, weight_is, stuck_here, wrong_way, sound_at, start, chosen, Alone, alone, code, behind, begins_next, begins_here, begins_block, begun_block, landed_here, silent, two_roomy}
+use Rattle.cw_follow.proofs.Steps.{FollowFrom, Follow, waits, passes_on, moves, Arrives, is_codeless, order_is, step_is, weight_is, stuck_here, wrong_way, sound_at, start, chosen, Alone, alone, code, behind, begins_next, begins_here, begins_block, begun_block, landed_here, silent, two_roomy, reaches_alone, short_alone}
 use Rattle.cw_follow.proofs.Bodies.{ends_or_not}
 use Rattle.cw_follow.proofs.Beginning.{begins_activation}
 use Rattle.cw_follow.proofs.Loops.{set_follows, step_follows, put_follows, limit_follows, loop_follows, turn_follows}
@@ -72,6 +72,8 @@ use Rattle.cw_follow.proofs.Owed.{block_goes}
 use Rattle.cw_follow.proofs.Routines.{Over}
 use Rattle.cw_follow.proofs.StatementPlaces.{statement_here}
 use Rattle.cw_follow.proofs.Strong.{may_of, pieces_below}
+use Rattle.cw_tmpl.proofs.Reaching.{short_arrives}
+use Rattle.cw_order.specs.declared.order.Comparator.{Comparator}
 
 -- ---- notes
 
@@ -156,11 +158,11 @@ inside_left list k n begins lt = subst (λ m. 0 < m) (sym (left_split 0 list k (
     cases (o ∷ os) lt = left_within (orders_left (block_at 0 (o ∷ os))) n os lt
 
 -- code stands below 65,536
-code_short : (known : Given) (o : Orders) (g k : ℕ) (a : Order) → slice_get known.p.units g ≡ Some o → slice_get o.list k ≡ Some a → 0 < size_at o.list k a → length known.image.bytes ≤ 65536 → order_place (base_of known.p g) o.list k < 65536
+code_short : (known : Given) (o : Orders) (g k : ℕ) (a : Order) → slice_get known.p.units g ≡ Some o → slice_get o.list k ≡ Some a → 0 < size_at o k a → length known.image.bytes ≤ 65536 → order_place (base_of known.p g) o k < 65536
 code_short known o g k a unit e some fits =
     let st = known.all.stands g o unit in
-    let long = size_everywhere (names_of o) (own_place o.list k) (block_at (left_at 0 o.list k) (drop k o.list)) a in
-    let below = pieces_below _ known.image st.value (order_place (base_of known.p g) o.list k) (pieces_at o k a) (let l : 0 < length (blanks (pieces_at o k a)) = omega arith in l) (st.orders k a e) in
+    let long = size_everywhere (names_of o) (own_place o k) (is_short (reach_of o) k (block_at (left_at 0 o.list k) (drop k o.list)) a) (block_at (left_at 0 o.list k) (drop k o.list)) a in
+    let below = pieces_below _ known.image st.value (order_place (base_of known.p g) o k) (pieces_at o k a) (let l : 0 < length (blanks (pieces_at o k a)) = omega arith in l) (st.orders k a e) in
     omega arith
 
 module _ (known : Given) where
@@ -190,13 +192,59 @@ module _ (known : Given) where
   Owing es s q = FollowedOwing (order_machine p) (processor_machine shown_as) (starts p) (passes image.places p.limits.area) MatchesOwing (left p) es s q
 
   module _ {q : Processor} {g place : ℕ} {acts : List OrderActivation} {w : Words} where
+    -- jumps to a mark, near and short
+    jump_by : (loaded : Bool) (s : Sound p image g place loaded acts w (watch q)) (a : Alone p image g place loaded acts w (watch q) s.orders) (m : ℕ) → slice_get s.orders.list place ≡ Some (order.Jump m)
+        → (short : Bool) → (short ≡ true → is_close (own_place s.orders place + 2) (mark_starts s.orders m) ≡ true)
+        → HasPiecesFrom (first_of (order.Jump m) (behind_start s.orders.list place)) image (all.stands g s.orders s.unit).value (order_place (base_of p g) s.orders place) (template_by short (names_of s.orders) (own_place s.orders place) (order.Jump m))
+        → FollowFrom known (over (first_of (order.Jump m) (begins_here known s)) (watch q)) (at g place loaded acts w Running) (watch q)
+    jump_by loaded s a m e short close i = cases short close i
+      where
+        own : ℕ
+        own = own_place s.orders place
+
+        to : ℕ
+        to = mark_starts s.orders m
+
+        cases : (short : Bool) → (short ≡ true → is_close (own + 2) to ≡ true)
+            → HasPiecesFrom (first_of (order.Jump m) (behind_start s.orders.list place)) image (all.stands g s.orders s.unit).value (order_place (base_of p g) s.orders place) (template_by short (names_of s.orders) own (order.Jump m))
+            → FollowFrom known (over (first_of (order.Jump m) (begins_here known s)) (watch q)) (at g place loaded acts w Running) (watch q)
+        cases true close i =
+            chosen known s loaded 0 (ToMark m w) 1 (begins_next known s a (order.Jump m) e) s.room (step_is known s (Some (order.Jump m)) e) (weight_is known s (order.Jump m) e)
+            (short_jumps rows p image g acts (start known s m) (short_distance (own + 2) to) loaded w (short_arrives (base_of p g) own 2 to (close refl)) i.0 (landed_here known s a))
+        cases false close i =
+            chosen known s loaded 0 (ToMark m w) 1 (begins_next known s a (order.Jump m) e) s.room (step_is known s (Some (order.Jump m)) e) (weight_is known s (order.Jump m) e)
+            (jumps rows p image g acts (start known s m) (distance (own + 3) to) loaded w (jump_arrives (base_of p g) own 3 to) i.0 (landed_here known s a))
+
+    jump_if_by : (s : Sound p image g place true acts w (watch q)) (a : Alone p image g place true acts w (watch q) s.orders) (c : Comparator) (m : ℕ) → slice_get s.orders.list place ≡ Some (order.JumpIf c m)
+        → (short : Bool) → (short ≡ true → is_close (own_place s.orders place + 5) (mark_starts s.orders m) ≡ true)
+        → order_place (base_of p g) s.orders place + block_size short block.Single (order.JumpIf c m) ≡ order_place (base_of p g) s.orders (place + 1)
+        → HasPieces image (all.stands g s.orders s.unit).value (order_place (base_of p g) s.orders place) (template_by short (names_of s.orders) (own_place s.orders place) (order.JumpIf c m))
+        → FollowFrom known (over (first_of (order.JumpIf c m) (begins_here known s)) (watch q)) (at g place true acts w Running) (watch q)
+    jump_if_by s a c m e short close ends i = cases short close ends i
+      where
+        own : ℕ
+        own = own_place s.orders place
+
+        to : ℕ
+        to = mark_starts s.orders m
+
+        cases : (short : Bool) → (short ≡ true → is_close (own + 5) to ≡ true) → order_place (base_of p g) s.orders place + block_size short block.Single (order.JumpIf c m) ≡ order_place (base_of p g) s.orders (place + 1)
+            → HasPieces image (all.stands g s.orders s.unit).value (order_place (base_of p g) s.orders place) (template_by short (names_of s.orders) own (order.JumpIf c m)) → FollowFrom known (over (first_of (order.JumpIf c m) (begins_here known s)) (watch q)) (at g place true acts w Running) (watch q)
+        cases true close ends i =
+            let paid : 4 ≤ weight p (at g place true acts w Running) = let x = weight_is known s (order.JumpIf c m) e in omega arith in
+            chosen known s false 0 (way_of_two (λ x y v. to_mark_if (holds (comparison c) x y) m v) w) 4 (begins_next known s a (order.JumpIf c m) e) (two_roomy acts p.room m c w.operands w s.room) (step_is known s (Some (order.JumpIf c m)) e) paid
+            (chooses rows p image g acts true (order_place (base_of p g) s.orders (place + 1)) (short_distance (own + 5) to) (start known s) c m w.operands w.memory w.input w.output ends
+            (short_arrives (base_of p g) own 5 to (close refl)) s.fits.operands i a.landed)
+        cases false close ends i =
+            let paid : 4 ≤ weight p (at g place true acts w Running) = let x = weight_is known s (order.JumpIf c m) e in omega arith in
+            chosen known s false 0 (way_of_two (λ x y v. to_mark_if (holds (comparison c) x y) m v) w) 4 (begins_next known s a (order.JumpIf c m) e) (two_roomy acts p.room m c w.operands w s.room) (step_is known s (Some (order.JumpIf c m)) e) paid
+            (chooses rows p image g acts false (order_place (base_of p g) s.orders (place + 1)) (distance (own + 8) to) (start known s) c m w.operands w.memory w.input w.output ends
+            (jump_arrives (base_of p g) own 8 to) s.fits.operands i a.landed)
+
     -- an order, where the accumulator is as it wants it; where it is the other way the orders would be stuck
-    follow_order : (loaded : Bool) (s : Sound p image g place loaded acts w (watch q)) (a : Alone p image g place loaded acts w (watch q) s.orders.list) (o : Order) → slice_get s.orders.list place ≡ Some o → FollowFrom known (over (first_of o (begins_here known s)) (watch q)) (at g place loaded acts w Running) (watch q)
+    follow_order : (loaded : Bool) (s : Sound p image g place loaded acts w (watch q)) (a : Alone p image g place loaded acts w (watch q) s.orders) (o : Order) → slice_get s.orders.list place ≡ Some o → FollowFrom known (over (first_of o (begins_here known s)) (watch q)) (at g place loaded acts w Running) (watch q)
     follow_order loaded s a order.Mark e = silent known s a order.Mark loaded w e (step_is known s (Some order.Mark) e) s.room refl refl (λ at l. l)
-    follow_order loaded s a (order.Jump m) e =
-        let own = own_place s.orders.list place in
-        chosen known s loaded 0 (ToMark m w) 1 (begins_next known s a (order.Jump m) e) s.room (step_is known s (Some (order.Jump m)) e) (weight_is known s (order.Jump m) e)
-        (jumps rows p image g acts (start known s m) (distance (own + 3) (mark_starts s.orders m)) loaded w (jump_arrives (base_of p g) own 3 (mark_starts s.orders m)) (code known s a (order.Jump m) e).0 (landed_here known s a))
+    follow_order loaded s a (order.Jump m) e = jump_by loaded s a m e (short_alone known s a (order.Jump m)) (reaches_alone known s a (order.Jump m) m e refl) (code known s a (order.Jump m) e)
     follow_order loaded s a (order.Start n) e = silent known s a (order.Start n) loaded w e (step_is known s (Some (order.Start n)) e) s.room refl refl (λ at l. l)
     follow_order true s a (order.Return n true) e = come_back known acts s a n e
     follow_order false s a (order.Return n true) e = absurd (wrong_way known s (order.Return n true) e refl)
@@ -259,11 +307,7 @@ module _ (known : Given) where
     follow_order false s a order.WriteByte e = write_follows known s a e
     follow_order true s a order.WriteByte e = absurd (wrong_way known s order.WriteByte e refl)
     follow_order true s a (order.JumpIf c m) e =
-        let own = own_place s.orders.list place in
-        let paid : 4 ≤ weight p (at g place true acts w Running) = let x = weight_is known s (order.JumpIf c m) e in omega arith in
-        chosen known s false 0 (way_of_two (λ x y v. to_mark_if (holds (comparison c) x y) m v) w) 4 (begins_next known s a (order.JumpIf c m) e) (two_roomy acts p.room m c w.operands w s.room) (step_is known s (Some (order.JumpIf c m)) e) paid
-        (chooses rows p image g acts (order_place (base_of p g) s.orders.list (place + 1)) (distance (own + 8) (mark_starts s.orders m)) (start known s) c m w.operands w.memory w.input w.output (behind known s a (order.JumpIf c m) e)
-        (jump_arrives (base_of p g) own 8 (mark_starts s.orders m)) s.fits.operands (code known s a (order.JumpIf c m) e) a.landed)
+        jump_if_by s a c m e (short_alone known s a (order.JumpIf c m)) (reaches_alone known s a (order.JumpIf c m) m e refl) (behind known s a (order.JumpIf c m) e) (code known s a (order.JumpIf c m) e)
     follow_order false s a (order.JumpIf c m) e = absurd (wrong_way known s (order.JumpIf c m) e refl)
     follow_order true s a (order.Exhausted m) e = limit_follows known s a m e
     follow_order false s a (order.Exhausted m) e = absurd (wrong_way known s (order.Exhausted m) e refl)
@@ -398,12 +442,12 @@ module _ (known : Given) where
   none_noted q none = ap (λ ls. at_work q.end (map (λ x. (x.0, x.1, data_words 0 p.limits.area q.state)) ls)) none ∙ resting q.end
 
   module _ {q : Processor} {g place : ℕ} {loaded : Bool} {acts : List OrderActivation} {w : Words} (m : Sound p image g place loaded acts w (watch q)) where
-    at_from : (x : Order) → slice_get m.orders.list m.from ≡ Some x → 0 < size_at m.orders.list m.from x → (ls : List (ℕ × ℕ)) → lines_at image.places (base_of p g + slice_index (order_places m.orders.list) m.from) ≡ ls
+    at_from : (x : Order) → slice_get m.orders.list m.from ≡ Some x → 0 < size_at m.orders m.from x → (ls : List (ℕ × ℕ)) → lines_at image.places (base_of p g + slice_index (order_places m.orders) m.from) ≡ ls
         → lines_at image.places q.state.instruction_pointer ≡ ls
     at_from x e some ls is =
         let short = code_short known m.orders g m.from x m.unit e some m.landed.stacked.is.sees.fits in
-        let whole : order_place (base_of p g) m.orders.list m.from % 65536 ≡ order_place (base_of p g) m.orders.list m.from = omega arith in
-        ap (lines_at image.places) (m.landed.stacked.is.sees.place ∙ whole ∙ sym (listed_place (base_of p g) m.orders.list m.from x e)) ∙ is
+        let whole : order_place (base_of p g) m.orders m.from % 65536 ≡ order_place (base_of p g) m.orders m.from = omega arith in
+        ap (lines_at image.places) (m.landed.stacked.is.sees.place ∙ whole ∙ sym (listed_place (base_of p g) m.orders m.from x e)) ∙ is
 
     -- where it has come to a block that does not stand behind a Start, nothing is
     owes_nothing : m.done ≡ 0 → NotBehind p g place → [] ≡ owed_by (slice_get m.orders.list m.from) q
@@ -422,7 +466,7 @@ module _ (known : Given) where
             may : (b : Bool) → may_begin o ≡ b → [] ≡ (if b then notes q else [])
             may false is = refl
             may true is =
-                let some = statement_here m.orders.list m.from o e m.begins (begins_statement o is) in
+                let some = statement_here m.orders m.from o e m.begins (begins_statement o is) in
                 sym (none_noted q (at_from o e some [] (places_stand.others g m.from m.orders o m.unit e some not_behind)))
 
   arrives_owing : (t : OrderState) (q : Processor) → Arrives known t (watch q) → Free p t → MatchesOwing [] t q
@@ -506,21 +550,21 @@ module _ (known : Given) where
         let a = alone known m is in
         let goes : step p (at g place loaded acts w Running) ≡ at g (place + 1) loaded acts w Running = step_is known m (Some o) e in
         let size = behind known m a o e in
-        let to : order_place (base_of p g) list place ≡ order_place (base_of p g) list (place + 1) = omega arith in
-        let landed : Landed p image (order_place (base_of p g) list (place + 1)) g loaded acts w (watch q) = subst (λ k. Landed p image k g loaded acts w (watch q)) to a.landed in
+        let to : order_place (base_of p g) m.orders place ≡ order_place (base_of p g) m.orders (place + 1) = omega arith in
+        let landed : Landed p image (order_place (base_of p g) m.orders (place + 1)) g loaded acts w (watch q) = subst (λ k. Landed p image k g loaded acts w (watch q)) to a.landed in
         let there = sound_at known m (place + 1) loaded w (watch q) (begins_next known m a o e) m.room goes landed in
         let nothing : owed_by (slice_get list m.from) q ≡ [] = ap (λ k. owed_by (slice_get list k) q) from ∙ ap (λ y. owed_by y q) e in
         let b = coded.begins g place n (order_is known m (Some o) e) in
         let listed : slice_get list (place + 1) ≡ Some b.0 = sym (ap (λ u. order_in u (place + 1)) m.unit) ∙ b.1 in
         let may = may_of b.0 b.2 in
-        let some = statement_here list (place + 1) b.0 listed (begins_next known m a o e) b.2 in
+        let some = statement_here m.orders (place + 1) b.0 listed (begins_next known m a o e) b.2 in
         let same : m.orders ≡ there.0.orders = some_same (sym m.unit ∙ there.0.unit) in
         let placed = there.0.place_is in
         let zero = there.1 in
         let from_there : place + 1 ≡ there.0.from = omega arith in
         let next : suc place ≡ place + 1 = omega arith in
-        let begun : lines_at image.places (order_place (base_of p g) list (place + 1)) ≡ (g + 1, n) ∷ [] =
-        ap (lines_at image.places) (sym (listed_place (base_of p g) list (place + 1) b.0 listed)) ∙ ap (λ k. lines_at image.places (base_of p g + slice_index (order_places list) k)) (sym next) ∙ places_stand.starts g place n m.orders m.unit e in
+        let begun : lines_at image.places (order_place (base_of p g) m.orders (place + 1)) ≡ (g + 1, n) ∷ [] =
+        ap (lines_at image.places) (sym (listed_place (base_of p g) m.orders (place + 1) b.0 listed)) ∙ ap (λ k. lines_at image.places (base_of p g + slice_index (order_places m.orders) k)) (sym next) ∙ places_stand.starts g place n m.orders m.unit e in
         let short = code_short known m.orders g (place + 1) b.0 m.unit listed some m.landed.stacked.is.sees.fits in
         let noted_there : passes image.places p.limits.area q ≡ (g + 1, n, w.memory) ∷ [] = notes_one rows.words p (g + 1) n short low refl begun m.fits.memory landed in
         let note : starts p (at g place loaded acts w Running) ≡ owed_by (slice_get there.0.orders.list there.0.from) q =

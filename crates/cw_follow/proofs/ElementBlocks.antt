@@ -32,10 +32,10 @@ use Rattle.cw_tmpl.specs.declared.blocks.Block.TheVariants as block
 use Rattle.cw_tmpl.specs.Blocks.{element_orders, operand_orders, order_of, block_at, orders_left, left_at}
 use Rattle.cw_tmpl.specs.Library.{overflow_entry}
 use Rattle.cw_tmpl.specs.Mnemonics.{at_si, load, store, multiply}
-use Rattle.cw_tmpl.specs.Templates.{checked, element_tested, element_address, block_pieces, element_size, block_size}
-use Rattle.cw_tmpl.specs.ReferenceCode.{names_of}
+use Rattle.cw_tmpl.specs.Templates.{checked, element_tested, element_address, element_size, block_size, is_short}
+use Rattle.cw_tmpl.specs.ReferenceCode.{names_of, reach_of}
 use Rattle.cw_tmpl.proofs.Shapes.{TestNear, IsNear}
-use Rattle.cw_tmpl.proofs.Sizes.{element_long_as, size_to, own_place}
+use Rattle.cw_tmpl.proofs.Sizes.{element_long_as, size_to, own_place, pieces_by}
 use Rattle.cw_follow.specs.Placing.{base_of}
 use Rattle.std.specs.List.{All}
 use Rattle.std.proofs.lemmas.List.Elements.{All-head}
@@ -52,7 +52,7 @@ use Rattle.cw_follow.proofs.Operating.{word_named}
 use Rattle.cw_follow.proofs.Orders.{Landed, Does, Chooses, later, further, landed, kept_stored}
 use Rattle.cw_follow.proofs.UseBlocks as UseBlocks
 use Rattle.cw_follow.proofs.States.{Given, Sound}
-use Rattle.cw_follow.proofs.Steps.{Follow, setting, calls, order_here, weight_is, line_fits, start_place, block_code, block_ends, did_as, does, chosen, start, two_roomy, FollowFrom, begins_block, begun_block}
+use Rattle.cw_follow.proofs.Steps.{Follow, setting, calls, order_here, weight_is, line_fits, start_place, block_code, block_ends, did_as, does, chosen, start, two_roomy, FollowFrom, begins_block, begun_block, reaches_mark}
 use Rattle.cw_follow.proofs.BlockOrders.{code_end, room_in, within_block, inner_follows, modes, saved, step_in}
 use Rattle.cw_follow.proofs.InBlocks.{loaded_then, loaded_silently, silently}
 use Rattle.cw_follow.proofs.Indexed.{element_steps, few_element}
@@ -97,8 +97,8 @@ module _ (known : Given) where
 
     -- the code of a block that begins with the address of the place of the index
     pub begun_code : (e : Element) (os : List Order) (b : Block) → drop s.from s.orders.list ≡ address_order e.index ∷ os → block_at 0 (drop s.from s.orders.list) ≡ b
-        → HasPiecesFrom (begins_block known s) image (all.stands g s.orders s.unit).value (start_place known s) (block_pieces (names_of s.orders) (own_place s.orders.list s.from) b (address_order e.index))
-    begun_code e os b list is = subst (λ f. HasPiecesFrom f image (all.stands g s.orders s.unit).value (start_place known s) (block_pieces (names_of s.orders) (own_place s.orders.list s.from) b (address_order e.index))) (begins e.index) (block_code known s b (address_order e.index) os list is)
+        → HasPiecesFrom (begins_block known s) image (all.stands g s.orders s.unit).value (start_place known s) (pieces_by (names_of s.orders) (own_place s.orders s.from) s.from b (address_order e.index))
+    begun_code e os b list is = subst (λ f. HasPiecesFrom f image (all.stands g s.orders s.unit).value (start_place known s) (pieces_by (names_of s.orders) (own_place s.orders s.from) s.from b (address_order e.index))) (begins e.index) (block_code known s b (address_order e.index) os list is)
       where
         begins : (x : Place) → first_of (address_order x) (begins_block known s) ≡ begins_block known s
         begins (cell.Word f n) = refl
@@ -129,12 +129,12 @@ module _ (known : Given) where
         let b = block.FetchElement e in
         let there = behind_there e e.test order.Load rest in
         let here = order_here known s n order.Load _ is_done list there in
-        let ends = block_ends known s b (address_order e.index) os n is_done list is (ap (λ m. size_to m os n) many ∙ none_inside n os) (ap (λ m. left_at m os n) many ∙ over_inside (suc (homes e.test)) os order.Load there) in
+        let ends = block_ends known s b (address_order e.index) os n is_done list is (ap (λ m. size_to (is_short (reach_of s.orders)) (suc s.from) m os n) many ∙ none_inside (is_short (reach_of s.orders)) (suc s.from) n os) (ap (λ m. left_at m os n) many ∙ over_inside (suc (homes e.test)) os order.Load there) in
         let before = modes known s false true true (address_order e.index) (suc (homes e.test)) os is_done list (mode_free e.index) (mode_taken e.index) (tail_mode e e.test (order.Load ∷ rest)) in
         let paid : 8 ≤ weight p (at_order g place loaded acts w Running) = let x = weight_is known s order.Load here in omega arith in
         let h = begun_code e os b list is in
         let made = after_forms known s e e.test (order.Load ∷ rest) z w (did_as known s n _ is_done list) in
-        let size : block_size b (address_order e.index) ≡ element_size e e.test + 2 = omega (arith, appended_long (element_address e) (pieces.Whole (load 0 at_si) ∷ []), element_long_as e) in
+        let size : block_size false b (address_order e.index) ≡ element_size e e.test + 2 = omega (arith, appended_long (element_address e) (pieces.Whole (load 0 at_si) ∷ []), element_long_as e) in
         let end : start_place known s + (element_size e e.test + 2) ≡ code_end known s = omega (arith, ends.behind, size) in
         let d = fetch_does e before.landed made.at (code_end known s) made.within made.leads end h in
         let goes : unrefused (perform p.limits.area (Fetch None) w) ≡ Changed (put (word_at s.before.memory made.at) s.before) = ap (λ v. unrefused (perform p.limits.area (Fetch None) v)) made.is ∙ fetched_there made.at s.before made.within in
@@ -176,7 +176,7 @@ module _ (known : Given) where
     -- ---- a store
 
     -- the same landing, with the operands as they are known
-    abbrev with_known : (ops : List Operand) → s.before.operands ≡ ops → Before known s true → Landed p image (order_place (base_of p g) s.orders.list s.from) g true acts (words ops s.before.memory s.before.input s.before.output) q
+    abbrev with_known : (ops : List Operand) → s.before.operands ≡ ops → Before known s true → Landed p image (order_place (base_of p g) s.orders s.from) g true acts (words ops s.before.memory s.before.input s.before.output) q
     with_known ops e l = record {
       top = l.top;
       cells = l.cells;
@@ -219,12 +219,12 @@ module _ (known : Given) where
         let b = block.AssignElement e in
         let there = behind_there e e.test order.Store rest in
         let here = order_here known s n order.Store _ is_done list there in
-        let ends = block_ends known s b order.Save os n is_done list is (ap (λ m. size_to m os n) many ∙ none_inside n os) (ap (λ m. left_at m os n) many ∙ over_inside (suc (suc (homes e.test))) os order.Store there) in
+        let ends = block_ends known s b order.Save os n is_done list is (ap (λ m. size_to (is_short (reach_of s.orders)) (suc s.from) m os n) many ∙ none_inside (is_short (reach_of s.orders)) (suc s.from) n os) (ap (λ m. left_at m os n) many ∙ over_inside (suc (suc (homes e.test))) os order.Store there) in
         let before = saved known s true (suc (suc (homes e.test))) os is_done list (saved_mode e e.test (order.Store ∷ rest)) in
         let paid : 8 ≤ weight p (at_order g place loaded acts w Running) = let x = weight_is known s order.Store here in omega arith in
         let h = block_code known s b order.Save os list is in
         let made = after_forms known s e e.test (order.Store ∷ rest) z w (did_as known s n _ is_done list) in
-        let size : block_size b order.Save ≡ element_size e e.test + 2 = omega (arith, appended_long (element_address e) (pieces.Whole (store at_si 0) ∷ []), element_long_as e) in
+        let size : block_size false b order.Save ≡ element_size e e.test + 2 = omega (arith, appended_long (element_address e) (pieces.Whole (store at_si 0) ∷ []), element_long_as e) in
         let end : start_place known s + (element_size e e.test + 2) ≡ code_end known s = omega (arith, ends.behind, size) in
         let d = assign_does e before.landed made.at (code_end known s) made.within made.leads end h s.before.operands refl in
         does known s false 0 (unrefused (perform p.limits.area (Store None) w)) 8 ends.begins (step_in known s true order.Store before.now here) paid
@@ -324,7 +324,7 @@ module _ (known : Given) where
     memory_fits : (at : ℕ) → at < p.limits.area → FitsWord (word_at s.before.memory at)
     memory_fits at within = let long = s.landed.kept.long in s.fits_before.memory at (pos 0) (omega arith)
 
-    product_size : (e : Element) (line : ℕ) → block_size (block.Operate (simple.Element e) (uses.Multiply line)) order.Save ≡ element_size e e.test + 13
+    product_size : (e : Element) (line : ℕ) → block_size false (block.Operate (simple.Element e) (uses.Multiply line)) order.Save ≡ element_size e e.test + 13
     product_size e line =
         let last_pieces : List Coded = pieces.Whole (load 0 at_si) ∷ pieces.Whole (multiply 1) ∷ [] in
         omega (arith, appended_long (element_address e ++ last_pieces) (checked line), appended_long (element_address e) last_pieces, element_long_as e)
@@ -405,7 +405,7 @@ module _ (known : Given) where
         let b = block.Operate (simple.Element e) u in
         let there = next_there e e.test order.Load (order_of u) rest in
         let here = order_here known s n (order_of u) _ is_done list there in
-        let ends = block_ends known s b order.Save os n is_done list is (ap (λ m. size_to m os n) many ∙ none_inside n os) (ap (λ m. left_at m os n) many ∙ over_inside (suc (suc (suc (homes e.test)))) os (order_of u) there) in
+        let ends = block_ends known s b order.Save os n is_done list is (ap (λ m. size_to (is_short (reach_of s.orders)) (suc s.from) m os n) many ∙ none_inside (is_short (reach_of s.orders)) (suc s.from) n os) (ap (λ m. left_at m os n) many ∙ over_inside (suc (suc (suc (homes e.test)))) os (order_of u) there) in
         let before = saved known s true (suc (suc (suc (homes e.test)))) os is_done list (loaded_mode e e.test (order_of u ∷ rest)) in
         let made = after_load e e.test (order_of u ∷ rest) z w (did_as known s n _ is_done list) in
         let cost = UseBlocks.costs known s u in
@@ -427,14 +427,14 @@ module _ (known : Given) where
         let b = block.Operate (simple.Element e) (uses.Compare c m) in
         let there = next_there e e.test order.Load (order.JumpIf c m) rest in
         let here = order_here known s n (order.JumpIf c m) _ is_done list there in
-        let ends = block_ends known s b order.Save os n is_done list is (ap (λ k. size_to k os n) many ∙ none_inside n os) (ap (λ k. left_at k os n) many ∙ over_inside (suc (suc (suc (homes e.test)))) os (order.JumpIf c m) there) in
+        let ends = block_ends known s b order.Save os n is_done list is (ap (λ k. size_to (is_short (reach_of s.orders)) (suc s.from) k os n) many ∙ none_inside (is_short (reach_of s.orders)) (suc s.from) n os) (ap (λ k. left_at k os n) many ∙ over_inside (suc (suc (suc (homes e.test)))) os (order.JumpIf c m) there) in
         let before = saved known s true (suc (suc (suc (homes e.test)))) os is_done list (loaded_mode e e.test (order.JumpIf c m ∷ rest)) in
         let made = after_load e e.test (order.JumpIf c m ∷ rest) z w (did_as known s n _ is_done list) in
         let paid : 10 ≤ weight p (at_order g place loaded acts w Running) = let x = weight_is known s (order.JumpIf c m) here in omega arith in
         let code = block_code known s b order.Save os list is in
         let y = word_at s.before.memory made.at in
         let t = address_there e (uses.Compare c m) tt code in
-        let d = UseBlocks.compares_with known s (simple.Element e) c m y (memory_fits made.at made.within) ends.behind code (word_from_element e t.tail before.landed made.at made.within made.leads t.stands) in
+        let d = UseBlocks.compares_with known s (simple.Element e) c m y (memory_fits made.at made.within) ends.behind code (reaches_mark known s b order.Save os m list is refl) (word_from_element e t.tail before.landed made.at made.within made.leads t.stands) in
         chosen known s false 0 (UseBlocks.way_of known s c m w) 10 ends.begins (two_roomy acts p.room m c w.operands w s.room) (step_in known s true (order.JumpIf c m) before.now here) paid
         (subst (λ v. Chooses p image 10 (code_end known s) (start known s) g false 0 acts w.output q (UseBlocks.way_of known s c m v)) (sym made.is)
         (subst (λ o. Chooses p image 10 (code_end known s) (start known s) g false 0 acts o q (UseBlocks.way_of known s c m (put y s.before))) s.wrote d))

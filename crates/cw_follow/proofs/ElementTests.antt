@@ -27,7 +27,7 @@ use Rattle.cw_tmpl.specs.Blocks.{address_orders, bounds_orders, is_within, eleme
 use Rattle.cw_tmpl.specs.Library.{address_entry, bounds_entry}
 use Rattle.cw_tmpl.specs.Mnemonics.{si as si_register, di, compare, double, jump_if_below, operate_number}
 use Rattle.cw_tmpl.specs.Pieces.{Filling}
-use Rattle.cw_tmpl.specs.Templates.{call_stop, index_added, index_loaded, from_lower, indexes_between, address_tested, index_tested, index_size, lower_size}
+use Rattle.cw_tmpl.specs.Templates.{call_stop, index_added, index_loaded, from_lower, indexes_between, address_tested, index_tested, index_size, lower_size, Forms}
 use Rattle.cw_tmpl.proofs.Shapes.{TestNear}
 use Rattle.cw_tmpl.proofs.Sizes.{index_long, size_to}
 use Rattle.cw_follow.specs.Placing.{base_of}
@@ -140,10 +140,10 @@ module _ (e : Element) where
   fetched_many (cell.Frame n) (test.Bounds upper line) = refl
 
 -- the orders behind the first one of a block have no code, and end it
-pub none_inside : (n : ℕ) (os : List Order) → size_to n os n ≡ 0
-none_inside zero os = refl
-none_inside (suc n) [] = refl
-none_inside (suc n) (o ∷ os) = omega (arith, none_inside n os)
+pub none_inside : (forms : Forms) (number n : ℕ) (os : List Order) → size_to forms number n os n ≡ 0
+none_inside forms number zero os = refl
+none_inside forms number (suc n) [] = refl
+none_inside forms number (suc n) (o ∷ os) = omega (arith, none_inside forms (suc number) n os)
 
 pub over_inside : (n : ℕ) (os : List Order) (o : Order) → slice_get os n ≡ Some o → left_at (suc n) os (suc n) ≡ 0
 over_inside n [] o e = absurd (cc)
@@ -372,7 +372,7 @@ module _ (known : Given) where
 
     -- where the block begins
     abbrev pub Before : Bool → Type 0
-    Before m = Landed p image (order_place (base_of p g) s.orders.list s.from) g m acts s.before q
+    Before m = Landed p image (order_place (base_of p g) s.orders s.from) g m acts s.before q
 
     -- where the code of the address stands: AX is as the block found it, and CX may be the same
     pub record AtAddressFrom (first : Bool) {m : Bool} (l : Before m) (at top ax cx : ℕ) (r : Watched) : Type 0 where

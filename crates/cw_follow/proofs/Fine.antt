@@ -23,7 +23,7 @@ use Rattle.cw_tmpl.specs.Pieces.{Filling, bytes_with, size_of, target_of, reloca
 use Rattle.cw_tmpl.specs.Mnemonics.{entry_of_table, change_memory, operate_number, memory, argument, double, jump_to, jump_if_below, set_word, at_bx, at_si, load, store, subtract, both, either, one_of, operate, change, move, add, multiply, shift_up, shift_up_once, shift_down, shift_down_once, shift_down_signed, shift_down_signed_once}
 use Rattle.cw_tmpl.specs.Library.{places_of_entries, entry_place, start_entry, overflow_entry, zero_divisor_entry, address_entry, bounds_entry, switch_entry, enter_entry, read_entry, product_entry, quotient_up_entry, quotient_down_entry, set_variable_entry, add_step_entry, put_variable_entry, exhausted_entry, next_step_entry}
 use Rattle.cw_tmpl.specs.Names.{Names, mark_place, label_start, switch_start, procedure_start}
-use Rattle.cw_tmpl.specs.Templates.{template, call_library, call_stop, unless_overflow, checked, call_at_line, on_both, with_word, times, times_if, shifted, shifted_up, shifted_down, shifted_down_signed, lowest_if, taken, part_taken, load_top, store_part, rescale_if, by_routine, product_start, product_down, product, divisor_tested, quotient, in_area, index_by, less_bound, plus_word, times_width, base_kept, based, element, in_row, element_of_two, entry, top_below, with_both_bounds, in_bounds, branch, distance, jump_near, opposite_of, control_out, return_with, operands_dropped, base_jump, number_compared, mark_words, goal_words, loop_way, loop_ways, place_doubled, doubled_size, step_taken, switch_pieces, address_pieces, load_place, store_place, operate_place, change_place, index_added, index_loaded, from_lower, indexes_between, element_tested, element_address, with_operand, product_with, pieces_size, operated, top_from_lower, times_entry, formed, block_pieces, entry_pieces}
+use Rattle.cw_tmpl.specs.Templates.{template, call_library, call_stop, unless_overflow, checked, call_at_line, on_both, with_word, times, times_if, shifted, shifted_up, shifted_down, shifted_down_signed, lowest_if, taken, part_taken, load_top, store_part, rescale_if, by_routine, product_start, product_down, product, divisor_tested, quotient, in_area, index_by, less_bound, plus_word, times_width, base_kept, based, element, in_row, element_of_two, entry, top_below, with_both_bounds, in_bounds, branch, distance, jump_near, opposite_of, control_out, return_with, operands_dropped, base_jump, number_compared, mark_words, goal_words, loop_way, loop_ways, place_doubled, doubled_size, step_taken, switch_pieces, address_pieces, load_place, store_place, operate_place, change_place, index_added, index_loaded, from_lower, indexes_between, element_tested, element_address, with_operand, product_with, pieces_size, operated, top_from_lower, times_entry, formed, block_pieces, entry_pieces, comparison_of, template_by, short_distance, branch_by, short_branch}
 use Rattle.cw_order.specs.declared.order.Place.{Place}
 use Rattle.cw_order.specs.declared.order.Place.TheVariants as cell
 use Rattle.cw_tmpl.specs.declared.blocks.Element.{Element}
@@ -296,6 +296,17 @@ below w n e = omega arith
 distance_small : (from to : ℕ) → distance from to < 65536
 distance_small from to = omega arith
 
+short_small : (from to : ℕ) → short_distance from to < 256
+short_small from to = omega arith
+
+comparison_small : (c : Comparator) → condition_of (comparison_of c) < 16
+comparison_small comparator.Less = lit< tt
+comparison_small comparator.LessEqual = lit< tt
+comparison_small comparator.Equal = lit< tt
+comparison_small comparator.GreaterEqual = lit< tt
+comparison_small comparator.Greater = lit< tt
+comparison_small comparator.Unequal = lit< tt
+
 condition_small : (c : Comparator) → condition_of (opposite_of c) < 16
 condition_small comparator.Less = lit< tt
 condition_small comparator.LessEqual = lit< tt
@@ -499,6 +510,13 @@ module _ (p : OrderProgram) (segment next : ℕ) (value : Filling) (fills : Fill
   branch_fine : (c : Comparator) (end to : ℕ) → AllFine value (branch c end to)
   branch_fine c end to = ((condition_small c, lit< tt), (distance_small end to, tt))
 
+  short_branch_fine : (c : Comparator) (end to : ℕ) → AllFine value (short_branch c end to)
+  short_branch_fine c end to = ((comparison_small c, short_small end to), tt)
+
+  branch_by_fine : (short : Bool) (c : Comparator) (place to : ℕ) → AllFine value (branch_by short c place to)
+  branch_by_fine true c place to = short_branch_fine c (place + 2) to
+  branch_by_fine false c place to = branch_fine c (place + 5) to
+
   place_filled : (add : ℕ) → IsFilled value (target.Place add)
   place_filled add after = below (value 3 0 add after) (base_of p segment + add) (fills.places add after)
 
@@ -659,6 +677,16 @@ module _ (p : OrderProgram) (segment next : ℕ) (value : Filling) (fills : Fill
   template_fine names place order.Mark fits = tt
   template_fine names place (order.Start n) fits = tt
 
+  -- with its jump short or near
+  template_by_fine : (names : Names) (place : ℕ) (short : Bool) (o : Order) → OrderFits o → AllFine value (template_by short names place o)
+  template_by_fine names place false o fits = template_fine names place o fits
+  template_by_fine names place true (order.Jump mark) fits = (short_small (place + 2) (mark_place names mark), tt)
+  template_by_fine names place true (order.JumpIf c mark) fits = (bx_free, ((lit< tt, is_bx, is_ax), short_branch_fine c (place + 5) (mark_place names mark)))
+  template_by_fine names place true (order.LoopWay []) fits = template_fine names place (order.LoopWay []) fits
+  template_by_fine names place true (order.LoopWay (m ∷ [])) fits = (is_ax, ((lit< tt, short_small (place + 3) (mark_place names m)), tt))
+  template_by_fine names place true (order.LoopWay (m ∷ n ∷ ms)) fits = template_fine names place (order.LoopWay (m ∷ n ∷ ms)) fits
+  template_by_fine names place true o fits = template_fine names place o fits
+
   field_fine : (n : ℕ) → 2 * n % 65536 < 65536
   field_fine n = omega arith
 
@@ -723,16 +751,16 @@ module _ (p : OrderProgram) (segment next : ℕ) (value : Filling) (fills : Fill
   product_with_fine (simple.Element e) fits =
       ((cx_register, is_ax), all_fine-append value (element_address e) (coded.Whole (load 0 at_si) ∷ coded.Whole (multiply 1) ∷ []) (element_address_fine e fits) ((is_ax, (lit< tt, λ e. omega arith)), ((lit< tt, lit< tt, cx_register), tt)))
 
-  operated_fine : (names : Names) (place : ℕ) (s : Simple) (u : Use) → SimpleFits s → line_of (order_of u) < 65536 → AllFine value (operated names place s u)
-  operated_fine names place s (uses.Add line) fits small = all_fine-append value (with_operand 0 s) (checked line) (with_operand_fine 0 s (lit< tt) fits) (checked_fine line small)
-  operated_fine names place s (uses.Subtract line) fits small = all_fine-append value (with_operand 5 s) (checked line) (with_operand_fine 5 s (lit< tt) fits) (checked_fine line small)
-  operated_fine names place s (uses.Multiply line) fits small = all_fine-append value (product_with s) (checked line) (product_with_fine s fits) (checked_fine line small)
-  operated_fine names place s uses.Mask fits small = with_operand_fine 4 s (lit< tt) fits
-  operated_fine names place s uses.Union fits small = with_operand_fine 1 s (lit< tt) fits
-  operated_fine names place s uses.Differ fits small = with_operand_fine 6 s (lit< tt) fits
-  operated_fine names place s (uses.Compare c mark) fits small =
-      let end = place + pieces_size (with_operand 7 s) + 5 in
-      all_fine-append value (with_operand 7 s) (branch c end (mark_place names mark)) (with_operand_fine 7 s (lit< tt) fits) (branch_fine c end (mark_place names mark))
+  operated_fine : (names : Names) (place : ℕ) (short : Bool) (s : Simple) (u : Use) → SimpleFits s → line_of (order_of u) < 65536 → AllFine value (operated names place short s u)
+  operated_fine names place short s (uses.Add line) fits small = all_fine-append value (with_operand 0 s) (checked line) (with_operand_fine 0 s (lit< tt) fits) (checked_fine line small)
+  operated_fine names place short s (uses.Subtract line) fits small = all_fine-append value (with_operand 5 s) (checked line) (with_operand_fine 5 s (lit< tt) fits) (checked_fine line small)
+  operated_fine names place short s (uses.Multiply line) fits small = all_fine-append value (product_with s) (checked line) (product_with_fine s fits) (checked_fine line small)
+  operated_fine names place short s uses.Mask fits small = with_operand_fine 4 s (lit< tt) fits
+  operated_fine names place short s uses.Union fits small = with_operand_fine 1 s (lit< tt) fits
+  operated_fine names place short s uses.Differ fits small = with_operand_fine 6 s (lit< tt) fits
+  operated_fine names place short s (uses.Compare c mark) fits small =
+      let behind = place + pieces_size (with_operand 7 s) in
+      all_fine-append value (with_operand 7 s) (branch_by short c behind (mark_place names mark)) (with_operand_fine 7 s (lit< tt) fits) (branch_by_fine short c behind (mark_place names mark))
 
   -- an address that is formed of an index in AX
   top_lower_fine : (lower : ℤ) → FitsWord lower → AllFine value (top_from_lower lower)
@@ -749,25 +777,25 @@ module _ (p : OrderProgram) (segment next : ℕ) (value : Filling) (fills : Fill
   formed_fine family first (form.Entry width word span line) fits =
       all_fine-append value (times_entry width) (coded.Sum 0 (target.Word family (first + word)) ∷ []) (times_entry_fine (width == 1) width fits) ((is_ax, home_filled family (first + word)), tt)
 
-  pub block_fine : (names : Names) (place : ℕ) (b : Block) (o : Order) → BlockFits b o → AllFine value (block_pieces names place b o)
-  block_fine names place (block.Within n) o fits = tt
-  block_fine names place block.Single o fits = template_fine names place o fits
-  block_fine names place (block.Fetch x) o fits = all_fine-append value (address_pieces x) (load_place x ∷ []) (address_fine x) (load_place_fine x, tt)
-  block_fine names place (block.Assign x) o fits = all_fine-append value (address_pieces x) (store_place x ∷ []) (address_fine x) (store_place_fine x, tt)
-  block_fine names place block.Write o fits = (lit< tt, tt)
-  block_fine names place (block.Divide w line) o fits = ((is_bx, fits), (tt, ((lit< tt, lit< tt, is_bx), tt)))
-  block_fine names place (block.Operate s u) o fits = operated_fine names place s u fits.0 fits.1
-  block_fine names place (block.FetchPart x t b is_signed) o fits =
+  pub block_fine : (names : Names) (place : ℕ) (short : Bool) (b : Block) (o : Order) → BlockFits b o → AllFine value (block_pieces names place short b o)
+  block_fine names place short (block.Within n) o fits = tt
+  block_fine names place short block.Single o fits = template_by_fine names place short o fits
+  block_fine names place short (block.Fetch x) o fits = all_fine-append value (address_pieces x) (load_place x ∷ []) (address_fine x) (load_place_fine x, tt)
+  block_fine names place short (block.Assign x) o fits = all_fine-append value (address_pieces x) (store_place x ∷ []) (address_fine x) (store_place_fine x, tt)
+  block_fine names place short block.Write o fits = (lit< tt, tt)
+  block_fine names place short (block.Divide w line) o fits = ((is_bx, fits), (tt, ((lit< tt, lit< tt, is_bx), tt)))
+  block_fine names place short (block.Operate s u) o fits = operated_fine names place short s u fits.0 fits.1
+  block_fine names place short (block.FetchPart x t b is_signed) o fits =
       all_fine-append value (address_pieces x) (load_place x ∷ part_taken t b is_signed) (address_fine x) (load_place_fine x, part_fine t b is_signed fits)
-  block_fine names place (block.AssignPart x t b) o fits =
+  block_fine names place short (block.AssignPart x t b) o fits =
       all_fine-append value (shifted_up b) _ (up_fine b (omega arith))
       (all_fine-append value (address_pieces x) _ (address_fine x) (operate_place_fine 6 x (lit< tt), ((lit< tt, mask_small t b fits), (change_place_fine 6 x (lit< tt), tt))))
-  block_fine names place (block.FetchElement e) o fits = all_fine-append value (element_address e) (coded.Whole (load 0 at_si) ∷ []) (element_address_fine e fits) ((is_ax, (lit< tt, λ e. omega arith)), tt)
-  block_fine names place (block.AssignElement e) o fits = all_fine-append value (element_address e) (coded.Whole (store at_si 0) ∷ []) (element_address_fine e fits) ((is_ax, (lit< tt, λ e. omega arith)), tt)
-  block_fine names place (block.Count true line) o fits = (is_ax, checked_fine line fits)
-  block_fine names place (block.Count false line) o fits = (is_ax, checked_fine line fits)
-  block_fine names place (block.Halve w power places line) o fits = down_signed_fine places (omega arith)
-  block_fine names place (block.Bounded b) o fits =
+  block_fine names place short (block.FetchElement e) o fits = all_fine-append value (element_address e) (coded.Whole (load 0 at_si) ∷ []) (element_address_fine e fits) ((is_ax, (lit< tt, λ e. omega arith)), tt)
+  block_fine names place short (block.AssignElement e) o fits = all_fine-append value (element_address e) (coded.Whole (store at_si 0) ∷ []) (element_address_fine e fits) ((is_ax, (lit< tt, λ e. omega arith)), tt)
+  block_fine names place short (block.Count true line) o fits = (is_ax, checked_fine line fits)
+  block_fine names place short (block.Count false line) o fits = (is_ax, checked_fine line fits)
+  block_fine names place short (block.Halve w power places line) o fits = down_signed_fine places (omega arith)
+  block_fine names place short (block.Bounded b) o fits =
       let test : List Coded = top_below b.bounds.line (indexes_between (b.bounds.upper -ℤ b.bounds.lower)) in
       let last : List Coded = formed b.family b.first b.form in
       all_fine-append value (top_from_lower b.bounds.lower) (test ++ last) (top_lower_fine b.bounds.lower fits.0)

@@ -86,8 +86,8 @@ following rows p code words memory input s places there is stand coded begins ne
         let ignores : Ignores image places = record { told = refl; library = stand.library } in
         let from : Is image 0 (view 0 0 0 0 0 0 0 0 false (slice_index words) (λ k. 0) input nothing_told) begin = record { sees = rows.starts code words input s is.fits short_words starts_so; ignores = ignores; overlooks = refl; silent = refl } in
         let at_entry : (q : Watched) → Begun image (base_of p 0 + 11) 1 p.limits.depth p.limits.frames p.limits.area (slice_index words) input nothing_told q → Arrived p image 0 first false [] begun q = λ q b.
-        let place_is : base_of p 0 + 11 ≡ order_place (base_of p 0) u.list 0 = omega arith in
-        let there : base_of p 0 + 11 ≡ order_place (base_of p 0) u.list first = place_is ∙ ap (order_place (base_of p 0) u.list) (sym is_zero) in (
+        let place_is : base_of p 0 + 11 ≡ order_place (base_of p 0) u 0 = omega arith in
+        let there : base_of p 0 + 11 ≡ order_place (base_of p 0) u first = place_is ∙ ap (order_place (base_of p 0) u) (sym is_zero) in (
           record {
             orders = u;
             unit = some;
@@ -104,7 +104,7 @@ following rows p code words memory input s places there is stand coded begins ne
             room_before = omega arith;
             wrote = refl;
             fits_before = record { operands = All-nil OperandFits; memory = memory_fits rows.words p words memory begins; input = bytes };
-            landed = begun_landed p (order_place (base_of p 0) u.list first) memory input [] there (lit< tt) coded.frames (cells_begin rows.words p words memory begins) begins.long refl refl refl b;
+            landed = begun_landed p (order_place (base_of p 0) u first) memory input [] there (lit< tt) coded.frames (cells_begin rows.words p words memory begins) begins.long refl refl refl b;
             acts_fit = All-nil ActivationFits;
             fits = record { operands = All-nil OperandFits; memory = memory_fits rows.words p words memory begins; input = bytes };
             stands = record { room = omega arith; last = tt; operands = All-nil (OperandStands p 0 []) };

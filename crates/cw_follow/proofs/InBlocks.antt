@@ -31,6 +31,7 @@ use Rattle.cw_follow.specs.Placing.{StandsBehind}
 use Rattle.cw_tmpl.specs.Blocks.{address_orders, bounds_orders, element_orders, form_order, operand_orders, order_of, count_order, block_at, orders_left, left_at}
 use Rattle.cw_tmpl.proofs.Shapes.{front_is, IsBlock, shape}
 use Rattle.cw_tmpl.proofs.Sizes.{size_to}
+use Rattle.cw_tmpl.specs.Templates.{Forms}
 
 -- ---- lists
 
@@ -39,13 +40,18 @@ slice_drop list zero n = ap (slice_get list) (let e : n ≡ 0 + n = omega arith 
 slice_drop [] (suc k) n = refl
 slice_drop (x ∷ xs) (suc k) n = slice_drop xs k n ∙ ap (slice_get (x ∷ xs)) (let e : suc (k + n) ≡ suc k + n = omega arith in e)
 
-pub size_split : (left : ℕ) (list : List Order) (k n : ℕ) → size_to left list (k + n) ≡ size_to left list k + size_to (left_at left list k) (drop k list) n
-size_split left list zero n = let e : 0 + n ≡ n = omega arith in ap (size_to left list) e ∙ (omega arith)
-size_split left [] (suc k) zero = let e : suc k + 0 ≡ suc k = omega arith in ap (size_to left []) e
-size_split left [] (suc k) (suc n) = let e : suc k + suc n ≡ suc (k + suc n) = omega arith in ap (size_to left []) e
-size_split left (x ∷ xs) (suc k) n =
+pub size_split : (forms : Forms) (number left : ℕ) (list : List Order) (k n here : ℕ) → here ≡ number + k
+    → size_to forms number left list (k + n) ≡ size_to forms number left list k + size_to forms here (left_at left list k) (drop k list) n
+size_split forms number left list zero n here is =
+    let e : 0 + n ≡ n = omega arith in
+    let first : number ≡ here = omega (arith, is) in
+    ap (size_to forms number left list) e ∙ ap (λ i. size_to forms i left list n) first ∙ (omega arith)
+size_split forms number left [] (suc k) zero here is = let e : suc k + 0 ≡ suc k = omega arith in ap (size_to forms number left []) e
+size_split forms number left [] (suc k) (suc n) here is = let e : suc k + suc n ≡ suc (k + suc n) = omega arith in ap (size_to forms number left []) e
+size_split forms number left (x ∷ xs) (suc k) n here is =
     let e : suc k + n ≡ suc (k + n) = omega arith in
-    ap (size_to left (x ∷ xs)) e ∙ (omega (arith, size_split (orders_left (block_at left (x ∷ xs))) xs k n))
+    let rest = size_split forms (suc number) (orders_left (block_at left (x ∷ xs))) xs k n here (omega (arith, is)) in
+    ap (size_to forms number left (x ∷ xs)) e ∙ (omega (arith, rest))
 
 pub left_split : (left : ℕ) (list : List Order) (k n : ℕ) → left_at left list (k + n) ≡ left_at (left_at left list k) (drop k list) n
 left_split left list zero n = let e : 0 + n ≡ n = omega arith in ap (left_at left list) e

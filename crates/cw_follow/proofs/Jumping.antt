@@ -54,7 +54,7 @@ module _ (known : Given) where
       → acts ≡ []
       → slice_get p.units to ≡ Some o → label_at p to l ≡ Some e → e.in_procedure ≡ false → place_of p to e.mark ≡ Some k → k ≤ length o.list → Kept p g' acts memory left output cells stack input told
       → Is image (label_place p to l) (view ax cx dx bx sp bp si p.limits.area overflow cells stack input told) q
-      → Leads output 5 q (Landed p image (order_place (base_of p to) o.list k) to false acts (record { operands = []; memory = memory; input = left; output = output }))
+      → Leads output 5 q (Landed p image (order_place (base_of p to) o k) to false acts (record { operands = []; memory = memory; input = left; output = output }))
   lands {q} to l k g' o e acts memory left output none unit is body there within kept s =
       let st = all.stands to o unit in
       let place = base_of p to + landing_start (names_of o) l in
@@ -68,12 +68,12 @@ module _ (known : Given) where
       let lt = slice_get_within p.units to o unit in
       let few' : to < 255 = omega arith in
       let is_number : number ≡ to + 1 = omega arith in
-      let at_mark : base_of p to + mark_starts o e.mark ≡ order_place (base_of p to) o.list k = ap (λ n. base_of p to + n) (mark_start o e.mark k (mark_listed known to e.mark k o unit there) within) in
+      let at_mark : base_of p to + mark_starts o e.mark ≡ order_place (base_of p to) o k = ap (λ n. base_of p to + n) (mark_start o e.mark k (mark_listed known to e.mark k o unit there) within) in
       subst (λ a. Leads output 5 q (Landed p image a to false acts (record { operands = []; memory = memory; input = left; output = output }))) at_mark
       (restores rows p image to g' (base_of p to + mark_starts o e.mark) by number acts memory left output none is_number few' (jump_arrives (base_of p to) (landing_start (names_of o) l) 15 (mark_starts o e.mark)) kept i here)
 
   -- a label of the body of a segment
-  pub goes_to_landing : {first q : Watched} {g place : ℕ} {loaded : Bool} {acts : List OrderActivation} {w : Words} (s : Sound p image g place loaded acts w q) (by_itself : Alone p image g place loaded acts w q s.orders.list) (steps to l n : ℕ) (e : LabelEntry)
+  pub goes_to_landing : {first q : Watched} {g place : ℕ} {loaded : Bool} {acts : List OrderActivation} {w : Words} (s : Sound p image g place loaded acts w q) (by_itself : Alone p image g place loaded acts w q s.orders) (steps to l n : ℕ) (e : LabelEntry)
       → e.in_procedure ≡ false → label_at p to l ≡ Some e
       → step p (at g place loaded acts w Running) ≡ leave_for (place_of p to e.mark) to (length acts) g place false acts w → steps + 5 ≤ weight p (at g place loaded acts w Running)
       → Leads w.output steps first (Landed p image (label_place p to l) (segment_below n g acts) false (drop n acts) (with_operands w [])) → FollowFrom known first (at g place loaded acts w Running) q
@@ -88,20 +88,20 @@ module _ (known : Given) where
       (subst (λ ys. Kept p g' ys w.memory w.input w.output d.cells d.stack d.input d.told) ending (kept_below m d.kept)) d.stacked.is)))
 
   -- a label that stands in a procedure
-  pub goes_to_owner : {first q : Watched} {g place : ℕ} {loaded : Bool} {acts : List OrderActivation} {w : Words} (s : Sound p image g place loaded acts w q) (by_itself : Alone p image g place loaded acts w q s.orders.list) (steps to l n : ℕ) (e : LabelEntry)
+  pub goes_to_owner : {first q : Watched} {g place : ℕ} {loaded : Bool} {acts : List OrderActivation} {w : Words} (s : Sound p image g place loaded acts w q) (by_itself : Alone p image g place loaded acts w q s.orders) (steps to l n : ℕ) (e : LabelEntry)
       → e.in_procedure ≡ true → label_at p to l ≡ Some e → segment_below n g acts ≡ to
       → step p (at g place loaded acts w Running) ≡ leave_for (place_of p to e.mark) to n g place false acts w → 0 < steps → steps ≤ weight p (at g place loaded acts w Running)
       → Leads w.output steps first (Landed p image (label_place p to l) (segment_below n g acts) false (drop n acts) (with_operands w [])) → FollowFrom known first (at g place loaded acts w Running) q
   goes_to_owner {first} {q} {g} {place} {loaded} {acts} {w} s by_itself steps to l n e inside is same goes some paid way =
       left_for known s by_itself to e.mark n steps goes paid (λ k o unit there within.
-      let at_mark : label_start (names_of o) l ≡ own_place o.list k = label_start_is known to l o e true inside unit is ∙ mark_start o e.mark k (mark_listed known to e.mark k o unit there) within in
-      let at_label : label_place p to l ≡ order_place (base_of p to) o.list k % 65536 = start_is known to o (λ u. label_start (names_of u) l) unit ∙ ap (λ m. (base_of p to + m) % 65536) at_mark in
-      let arrives : label_place p to l % 65536 ≡ order_place (base_of p to) o.list k % 65536 = omega arith in
+      let at_mark : label_start (names_of o) l ≡ own_place o k = label_start_is known to l o e true inside unit is ∙ mark_start o e.mark k (mark_listed known to e.mark k o unit there) within in
+      let at_label : label_place p to l ≡ order_place (base_of p to) o k % 65536 = start_is known to o (λ u. label_start (names_of u) l) unit ∙ ap (λ m. (base_of p to + m) % 65536) at_mark in
+      let arrives : label_place p to l % 65536 ≡ order_place (base_of p to) o k % 65536 = omega arith in
       further steps (let x : steps ≤ steps = omega arith in x) some
       (leads_on (λ r d. landed_at arrives (subst (λ m. Landed p image (label_place p to l) m false (drop n acts) (with_operands w []) r) same d)) way))
 
   -- by an entry of the labels
-  pub goes_by_entry : {first q : Watched} {g place : ℕ} {loaded : Bool} {acts : List OrderActivation} {w : Words} (s : Sound p image g place loaded acts w q) (by_itself : Alone p image g place loaded acts w q s.orders.list) (steps to l owner : ℕ)
+  pub goes_by_entry : {first q : Watched} {g place : ℕ} {loaded : Bool} {acts : List OrderActivation} {w : Words} (s : Sound p image g place loaded acts w q) (by_itself : Alone p image g place loaded acts w q s.orders) (steps to l owner : ℕ)
       → 0 < steps → OwnsLabel p owner g acts to l
       → step p (at g place loaded acts w Running) ≡ go_to p (Some (LabelControl to l owner)) g place false acts w → steps + 5 ≤ weight p (at g place loaded acts w Running)
       → Leads w.output steps first (Landed p image (label_place p to l) (segment_below (length acts - owner) g acts) false (drop (length acts - owner) acts) (with_operands w []))
@@ -121,7 +121,7 @@ module _ (known : Given) where
       cases (Some e) is = inside e is e.in_procedure refl
 
   -- a label parameter
-  pub goes_by_parameter : {q : Watched} {g place : ℕ} {a : OrderActivation} {acts : List OrderActivation} {w : Words} (s : Sound p image g place false (a ∷ acts) w q) (by_itself : Alone p image g place false (a ∷ acts) w q s.orders.list) (k : ℕ)
+  pub goes_by_parameter : {q : Watched} {g place : ℕ} {a : OrderActivation} {acts : List OrderActivation} {w : Words} (s : Sound p image g place false (a ∷ acts) w q) (by_itself : Alone p image g place false (a ∷ acts) w q s.orders) (k : ℕ)
       → slice_get s.orders.list place ≡ Some (order.GoSpecial k)
       → (x : Option Operand) → argument_behind k a.arguments ≡ x → FollowFrom known (begun_here known s) (at g place false (a ∷ acts) w Running) q
   goes_by_parameter {q} {g} {place} {a} {acts} {w} s by_itself k e None is =
@@ -144,7 +144,7 @@ module _ (known : Given) where
       (goes_special rows p image g k to l owner (length (a ∷ acts) - owner) a acts w is stands refl (code known s by_itself o e) (landed_here known s by_itself))
 
   -- a label of a descriptor
-  pub goes_common : {q : Watched} {g place : ℕ} {acts : List OrderActivation} {w : Words} (s : Sound p image g place false acts w q) (by_itself : Alone p image g place false acts w q s.orders.list) (d : ℕ)
+  pub goes_common : {q : Watched} {g place : ℕ} {acts : List OrderActivation} {w : Words} (s : Sound p image g place false acts w q) (by_itself : Alone p image g place false acts w q s.orders) (d : ℕ)
       → slice_get s.orders.list place ≡ Some (order.GoCommon d) → (x : Option (ℕ × Def)) → defined_at p g d ≡ x → FollowFrom known (begun_here known s) (at g place false acts w Running) q
   goes_common {q} {g} {place} {acts} {w} s by_itself d e None is =
       absurd (stuck_here known s (step_is known s (Some (order.GoCommon d)) e ∙ ap (λ x. go_to p (with_label_owner (length acts) (label_of_def x)) g place false acts w) is))
@@ -161,7 +161,7 @@ module _ (known : Given) where
       cases None isx = absurd (stuck_here known s (goes ∙ ap (λ x. go_to_entry p x to (length acts) g place false acts w) isx))
       cases (Some x) isx =
           let o = order.GoCommon d in
-          let here = order_place (base_of p g) s.orders.list place in
+          let here = order_place (base_of p g) s.orders place in
           let st = all.stands g s.orders s.unit in
           let by = st.value 5 d 0 (here + 3) in
           let filled : by ≡ (definition_place p (defined_at p g d) + (65536 - (here + 3) % 65536)) % 65536 = st.fills.ahead d (here + 3) in

@@ -17,6 +17,7 @@ pub mod Facts
 pub mod Shifts
 pub mod Straight
 pub mod Stacks
+pub mod Branches
 pub mod Orders
 pub mod Operands
 pub mod Called

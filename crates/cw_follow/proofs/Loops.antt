@@ -13,20 +13,22 @@ use Rattle.cw_order.specs.OrderActions.{home_word}
 use Rattle.cw_order.specs.OrderChanges.{Way, Onward, ToMark, Barred, Nowhere, set_variable, add_step, put_variable, way_of_one, to_mark_in, mark_of_number, way_of_two, way_past_limit, next_step}
 use Rattle.cw_order.specs.OrderState.{OrderActivation, at, stack_words, frame_word}
 use Rattle.cw_tmpl.specs.Library.{set_variable_entry, add_step_entry, put_variable_entry, exhausted_entry, next_step_entry}
-use Rattle.cw_tmpl.specs.Templates.{order_size, distance, mark_words, loop_way}
+use Rattle.cw_tmpl.specs.Templates.{distance, mark_words, loop_way, template_by, is_close, short_distance, block_size}
 use Rattle.cw_tmpl.specs.ReferenceCode.{mark_starts, names_of}
 use Rattle.cw_follow.specs.Placing.{base_of}
 use Rattle.cw_tmpl.proofs.Sizes.{own_place, jump_arrives, listed as size_listed}
 use Rattle.cw_follow.proofs.Standing.{HasPieces, HasWord}
 use Rattle.cw_follow.proofs.Stacks.{words_split}
 use Rattle.cw_follow.proofs.States.{Given, Sound}
-use Rattle.cw_follow.proofs.Steps.{Follow, step_is, line_fits, has_code, start, chosen, does, by, calls, setting, cheap, low_room, Alone, here, next, code, behind, begins_next, Roomy, if_roomy}
+use Rattle.cw_follow.proofs.Steps.{Follow, step_is, line_fits, has_code, start, chosen, does, by, calls, setting, cheap, low_room, Alone, here, next, code, behind, begins_next, Roomy, if_roomy, reaches_alone, short_alone}
 use Rattle.cw_follow.proofs.Orders.{Chooses}
 use Rattle.cw_follow.proofs.Operands.{Setting}
-use Rattle.cw_follow.proofs.Tables.{mark_word_is, loops, loops_once}
+use Rattle.cw_follow.proofs.Tables.{mark_word_is, loops, loops_once, loops_close}
 use Rattle.cw_follow.proofs.Variables.{sets_variable, adds_step, puts_variable}
 use Rattle.cw_follow.proofs.Limits.{exhausts}
 use Rattle.cw_follow.proofs.NextSteps.{Turns, next_turns, doubles_word, doubles_frame, takes_step}
+use Rattle.cw_tmpl.proofs.Reaching.{short_arrives}
+use Rattle.cw_tmpl.specs.declared.blocks.Block.TheVariants as block
 
 -- the words on the ways
 past_roomy : (acts : List OrderActivation) (room m : ℕ) (b : Bool) (x : ℤ) (a : ℕ) (v : Words) → stack_words v.operands acts ≤ room → Roomy acts room (way_past_limit b m x a v)
@@ -68,7 +70,7 @@ loop_roomy acts room marks (Word y ∷ rest) w le =
 module _ (known : Given) where
   open known use {rows, p, image, all, coded, few, low}
 
-  module _ {q : Watched} {g place : ℕ} {acts : List OrderActivation} {w : Words} (s : Sound p image g place true acts w q) (a : Alone p image g place true acts w q s.orders.list) where
+  module _ {q : Watched} {g place : ℕ} {acts : List OrderActivation} {w : Words} (s : Sound p image g place true acts w q) (a : Alone p image g place true acts w q s.orders) where
     pub set_follows : (line : ℕ) → slice_get s.orders.list place ≡ Some (order.SetVariable line) → Follow known (at g place true acts w Running) q
     set_follows line e =
         let o = order.SetVariable line in
@@ -99,7 +101,7 @@ module _ (known : Given) where
     pub limit_follows : (m : ℕ) → slice_get s.orders.list place ≡ Some (order.Exhausted m) → Follow known (at g place true acts w Running) q
     limit_follows m e =
         let o = order.Exhausted m in
-        let own = own_place s.orders.list place in
+        let own = own_place s.orders place in
         let after = here known s a + 3 in
         chosen known s false 0 (way_of_two (λ x y v. way_past_limit (is_below y (p.limits.area - 2)) m x (number_of y) v) w) 17 (begins_next known s a o e)
         (limit_roomy acts p.room m (p.limits.area - 2) w.operands w s.room) (step_is known s (Some o) e)
@@ -109,17 +111,16 @@ module _ (known : Given) where
         (jump_arrives (base_of p g) own 6 (mark_starts s.orders m)) (low_room known s) s.fits.operands s.fits.memory (code known s a o e) a.landed)
 
     -- by a table
-    by_table : (marks : List ℕ) → slice_get s.orders.list place ≡ Some (order.LoopWay marks) → order_size (order.LoopWay marks) ≡ 20 + 2 * length marks
-        → HasPieces image (all.stands g s.orders s.unit).value (here known s a) (loop_way (names_of s.orders) (own_place s.orders.list place) marks) → Follow known (at g place true acts w Running) q
-    by_table marks e size i =
+    by_table : (marks : List ℕ) → slice_get s.orders.list place ≡ Some (order.LoopWay marks) → here known s a + (20 + 2 * length marks) ≡ next known s a
+        → HasPieces image (all.stands g s.orders s.unit).value (here known s a) (loop_way (names_of s.orders) (own_place s.orders place) marks) → Follow known (at g place true acts w Running) q
+    by_table marks e ends i =
         let o = order.LoopWay marks in
         let n = length marks in
         let here = here known s a in
-        let own = own_place s.orders.list place in
+        let own = own_place s.orders place in
         let st = all.stands g s.orders s.unit in
         let by = distance (own + 13) (own + 20 + 2 * n) in
         let meets = jump_arrives (base_of p g) own 13 (own + 20 + 2 * n) in
-        let ends = behind known s a o e in
         let to = next known s a in
         let arrives : (here + 13 + by) % 65536 ≡ to % 65536 = omega arith in
         let table = st.value 3 0 ((own + 20) % 65536) (here + 3 + 2 + 3 + 2 + 3 + 2 + 5) in
@@ -139,17 +140,30 @@ module _ (known : Given) where
         s.fits.operands (i.0, (i.1.0, (i.1.1.0, (i.1.1.1.0, (i.1.1.1.1.0, (i.1.1.1.1.1.0, (i.1.1.1.1.1.1.0, tt))))))) a.landed)
 
     pub loop_follows : (marks : List ℕ) → slice_get s.orders.list place ≡ Some (order.LoopWay marks) → Follow known (at g place true acts w Running) q
-    loop_follows [] e = by_table [] e (size_listed (order.LoopWay [])) (code known s a (order.LoopWay []) e)
-    loop_follows (m ∷ []) e =
-        let o = order.LoopWay (m ∷ []) in
-        let own = own_place s.orders.list place in
-        chosen known s false 0 (way_of_one (λ x v. to_mark_in (mark_of_number (m ∷ []) x) v) w.operands w) 3 (begins_next known s a o e) (loop_roomy acts p.room (m ∷ []) w.operands w s.room)
-        (step_is known s (Some o) e) (cheap known s o 3 (lit≤ tt) e)
-        (loops_once rows p image g acts (next known s a) (distance (own + 6) (mark_starts s.orders m)) (start known s) m w.operands w.memory w.input w.output (behind known s a o e)
-        (jump_arrives (base_of p g) own 6 (mark_starts s.orders m)) s.fits.operands (code known s a o e) a.landed)
-    loop_follows (m ∷ n ∷ ms) e = by_table (m ∷ n ∷ ms) e (size_listed (order.LoopWay (m ∷ n ∷ ms))) (code known s a (order.LoopWay (m ∷ n ∷ ms)) e)
+    loop_follows [] e = by_table [] e (let z = size_listed (order.LoopWay []) in let y = behind known s a (order.LoopWay []) e in omega arith) (code known s a (order.LoopWay []) e)
+    loop_follows (m ∷ []) e = cases (short_alone known s a o) (reaches_alone known s a o m e refl) (behind known s a o e) (code known s a o e)
+      where
+        o : Order
+        o = order.LoopWay (m ∷ [])
 
-  module _ {q : Watched} {g place : ℕ} {acts : List OrderActivation} {w : Words} (s : Sound p image g place false acts w q) (a : Alone p image g place false acts w q s.orders.list) where
+        own : ℕ
+        own = own_place s.orders place
+
+        cases : (short : Bool) → (short ≡ true → is_close (own + 3) (mark_starts s.orders m) ≡ true) → here known s a + block_size short block.Single o ≡ next known s a
+            → HasPieces image (all.stands g s.orders s.unit).value (here known s a) (template_by short (names_of s.orders) own o) → Follow known (at g place true acts w Running) q
+        cases true close ends i =
+            chosen known s false 0 (way_of_one (λ x v. to_mark_in (mark_of_number (m ∷ []) x) v) w.operands w) 3 (begins_next known s a o e) (loop_roomy acts p.room (m ∷ []) w.operands w s.room)
+            (step_is known s (Some o) e) (cheap known s o 3 (lit≤ tt) e)
+            (loops_close rows p image g acts (next known s a) (short_distance (own + 3) (mark_starts s.orders m)) (start known s) m w.operands w.memory w.input w.output ends
+            (short_arrives (base_of p g) own 3 (mark_starts s.orders m) (close refl)) s.fits.operands i a.landed)
+        cases false close ends i =
+            chosen known s false 0 (way_of_one (λ x v. to_mark_in (mark_of_number (m ∷ []) x) v) w.operands w) 3 (begins_next known s a o e) (loop_roomy acts p.room (m ∷ []) w.operands w s.room)
+            (step_is known s (Some o) e) (cheap known s o 3 (lit≤ tt) e)
+            (loops_once rows p image g acts (next known s a) (distance (own + 6) (mark_starts s.orders m)) (start known s) m w.operands w.memory w.input w.output ends
+            (jump_arrives (base_of p g) own 6 (mark_starts s.orders m)) s.fits.operands i a.landed)
+    loop_follows (m ∷ n ∷ ms) e = by_table (m ∷ n ∷ ms) e (let z = size_listed (order.LoopWay (m ∷ n ∷ ms)) in let y = behind known s a (order.LoopWay (m ∷ n ∷ ms)) e in omega arith) (code known s a (order.LoopWay (m ∷ n ∷ ms)) e)
+
+  module _ {q : Watched} {g place : ℕ} {acts : List OrderActivation} {w : Words} (s : Sound p image g place false acts w q) (a : Alone p image g place false acts w q s.orders) where
     next_roomy : (m : ℕ) (x : Option ℕ) → Roomy acts p.room (next_step p.limits.area m x w)
     next_roomy m x =
         let c = setting known s in
@@ -159,7 +173,7 @@ module _ (known : Given) where
     pub turn_follows : (x : Place) (line m : ℕ) → slice_get s.orders.list place ≡ Some (order.NextStep x line m) → Follow known (at g place false acts w Running) q
     turn_follows (cell.Word f n) line m e =
         let o = order.NextStep (cell.Word f n) line m in
-        let own = own_place s.orders.list place in
+        let own = own_place s.orders place in
         let here = here known s a in
         let st = all.stands g s.orders s.unit in
         let i = code known s a o e in
@@ -182,7 +196,7 @@ module _ (known : Given) where
         takes : (x : Option ℕ) → frame_word p.limits.area acts n ≡ x → Chooses p image 33 (next known s a) (start known s) g false line acts w.output q (next_step p.limits.area m x w)
         takes None is = tt
         takes (Some k) is =
-            let own = own_place s.orders.list place in
+            let own = own_place s.orders place in
             let here = here known s a in
             let i = code known s a o e in
             let ends : here + 17 ≡ next known s a = behind known s a o e in

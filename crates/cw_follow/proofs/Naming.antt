@@ -84,7 +84,7 @@ module _ (known : Given) where
   pub mark_listed : (to m k : ℕ) (o : Orders) → slice_get p.units to ≡ Some o → place_of p to m ≡ Some k → slice_get o.marks m ≡ Some k
   mark_listed to m k o unit is = sym (ap (λ u. mark_in u m) unit) ∙ is
 
-  pub procedure_is : (to n k : ℕ) (o : Orders) (e : ProcedureEntry) → slice_get p.units to ≡ Some o → procedure_at p to n ≡ Some e → place_of p to e.mark ≡ Some k → k ≤ length o.list → procedure_start (names_of o) n ≡ own_place o.list k
+  pub procedure_is : (to n k : ℕ) (o : Orders) (e : ProcedureEntry) → slice_get p.units to ≡ Some o → procedure_at p to n ≡ Some e → place_of p to e.mark ≡ Some k → k ≤ length o.list → procedure_start (names_of o) n ≡ own_place o k
   procedure_is to n k o e unit is there within =
       ap (mark_starts o) (got_index o.procedures n e.mark (procedure_listed to n o e unit is)) ∙ mark_start o e.mark k (mark_listed to e.mark k o unit there) within
 

@@ -108,7 +108,7 @@ module _ (known : Given) where
   module _ {q : Watched} {g place : ℕ} {loaded : Bool} {acts : List OrderActivation} {w : Words} (s : Sound p image g place loaded acts w q) where
     -- where the code of the block ends, where its last order is at work
     abbrev block_end : ℕ
-    block_end = order_place (base_of p g) s.orders.list (place + 1)
+    block_end = order_place (base_of p g) s.orders (place + 1)
 
     count_goes : (down : Bool) (line : ℕ) → carry_with p (loaded_after (count_order down line) true) (count_order down line) g place loaded acts w ≡ after p.room line (perform p.limits.area (counting down) w) g place true acts w
     count_goes true line = refl
@@ -122,7 +122,7 @@ module _ (known : Given) where
     count_line true line = refl
     count_line false line = refl
 
-    count_end : (down : Bool) (line : ℕ) → start_place known s + block_size (block.Count down line) order.Save ≡ block_end → start_place known s + 8 ≡ block_end
+    count_end : (down : Bool) (line : ℕ) → start_place known s + block_size false (block.Count down line) order.Save ≡ block_end → start_place known s + 8 ≡ block_end
     count_end true line e = omega arith
     count_end false line e = omega arith
 

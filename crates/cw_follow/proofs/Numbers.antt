@@ -11,12 +11,20 @@ use Rattle.cw_unit.specs.Operation.{holds}
 use Rattle.cw_order.specs.declared.order.Comparator.{Comparator}
 use Rattle.cw_order.specs.declared.order.Comparator.TheVariants as comparator
 use Rattle.cw_order.specs.OrderChanges.{comparison}
-use Rattle.cw_tmpl.specs.Templates.{opposite_of}
+use Rattle.cw_tmpl.specs.Templates.{opposite_of, comparison_of}
 use Rattle.cw_follow.proofs.WordLaws.{WordLaws}
 
 pub overflows_same : (z : ℤ) → i86.overflows 32768 z ≡ not (fits_word z)
 overflows_same (pos n) = grind (arith, ints, nat_tests)
 overflows_same (negsuc n) = grind (arith, ints, nat_tests)
+
+comparison_tells : (c : Comparator) (x y : ℤ) → run.compares (comparison_of c) x y ≡ holds (comparison c) x y
+comparison_tells comparator.Less x y = grind (arith, ints, nat_tests)
+comparison_tells comparator.LessEqual x y = grind (arith, ints, nat_tests)
+comparison_tells comparator.Equal x y = refl
+comparison_tells comparator.GreaterEqual x y = grind (arith, ints, nat_tests)
+comparison_tells comparator.Greater x y = grind (arith, ints, nat_tests)
+comparison_tells comparator.Unequal x y = refl
 
 -- the opposite of a comparison
 opposite_tells : (c : Comparator) (x y : ℤ) → run.compares (opposite_of c) x y ≡ not (holds (comparison c) x y)
@@ -49,6 +57,9 @@ module _ (laws : WordLaws) where
 
     pub difference_overflows_is : run.difference_overflows (unsigned x) (unsigned y) ≡ not (fits_word (x -ℤ y))
     difference_overflows_is = ap₂ (λ a b. i86.overflows 32768 (a -ℤ b)) left right ∙ overflows_same (x -ℤ y)
+
+    pub comparison_is : (c : Comparator) → run.words_compare (comparison_of c) (unsigned x) (unsigned y) ≡ holds (comparison c) x y
+    comparison_is c = ap₂ (run.compares (comparison_of c)) left right ∙ comparison_tells c x y
 
     pub opposite_is : (c : Comparator) → run.words_compare (opposite_of c) (unsigned x) (unsigned y) ≡ not (holds (comparison c) x y)
     opposite_is c = ap₂ (run.compares (opposite_of c)) left right ∙ opposite_tells c x y

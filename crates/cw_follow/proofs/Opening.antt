@@ -26,20 +26,23 @@ use Rattle.cw_tmpl.specs.declared.blocks.Block.TheVariants as block
 use Rattle.cw_tmpl.specs.declared.pieces.Coded.{Coded}
 use Rattle.cw_tmpl.specs.Blocks.{address_orders, element_orders, block_at}
 use Rattle.cw_tmpl.specs.Mnemonics.{slot, argument, load, memory}
-use Rattle.cw_tmpl.specs.Templates.{element_tested}
+use Rattle.cw_tmpl.specs.Templates.{element_tested, template_by}
 use Rattle.cw_follow.specs.Showing.{shown_as}
 use Rattle.cw_follow.proofs.Acting.{act}
-use Rattle.cw_follow.proofs.Chains.{Is, shows, number, near, push, pop, call, load_at}
+use Rattle.cw_follow.proofs.Chains.{Is, shows, number, near, push, pop, call, load_at, short}
 use Rattle.cw_follow.proofs.ElementBlocks.{begun_code}
 use Rattle.cw_follow.proofs.ElementTests.{formed_list_is}
 use Rattle.cw_follow.proofs.Orders.{LandedAt, over_landed}
 use Rattle.cw_follow.proofs.Rows.{Rows}
 use Rattle.cw_follow.proofs.Stacks.{record_of, top_is}
-use Rattle.cw_follow.proofs.Standing.{Image, HasAt, HasPiecesFrom, may_begin}
+use Rattle.cw_follow.proofs.Standing.{Image, HasAt, HasPiecesFrom, may_begin, first_of, behind_start, order_place}
 use Rattle.cw_follow.proofs.States.{Given, Sound}
-use Rattle.cw_follow.proofs.Steps.{Alone, wrong_way, code, block_code, start_place, landed_here, begins_block, begun_block}
+use Rattle.cw_follow.proofs.Steps.{Alone, wrong_way, code, block_code, start_place, landed_here, begins_block, begun_block, short_alone}
 use Rattle.cw_follow.proofs.Straight.{One, LoadSlot, LoadArgument, step}
 use Rattle.cw_follow.proofs.Watched.{Watched, watched_step}
+use Rattle.cw_tmpl.specs.ReferenceCode.{names_of}
+use Rattle.cw_tmpl.proofs.Sizes.{own_place}
+use Rattle.cw_follow.specs.Placing.{base_of}
 
 module _ (rows : Rows) (prog : OrderProgram) (image : Image) {first : Bool} {at g : ℕ} {loaded : Bool} {acts : List OrderActivation} {w : Words} {q : Watched} (l : LandedAt first prog image at g loaded acts w q) where
   -- behind the first instruction the processor is at work, and what was written is what it was
@@ -55,6 +58,9 @@ module _ (rows : Rows) (prog : OrderProgram) (image : Image) {first : Bool} {at 
 
   zero_opens : HasAt first image at (i86.AluRm 6 true true 0 (rms.Reg 0)) → ShowsNothing
   zero_opens h = opens l.kept.wrote (step rows (One 0 0) h tt l.stacked.is)
+
+  short_opens : (by : ℕ) → HasAt first image at (i86.JumpShort by) → ShowsNothing
+  short_opens by h = opens l.kept.wrote (short rows by h l.stacked.is)
 
   jump_opens : (by : ℕ) → HasAt first image at (i86.Jump by) → ShowsNothing
   jump_opens by h = opens l.kept.wrote (near rows by h l.stacked.is)
@@ -110,12 +116,18 @@ module _ (known : Given) where
   open known use {rows, p, image, all, coded, few, low}
 
   module _ {q : Watched} {g place : ℕ} {acts : List OrderActivation} {w : Words} where
-    low_top : (s : Sound p image g place false acts w q) (a : Alone p image g place false acts w q s.orders.list) → (landed_here known s a).top < 32768
+    low_top : (s : Sound p image g place false acts w q) (a : Alone p image g place false acts w q s.orders) → (landed_here known s a).top < 32768
     low_top s a = let l = landed_here known s a in let t = top_is p acts l.stack l.top w.operands l.operands in omega arith
 
-    pub single_opens : (loaded : Bool) (s : Sound p image g place loaded acts w q) (a : Alone p image g place loaded acts w q s.orders.list) (o : Order) → slice_get s.orders.list place ≡ Some o → may_begin o ≡ true
+    jump_shows : (loaded : Bool) (s : Sound p image g place loaded acts w q) (a : Alone p image g place loaded acts w q s.orders) (m : ℕ) (short : Bool)
+        → HasPiecesFrom (first_of (order.Jump m) (behind_start s.orders.list place)) image (all.stands g s.orders s.unit).value (order_place (base_of p g) s.orders place) (template_by short (names_of s.orders) (own_place s.orders place) (order.Jump m))
         → shown_as (observed (processor_step q.processor)) ≡ record { output = w.output; end = Running }
-    single_opens loaded s a (order.Jump m) e may = jump_opens rows p image (landed_here known s a) _ (code known s a (order.Jump m) e).0
+    jump_shows loaded s a m true i = short_opens rows p image (landed_here known s a) _ i.0
+    jump_shows loaded s a m false i = jump_opens rows p image (landed_here known s a) _ i.0
+
+    pub single_opens : (loaded : Bool) (s : Sound p image g place loaded acts w q) (a : Alone p image g place loaded acts w q s.orders) (o : Order) → slice_get s.orders.list place ≡ Some o → may_begin o ≡ true
+        → shown_as (observed (processor_step q.processor)) ≡ record { output = w.output; end = Running }
+    single_opens loaded s a (order.Jump m) e may = jump_shows loaded s a m (short_alone known s a (order.Jump m)) (code known s a (order.Jump m) e)
     single_opens false s a (order.Const zero) e may = zero_opens rows p image (landed_here known s a) (code known s a (order.Const zero) e).0
     single_opens false s a (order.Const (suc n)) e may = number_opens rows p image (landed_here known s a) 0 (suc n) (code known s a (order.Const (suc n)) e).0
     single_opens false s a (order.Home f n) e may = number_opens rows p image (landed_here known s a) 0 _ (code known s a (order.Home f n) e).0

@@ -10,7 +10,7 @@ use Rattle.cw_i86.specs.declared.instr.Instr.{Instr}
 use Rattle.cw_i86.specs.declared.instr.Instr.TheVariants as i86
 use Rattle.cw_i86.specs.declared.instr.Rm.{Rm}
 use Rattle.cw_run86.specs.Processor.{Told}
-use Rattle.cw_run86.specs.Views.{View, condition_of, product_low, product_overflows, word_sum, word_difference, sum_overflows, difference_overflows, with_number}
+use Rattle.cw_run86.specs.Views.{View, product_low, product_overflows, word_sum, word_difference, sum_overflows, difference_overflows, with_number}
 use Rattle.cw_rows86.specs.Locations.{InRegister, InData, Denotes}
 use Rattle.cw_rows86.specs.Operations.{WordOperation, Add, Or, And, Subtract, Xor, Compare, number_of, operated_on, flags_after}
 use Rattle.cw_rows86.specs.Acts.{Operate, OperateNumber}
@@ -22,7 +22,6 @@ use Rattle.cw_unit.specs.Operation.{holds}
 use Rattle.cw_order.specs.declared.order.Comparator.{Comparator}
 use Rattle.cw_order.specs.OrderChanges.{to_mark_if, comparison}
 use Rattle.cw_tmpl.specs.Library.{stop_place}
-use Rattle.cw_tmpl.specs.Templates.{opposite_of}
 use Rattle.cw_follow.proofs.Watched.{Watched, watched_step}
 use Rattle.cw_follow.proofs.Chains.{Is, IsCompared, view, last}
 use Rattle.cw_follow.proofs.Acting.{act}
@@ -32,6 +31,7 @@ use Rattle.cw_follow.proofs.Operands.{Setting, words, DoesHere}
 use Rattle.cw_follow.proofs.Numbers.{sum_overflows_is, difference_overflows_is, sum_is, difference_is}
 use Rattle.cw_follow.proofs.Bits.{ands, ors, xors}
 use Rattle.cw_follow.proofs.Standing.{Has, HasAll}
+use Rattle.cw_follow.proofs.Branches.{branch_size, goes_by, branch_code}
 
 module _ (c : Setting) (memory : List ℤ) (input output : List ℕ) where
   -- The top operand x is in AX, and an operation of the arithmetic unit on AX and y is this instruction, of so many bytes.
@@ -171,19 +171,17 @@ module _ (c : Setting) (memory : List ℤ) (input output : List ℕ) where
       bits_of to (bit_xor (unsigned x) (unsigned y)) x y (signed (bit_xor (unsigned x) (unsigned y))) rest r e (xor_comm (unsigned x) (unsigned y) ∙ xors c memory input output x y fx fy) (r.step Xor h).0
 
   -- a comparison, and the way on
-  pub comparison_of : {p : Watched} {at size : ℕ} {i : WordOperation → Instr} (to by : ℕ) (start : ℕ → ℕ) (k : Comparator) (m : ℕ) (x y : ℤ) (rest : List Operand) → FitsWord x → FitsWord y → at + size + 5 ≡ to
-      → (at + size + 5 + by) % 65536 ≡ start m % 65536 → Has c.image at (i Compare) → HasAll c.image (at + size) (i86.JumpIf (condition_of (opposite_of k)) 3 ∷ i86.Jump by ∷ []) → Named at size i x y rest p
+  pub comparison_of : {p : Watched} {at size : ℕ} {i : WordOperation → Instr} (short : Bool) (to by : ℕ) (start : ℕ → ℕ) (k : Comparator) (m : ℕ) (x y : ℤ) (rest : List Operand) → FitsWord x → FitsWord y → at + size + branch_size short ≡ to
+      → (at + size + branch_size short + goes_by short by) % 65536 ≡ start m % 65536 → Has c.image at (i Compare) → HasAll c.image (at + size) (branch_code short k by) → Named at size i x y rest p
       → Chooses c.program c.image 3 to start c.g false 0 c.acts output p (to_mark_if (holds (comparison k) x y) m (words rest memory input output))
-  comparison_of {p} {at} {size} to by start k m x y rest fx fy e arrives h i r =
-      let e' : at + size + 2 + 3 ≡ to = omega arith in
-      let a' : (at + size + 2 + 3 + by) % 65536 ≡ start m % 65536 = omega arith in
+  comparison_of {p} {at} {size} short to by start k m x y rest fx fy e arrives h i r =
       let stepped = r.step Compare h in
       let V : View = view (unsigned x) r.cx r.dx r.bx (2 * r.top) (record_of c.acts) r.si c.program.limits.area (difference_overflows (unsigned x) (unsigned y)) r.cells r.stack r.left r.told in
       let Between : Watched → Type 0 = IsCompared c.image (at + size) V (unsigned x) (unsigned y) in
       let there : Between (watched_step p) = record { is = stepped.0; flags = c.rows.as_compared (unsigned x) (unsigned y) stepped.1.0 (watched_step p).processor stepped.1.1 } in
       sooner c.program c.image 2 to start c.g false 0 c.acts {T = Between} 1 3 (to_mark_if (holds (comparison k) x y) m (words rest memory input output)) (lit≤ tt)
       (last c.rows r.is r.kept.wrote there)
-      (λ q u. branches c.rows c.program c.image c.g c.acts to r.top by start k m x y rest memory input output e' a' fx fy refl refl r.under r.kept i u)
+      (λ q u. branches c.rows c.program c.image c.g c.acts short to r.top by start k m x y rest memory input output e arrives fx fy refl refl r.under r.kept i u)
 
   -- ---- products
 

@@ -25,16 +25,18 @@ use Rattle.cw_order.specs.OrderChanges.{Way, Onward, ToMark, Barred, Nowhere, wa
 use Rattle.cw_order.specs.OrderMachine.{unrefused}
 use Rattle.cw_tmpl.specs.Mnemonics.{at_bx}
 use Rattle.cw_tmpl.specs.Library.{stop_place}
-use Rattle.cw_tmpl.specs.Templates.{opposite_of}
+use Rattle.cw_tmpl.specs.Templates.{opposite_of, comparison_of}
 use Rattle.cw_routines.specs.Results.{Stands}
 use Rattle.cw_follow.proofs.Watched.{Watched, watched_step, watched_machine, over}
 use Rattle.cw_follow.proofs.WordLaws.{WordLaws}
 use Rattle.cw_follow.proofs.Rows.{Rows}
-use Rattle.cw_follow.proofs.Chains.{IsAt, Is, over_is, IsCompared, Leads, at_work, view, seen, to_place, move, exchange, push, pop, load, store, load_at, store_at, add, subtract, negate, double, no_overflow, passes, near, compare, compared_jumps, compared_passes, out, shows, more, compared_more, last, done}
+use Rattle.cw_follow.proofs.Chains.{IsAt, Is, over_is, IsCompared, Leads, at_work, view, seen, to_place, move, exchange, push, pop, load, store, load_at, store_at, add, subtract, negate, double, no_overflow, passes, near, compare, compared_jumps, compared_passes, out, shows, more, compared_more, last, done, short}
 use Rattle.cw_follow.proofs.Routines.{HasLine, StackedAt, Over, stops, put_at, put_off, with_ax}
 use Rattle.cw_follow.proofs.Stacks.{level, record_of, code_place, StackIs, OperandsAre, Piled, top_is, SameFrom, same_put, stack_pushed, piled_same}
-use Rattle.cw_follow.proofs.Numbers.{sum_overflows_is, difference_overflows_is, negative_overflows_is, sum_is, difference_is, negative_is, opposite_is, fits_tested, unsigned_pos}
+use Rattle.cw_follow.proofs.Numbers.{sum_overflows_is, difference_overflows_is, negative_overflows_is, sum_is, difference_is, negative_is, opposite_is, fits_tested, unsigned_pos, comparison_is}
 use Rattle.cw_follow.proofs.Standing.{Has, HasWord, HasAll, HasFrom, Image, HasAt}
+use Rattle.cw_follow.proofs.Branches.{branch_size, goes_by, branch_code}
+use Rattle.cw_i86.specs.State.{sign_extended}
 
 -- ---- what is kept from order to order
 
@@ -594,13 +596,18 @@ module _ (rows : Rows) (prog : OrderProgram) (image : Image) (g : ℕ) (acts : L
       let s = l.stacked in
       further 1 (lit≤ tt) (lit< tt) (last rows s.is l.kept.wrote (landed loaded to l.top w.operands w.memory w.input w.output refl l.operands l.kept (to_place arrives (near rows by i s.is))))
 
-  -- behind a comparison
-  pub branches : {p : Watched} {at ax cx dx bx si a b : ℕ} {overflow : Bool} {cells stack : ℕ → ℕ} {left : List ℕ} {told : Told} (to top by : ℕ) (start : ℕ → ℕ) (c : Comparator) (m : ℕ) (x y : ℤ) (operands : List Operand) (memory : List ℤ) (input output : List ℕ)
+  pub short_jumps : {p : Watched} {first : Bool} {at : ℕ} (to by : ℕ) (loaded : Bool) (w : Words) → (at + 2 + sign_extended by) % 65536 ≡ to % 65536 → HasAt first image at (i86.JumpShort by) → LandedAt first prog image at g loaded acts w p
+      → Leading w.output 1 p (Landed prog image to g loaded acts w)
+  short_jumps to by loaded w arrives i l =
+      let s = l.stacked in
+      further 1 (lit≤ tt) (lit< tt) (last rows s.is l.kept.wrote (landed loaded to l.top w.operands w.memory w.input w.output refl l.operands l.kept (to_place arrives (short rows by i s.is))))
+
+  near_branches : {p : Watched} {at ax cx dx bx si a b : ℕ} {overflow : Bool} {cells stack : ℕ → ℕ} {left : List ℕ} {told : Told} (to top by : ℕ) (start : ℕ → ℕ) (c : Comparator) (m : ℕ) (x y : ℤ) (operands : List Operand) (memory : List ℤ) (input output : List ℕ)
       → at + 2 + 3 ≡ to → (at + 2 + 3 + by) % 65536 ≡ start m % 65536 → FitsWord x → FitsWord y → a ≡ unsigned x → b ≡ unsigned y
       → StackIs prog acts stack top operands → Kept prog g acts memory input output cells stack left told → HasAll image at (i86.JumpIf (condition_of (opposite_of c)) 3 ∷ i86.Jump by ∷ [])
       → IsCompared image at (view ax cx dx bx (2 * top) (record_of acts) si prog.limits.area overflow cells stack left told) a b p
       → Chooses prog image 2 to start g false 0 acts output p (to_mark_if (holds (comparison c) x y) m (record { operands = operands; memory = memory; input = input; output = output }))
-  branches {p} {at} {ax} {cx} {dx} {bx} {si} {a} {b} {overflow} {cells} {stack} {left} {told} to top by start c m x y operands memory input output e arrives fx fy ea eb h k i s = cases (holds (comparison c) x y) refl
+  near_branches {p} {at} {ax} {cx} {dx} {bx} {si} {a} {b} {overflow} {cells} {stack} {left} {told} to top by start c m x y operands memory input output e arrives fx fy ea eb h k i s = cases (holds (comparison c) x y) refl
     where
       V : View
       V = view ax cx dx bx (2 * top) (record_of acts) si prog.limits.area overflow cells stack left told
@@ -621,15 +628,45 @@ module _ (rows : Rows) (prog : OrderProgram) (image : Image) (g : ℕ) (acts : L
           last rows u k.wrote (landed false (start m) top operands memory input output refl h k (to_place arrives (near rows by i.1.0 u)))))
       cases false t = further 1 (lit≤ tt) (lit< tt) (last rows s.is k.wrote (landed false to top operands memory input output e h k (compared_jumps rows (opposite_of c) 3 la lb (turned ∙ ap not t) i.0 s)))
 
-  pub chooses : {p : Watched} {at : ℕ} (to by : ℕ) (start : ℕ → ℕ) (c : Comparator) (m : ℕ) (operands : List Operand) (memory : List ℤ) (input output : List ℕ) → at + 8 ≡ to → (at + 8 + by) % 65536 ≡ start m % 65536
-      → All OperandFits operands → HasAll image at (i86.Pop 3 ∷ with_other 7 3 0 ∷ i86.JumpIf (condition_of (opposite_of c)) 3 ∷ i86.Jump by ∷ [])
+  short_branches : {p : Watched} {at ax cx dx bx si a b : ℕ} {overflow : Bool} {cells stack : ℕ → ℕ} {left : List ℕ} {told : Told} (to top by : ℕ) (start : ℕ → ℕ) (c : Comparator) (m : ℕ) (x y : ℤ) (operands : List Operand) (memory : List ℤ) (input output : List ℕ)
+      → at + 2 ≡ to → (at + 2 + sign_extended by) % 65536 ≡ start m % 65536 → FitsWord x → FitsWord y → a ≡ unsigned x → b ≡ unsigned y
+      → StackIs prog acts stack top operands → Kept prog g acts memory input output cells stack left told → HasAll image at (i86.JumpIf (condition_of (comparison_of c)) by ∷ [])
+      → IsCompared image at (view ax cx dx bx (2 * top) (record_of acts) si prog.limits.area overflow cells stack left told) a b p
+      → Chooses prog image 2 to start g false 0 acts output p (to_mark_if (holds (comparison c) x y) m (record { operands = operands; memory = memory; input = input; output = output }))
+  short_branches {p} {at} {ax} {cx} {dx} {bx} {si} {a} {b} {overflow} {cells} {stack} {left} {told} to top by start c m x y operands memory input output e arrives fx fy ea eb h k i s = cases (holds (comparison c) x y) refl
+    where
+      la : a < 65536
+      la = subst (λ n. n < 65536) (sym ea) (rows.words.unsigned_fits x fx)
+
+      lb : b < 65536
+      lb = subst (λ n. n < 65536) (sym eb) (rows.words.unsigned_fits y fy)
+
+      told_so : words_compare (comparison_of c) a b ≡ holds (comparison c) x y
+      told_so = ap₂ (words_compare (comparison_of c)) ea eb ∙ comparison_is rows.words x y fx fy c
+
+      cases : (t : Bool) → holds (comparison c) x y ≡ t → Chooses prog image 2 to start g false 0 acts output p (to_mark_if t m (record { operands = operands; memory = memory; input = input; output = output }))
+      cases true t = further 1 (lit≤ tt) (lit< tt) (last rows s.is k.wrote (landed false (start m) top operands memory input output refl h k (to_place arrives (compared_jumps rows (comparison_of c) by la lb (told_so ∙ t) i.0 s))))
+      cases false t = further 1 (lit≤ tt) (lit< tt) (last rows s.is k.wrote (landed false to top operands memory input output e h k (compared_passes rows (comparison_of c) by la lb (told_so ∙ t) i.0 s)))
+
+  -- behind a comparison: near or short
+  pub branches : {p : Watched} {at ax cx dx bx si a b : ℕ} {overflow : Bool} {cells stack : ℕ → ℕ} {left : List ℕ} {told : Told} (short : Bool) (to top by : ℕ) (start : ℕ → ℕ) (c : Comparator) (m : ℕ) (x y : ℤ) (operands : List Operand) (memory : List ℤ) (input output : List ℕ)
+      → at + branch_size short ≡ to → (at + branch_size short + goes_by short by) % 65536 ≡ start m % 65536 → FitsWord x → FitsWord y → a ≡ unsigned x → b ≡ unsigned y
+      → StackIs prog acts stack top operands → Kept prog g acts memory input output cells stack left told → HasAll image at (branch_code short c by)
+      → IsCompared image at (view ax cx dx bx (2 * top) (record_of acts) si prog.limits.area overflow cells stack left told) a b p
+      → Chooses prog image 2 to start g false 0 acts output p (to_mark_if (holds (comparison c) x y) m (record { operands = operands; memory = memory; input = input; output = output }))
+  branches true to top by start c m x y operands memory input output e arrives fx fy ea eb h k i s = short_branches to top by start c m x y operands memory input output e arrives fx fy ea eb h k i s
+  branches {at = at} false to top by start c m x y operands memory input output e arrives fx fy ea eb h k i s =
+      near_branches to top by start c m x y operands memory input output (let f : at + 2 + 3 ≡ to = omega arith in f) (let f : (at + 2 + 3 + by) % 65536 ≡ start m % 65536 = omega arith in f) fx fy ea eb h k i s
+
+  pub chooses : {p : Watched} {at : ℕ} (short : Bool) (to by : ℕ) (start : ℕ → ℕ) (c : Comparator) (m : ℕ) (operands : List Operand) (memory : List ℤ) (input output : List ℕ) → at + (3 + branch_size short) ≡ to → (at + (3 + branch_size short) + goes_by short by) % 65536 ≡ start m % 65536
+      → All OperandFits operands → HasAll image at (i86.Pop 3 ∷ with_other 7 3 0 ∷ branch_code short c by)
       → Landed prog image at g true acts (record { operands = operands; memory = memory; input = input; output = output }) p
       → Chooses prog image 4 to start g false 0 acts output p (way_of_two (λ x y v. to_mark_if (holds (comparison c) x y) m v) (record { operands = operands; memory = memory; input = input; output = output }))
-  chooses to by start c m [] memory input output e arrives fits i l = tt
-  chooses to by start c m (Held d ∷ rest) memory input output e arrives fits i l = tt
-  chooses to by start c m (Word y ∷ []) memory input output e arrives fits i l = tt
-  chooses to by start c m (Word y ∷ Held d ∷ rest) memory input output e arrives fits i l = tt
-  chooses {p} {at} to by start c m (Word y ∷ Word x ∷ rest) memory input output e arrives fits i l =
+  chooses short to by start c m [] memory input output e arrives fits i l = tt
+  chooses short to by start c m (Held d ∷ rest) memory input output e arrives fits i l = tt
+  chooses short to by start c m (Word y ∷ []) memory input output e arrives fits i l = tt
+  chooses short to by start c m (Word y ∷ Held d ∷ rest) memory input output e arrives fits i l = tt
+  chooses {p} {at} short to by start c m (Word y ∷ Word x ∷ rest) memory input output e arrives fits i l =
       let s = l.stacked in
       let k = l.kept in
       let h = l.operands in
@@ -638,10 +675,10 @@ module _ (rows : Rows) (prog : OrderProgram) (image : Image) (g : ℕ) (acts : L
       let n = l.stack l.top in
       let t = top_is prog acts l.stack (suc l.top) rest h.1.1 in
       let lt : l.top < 32764 = omega arith in
-      let e' : at + 1 + 2 + 2 + 3 ≡ to = omega arith in
-      let a' : (at + 1 + 2 + 2 + 3 + by) % 65536 ≡ start m % 65536 = omega arith in
+      let e' : at + 1 + 2 + branch_size short ≡ to = omega arith in
+      let a' : (at + 1 + 2 + branch_size short + goes_by short by) % 65536 ≡ start m % 65536 = omega arith in
       let Between : Watched → Type 0 = IsCompared image (at + 1 + 2) (view s.ax s.cx s.dx n (2 * suc l.top) (record_of acts) s.si prog.limits.area (difference_overflows n s.ax) l.cells l.stack l.input l.told) n s.ax in
       sooner prog image 2 to start g false 0 acts {T = Between} 2 4 (to_mark_if (holds (comparison c) x y) m (record { operands = rest; memory = memory; input = input; output = output })) (lit≤ tt)
       (more rows {to = at + 1} {w = view s.ax s.cx s.dx n (2 * suc l.top) (record_of acts) s.si prog.limits.area s.overflow l.cells l.stack l.input l.told} s.is k.wrote (pop_bx l.top lt i.0 s.is) (λ q u.
       compared_more rows {Between = Between} u k.wrote (compare rows 3 0 i.1.0 u) (λ q u. done u)))
-      (λ q u. branches to (suc l.top) by start c m x y rest memory input output e' a' fx fy h.1.0 h.0 h.1.1 k i.1.1 u)
+      (λ q u. branches short to (suc l.top) by start c m x y rest memory input output e' a' fx fy h.1.0 h.0 h.1.1 k i.1.1 u)

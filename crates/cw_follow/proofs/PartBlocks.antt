@@ -179,7 +179,7 @@ module _ (known : Given) where
   module _ {q : Watched} {g place : ℕ} {loaded : Bool} {acts : List OrderActivation} {w : Words} (s : Sound p image g place loaded acts w q) where
     -- where the code of the block ends, where its last order is at work
     abbrev block_end : ℕ
-    block_end = order_place (base_of p g) s.orders.list (place + 1)
+    block_end = order_place (base_of p g) s.orders (place + 1)
 
     abbrev from_here : ℕ
     from_here = start_place known s

@@ -13,19 +13,21 @@ use Rattle.cw_unit.specs.Words.{Words, word_at}
 use Rattle.cw_order.specs.declared.order.Order.{Order}
 use Rattle.cw_order.specs.OrderState.{OrderActivation}
 use Rattle.cw_order.specs.OrderProgram.{OrderProgram}
-use Rattle.cw_tmpl.specs.ReferenceCode.{entry_size, order_places}
+use Rattle.cw_tmpl.specs.ReferenceCode.{entry_size, order_places, reach_of}
 use Rattle.cw_tmpl.proofs.Sizes.{places_are}
 use Rattle.cw_follow.specs.Passing.{at_work, passes}
 use Rattle.cw_follow.proofs.Standing.{order_place, Image}
 use Rattle.cw_follow.proofs.WordLaws.{WordLaws}
 use Rattle.cw_follow.proofs.Watched.{Watched}
 use Rattle.cw_follow.proofs.Orders.{Landed}
+use Rattle.cw_tmpl.specs.Templates.{is_short}
+use Rattle.cw_order.specs.declared.order.Orders.{Orders}
 
 -- the place of an order, as the list of places has it
-pub listed_place : (base : ℕ) (list : List Order) (k : ℕ) (o : Order) → slice_get list k ≡ Some o → base + slice_index (order_places list) k ≡ order_place base list k
-listed_place base list k o e =
-    let lt = slice_get_within list k o e in
-    ap (λ n. base + n) (places_are entry_size 0 list k (omega arith))
+pub listed_place : (base : ℕ) (o : Orders) (k : ℕ) (it : Order) → slice_get o.list k ≡ Some it → base + slice_index (order_places o) k ≡ order_place base o k
+listed_place base o k it e =
+    let lt = slice_get_within o.list k it e in
+    ap (λ n. base + n) (places_are (is_short (reach_of o)) entry_size 0 0 o.list k (omega arith))
 
 -- the words of the data segment, from one on
 words_are : WordLaws → (s : State) (first : ℕ) (memory : List ℤ) → All FitsWord memory → ((k : ℕ) → k < length memory → word_in s.memory data_segment (2 * (first + k)) ≡ unsigned (word_at memory k)) → data_words first (length memory) s ≡ memory

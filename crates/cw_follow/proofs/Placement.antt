@@ -11,15 +11,15 @@ use Rattle.cw_tmpl.specs.declared.pieces.Coded.{Coded}
 use Rattle.cw_tmpl.specs.Pieces.{Filling, blanks, filled}
 use Rattle.cw_tmpl.specs.Library.{library_bytes, entry_place}
 use Rattle.cw_routines.specs.Results.{Stands as LibraryStands}
-use Rattle.cw_tmpl.specs.Templates.{block_pieces, entry_pieces, landing_pieces, switch_pieces}
+use Rattle.cw_tmpl.specs.Templates.{entry_pieces, landing_pieces, switch_pieces, is_short}
 use Rattle.cw_tmpl.specs.Blocks.{block_at, left_at}
 use Rattle.cw_tmpl.specs.Names.{Names, mark_place, landing_start, switch_start, switch_size}
-use Rattle.cw_tmpl.specs.ReferenceCode.{templates, landings, switches, switch_places, landings_place, switches_place, names_of, pieces_of, entry_size}
+use Rattle.cw_tmpl.specs.ReferenceCode.{templates, landings, switches, switch_places, landings_place, switches_place, names_of, pieces_of, entry_size, reach_of}
 use Rattle.cw_follow.specs.Placing.{Fills, total_size, base_of, place_after, AreCodes, no_code, a_code, IsImage, Codable}
 use Rattle.cw_follow.proofs.Fine.{AllFine, pieces_there, OrderFits, NumberFits, fits_at, entry_fine, base_fine, switch_fine, block_fine}
 use Rattle.cw_tmpl.proofs.Growing.{blanks-append}
 use Rattle.cw_tmpl.proofs.Filling.{filled-append, length-filled}
-use Rattle.cw_tmpl.proofs.Sizes.{in_middle, own_place, size_to, size_of_templates, size_of_landings, size_of_switch, landings_at}
+use Rattle.cw_tmpl.proofs.Sizes.{in_middle, own_place, size_to, size_of_templates, size_of_landings, size_of_switch, landings_at, pieces_by}
 use Rattle.cw_follow.proofs.Bytes.{HasPieces, order_place, pieces_at, Stands, AllStand}
 
 -- ---- one segment
@@ -53,8 +53,9 @@ first_of_all part rest = record { before = []; rest = rest; is = refl; long = re
 at_offset : (all : List Coded) (m n : ℕ) (part : List Coded) → m ≡ n → InMiddle all m part → InMiddle all n part
 at_offset all m n part e i = subst (λ k. InMiddle all k part) e i
 
-order_in_middle : (names : Names) (at left : ℕ) (list : List Order) (k : ℕ) (o : Order) → slice_get list k ≡ Some o → InMiddle (templates names at left list) (size_to left list k) (block_pieces names (at + size_to left list k) (block_at (left_at left list k) (drop k list)) o)
-order_in_middle names at left list k o e = let m = in_middle names at left list k o e in record { before = m.before; rest = m.behind; is = m.is; long = m.size }
+order_in_middle : (names : Names) (at : ℕ) (list : List Order) (k : ℕ) (o : Order) → slice_get list k ≡ Some o
+    → InMiddle (templates names at 0 0 list) (size_to (is_short names.reach) 0 0 list k) (pieces_by names (at + size_to (is_short names.reach) 0 0 list k) k (block_at (left_at 0 list k) (drop k list)) o)
+order_in_middle names at list k o e = let m = in_middle names at 0 0 list k k o (omega arith) e in record { before = m.before; rest = m.behind; is = m.is; long = m.size }
 
 landing_in_middle : (names : Names) (at : ℕ) (list : List LabelMark) (k : ℕ) (m : LabelMark) → slice_get list k ≡ Some m → InMiddle (landings names at list) (15 * k) (landing_pieces names (at + 15 * k) m)
 landing_in_middle names at [] k m e = absurd (cc)
@@ -123,7 +124,7 @@ module _ (p : OrderProgram) (image before behind : List ℕ) (g next : ℕ) (val
     names = names_of o
 
     abbrev orders_code : List Coded
-    orders_code = templates names entry_size 0 o.list
+    orders_code = templates names entry_size 0 0 o.list
 
     abbrev landings_code : List Coded
     landings_code = landings names (landings_place o) o.labels
@@ -137,21 +138,21 @@ module _ (p : OrderProgram) (image before behind : List ℕ) (g next : ℕ) (val
         subst (λ n. HasPieces image value n entry_pieces) e
         (part_there 0 entry_pieces (first_of_all entry_pieces (orders_code ++ (landings_code ++ switches_code))) (entry_fine p g next value fills near))
 
-    order_there : (k : ℕ) (order : Order) → slice_get o.list k ≡ Some order → HasPieces image value (order_place (base_of p g) o.list k) (pieces_at o k order)
+    order_there : (k : ℕ) (order : Order) → slice_get o.list k ≡ Some order → HasPieces image value (order_place (base_of p g) o k) (pieces_at o k order)
     order_there k order e =
-        part_there (own_place o.list k) (pieces_at o k order)
-        (behind_first entry_pieces (orders_code ++ (landings_code ++ switches_code)) entry_size (size_to 0 o.list k) (pieces_at o k order) refl
-        (before_others orders_code (landings_code ++ switches_code) (size_to 0 o.list k) (pieces_at o k order) (order_in_middle names entry_size 0 o.list k order e)))
-        (block_fine p g next value fills near names (own_place o.list k) (block_at (left_at 0 o.list k) (drop k o.list)) order (fits_at (left_at 0 o.list k) o.list k order e fits))
+        part_there (own_place o k) (pieces_at o k order)
+        (behind_first entry_pieces (orders_code ++ (landings_code ++ switches_code)) entry_size (size_to (is_short (reach_of o)) 0 0 o.list k) (pieces_at o k order) refl
+        (before_others orders_code (landings_code ++ switches_code) (size_to (is_short (reach_of o)) 0 0 o.list k) (pieces_at o k order) (order_in_middle names entry_size o.list k order e)))
+        (block_fine p g next value fills near names (own_place o k) (is_short (reach_of o) k (block_at (left_at 0 o.list k) (drop k o.list)) order) (block_at (left_at 0 o.list k) (drop k o.list)) order (fits_at (left_at 0 o.list k) o.list k order e fits))
 
     landing_placed : (l : ℕ) (m : LabelMark) → slice_get o.labels l ≡ Some m → InMiddle (pieces_of o) (landing_start names l) (landing_pieces names (landing_start names l) m)
     landing_placed l m e =
         let part = landing_pieces names (landing_start names l) m in
-        let size = size_of_templates names entry_size 0 o.list in
+        let size = size_of_templates names entry_size 0 0 o.list in
         let begins = landings_at o in
-        at_offset (pieces_of o) (entry_size + (size_to 0 o.list (length o.list) + 15 * l)) (landing_start names l) part (omega arith)
-        (behind_first entry_pieces (orders_code ++ (landings_code ++ switches_code)) entry_size (size_to 0 o.list (length o.list) + 15 * l) part refl
-        (behind_first orders_code (landings_code ++ switches_code) (size_to 0 o.list (length o.list)) (15 * l) part size
+        at_offset (pieces_of o) (entry_size + (size_to (is_short (reach_of o)) 0 0 o.list (length o.list) + 15 * l)) (landing_start names l) part (omega arith)
+        (behind_first entry_pieces (orders_code ++ (landings_code ++ switches_code)) entry_size (size_to (is_short (reach_of o)) 0 0 o.list (length o.list) + 15 * l) part refl
+        (behind_first orders_code (landings_code ++ switches_code) (size_to (is_short (reach_of o)) 0 0 o.list (length o.list)) (15 * l) part size
         (before_others landings_code switches_code (15 * l) part (landing_in_middle names (landings_place o) o.labels l m e))))
 
     landing_there : (l : ℕ) (m : LabelMark) → slice_get o.labels l ≡ Some m → HasPieces image value (base_of p g + landing_start names l) (landing_pieces names (landing_start names l) m)
@@ -162,14 +163,14 @@ module _ (p : OrderProgram) (image before behind : List ℕ) (g next : ℕ) (val
         let i = switch_in_middle names (switches_place o) o.switches n gs e in
         let start = switches_place o + i.0 in
         let part = switch_pieces names start gs in
-        let size = size_of_templates names entry_size 0 o.list in
+        let size = size_of_templates names entry_size 0 0 o.list in
         let begins = landings_at o in
         let landed = size_of_landings names (landings_place o) o.labels in
         subst (λ k. (switches_place o ≤ k) × InMiddle (pieces_of o) k (switch_pieces names k gs)) (sym i.1) (
           (omega arith),
-          at_offset (pieces_of o) (entry_size + (size_to 0 o.list (length o.list) + (15 * length o.labels + i.0))) start part (omega arith)
-              (behind_first entry_pieces (orders_code ++ (landings_code ++ switches_code)) entry_size (size_to 0 o.list (length o.list) + (15 * length o.labels + i.0)) part refl
-              (behind_first orders_code (landings_code ++ switches_code) (size_to 0 o.list (length o.list)) (15 * length o.labels + i.0) part size
+          at_offset (pieces_of o) (entry_size + (size_to (is_short (reach_of o)) 0 0 o.list (length o.list) + (15 * length o.labels + i.0))) start part (omega arith)
+              (behind_first entry_pieces (orders_code ++ (landings_code ++ switches_code)) entry_size (size_to (is_short (reach_of o)) 0 0 o.list (length o.list) + (15 * length o.labels + i.0)) part refl
+              (behind_first orders_code (landings_code ++ switches_code) (size_to (is_short (reach_of o)) 0 0 o.list (length o.list)) (15 * length o.labels + i.0) part size
               (behind_first landings_code switches_code (15 * length o.labels) i.0 part landed i.2))),
         )
 
@@ -194,7 +195,7 @@ moved p image o g g' next next' e h found = subst (λ (n : ℕ). Found p image o
 -- all behind the entry
 abbrev behind_entry : Orders → List Coded
 behind_entry o =
-    templates (names_of o) entry_size 0 o.list
+    templates (names_of o) entry_size 0 0 o.list
     ++ (landings (names_of o) (landings_place o) o.labels ++ switches (names_of o) (switches_place o) o.switches)
 
 -- the way on is a place

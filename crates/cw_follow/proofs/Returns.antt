@@ -54,7 +54,7 @@ module _ (rows : Rows) (prog : OrderProgram) (image : Image) where
         let record_at : record_of (a ∷ acts) ≡ 2 * (r + 4) = omega arith in
         let back : stack (r + 4 + 1) ≡ place = (let f : r + 4 + 1 ≡ r + 5 = omega arith in ap stack f) ∙ c.back in
         let end : 2 * (r + 4 + 2 + n) % 65536 ≡ 2 * (r + 6 + n) = omega arith in
-        let small = start_small prog a.segment (slice_get prog.units a.segment) (λ o. own_place o.list a.place) in
+        let small = start_small prog a.segment (slice_get prog.units a.segment) (λ o. own_place o a.place) in
         let there : place % 65536 ≡ to % 65536 = omega arith in
         let start = seen refl (ap (λ b. view ax cx dx bx sp b si area overflow cells stack left told) record_at) s in
         let quiet : QuietAll (Quiet (quiet_in q.places)) at (leave n) = quiet_all s.ignores at (leave n) i in

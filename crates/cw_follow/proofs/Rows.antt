@@ -58,6 +58,7 @@ pub record Rows : Type 0 where
   pub quotient_fits : (x n : ℤ) → FitsWord x → 2 ≤ unsigned_abs n → FitsWord (scaled_quotient x n (pos 0))
   -- jumps
   pub near : (code : List ℕ) (v : View) (by : ℕ) → Has code v.place (i86.Jump by) → Goes code v (with_place ((v.place + 3 + by) % 65536) v)
+  pub short : (code : List ℕ) (v : View) (by : ℕ) → Has code v.place (i86.JumpShort by) → Goes code v (with_place ((v.place + 2 + sign_extended by) % 65536) v)
   pub jump_to : (code : List ℕ) (v : View) (r : ℕ) → Has code v.place (i86.JumpRm (rms.Reg r)) → Goes code v (with_place (register v r) v)
   pub no_overflow : (code : List ℕ) (v : View) (by : ℕ) → Has code v.place (i86.JumpIf 1 by) → v.overflow ≡ false → Goes code v (with_place ((v.place + 2 + sign_extended by) % 65536) v)
   pub passes : (code : List ℕ) (v : View) (by : ℕ) → Has code v.place (i86.JumpIf 1 by) → v.overflow ≡ true → Goes code v (on (i86.JumpIf 1 by) v)

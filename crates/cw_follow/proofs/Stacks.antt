@@ -38,7 +38,7 @@ words_behind p acts = p.limits.area - frame_end p acts
 module _ (p : OrderProgram) where
   -- the place of an order's code
   abbrev pub code_place : (segment place : ℕ) → ℕ
-  code_place g k = start_in p g (slice_get p.units g) (λ o. own_place o.list k)
+  code_place g k = start_in p g (slice_get p.units g) (λ o. own_place o k)
 
   -- the place that a control argument holds, and the record of the activation that owns it
   abbrev pub control_place : Control → ℕ

@@ -23,12 +23,12 @@ use Rattle.cw_tmpl.specs.Names.{landing_start, switch_start}
 use Rattle.cw_tmpl.specs.Library.{entry_place, library_bytes}
 use Rattle.cw_routines.specs.Ways as ways
 use Rattle.cw_routines.specs.Results.{Stands as LibraryStands}
-use Rattle.cw_tmpl.specs.Templates.{block_pieces, entry_pieces, landing_pieces, switch_pieces}
+use Rattle.cw_tmpl.specs.Templates.{entry_pieces, landing_pieces, switch_pieces}
 use Rattle.cw_tmpl.proofs.Growing.{blanks-append}
 use Rattle.cw_tmpl.specs.Blocks.{block_at, left_at}
 use Rattle.cw_tmpl.specs.ReferenceCode.{names_of}
 use Rattle.cw_follow.specs.Placing.{Fills, base_of}
-use Rattle.cw_tmpl.proofs.Sizes.{own_place}
+use Rattle.cw_tmpl.proofs.Sizes.{own_place, pieces_by}
 
 -- the bytes of an image, and the places where statements begin in it
 pub record Image : Type 0 where
@@ -103,12 +103,12 @@ stand_behind first code value at (p ∷ ps) qs some h =
     subst (λ n. HasPieces code value n qs) there (stand_both code value (at + size_of p) ps qs h.1).1
 
 -- where the code of the order at a place of the list begins in the image
-abbrev pub order_place : (base : ℕ) → List Order → (place : ℕ) → ℕ
-order_place base list k = base + own_place list k
+abbrev pub order_place : (base : ℕ) → Orders → (place : ℕ) → ℕ
+order_place base o k = base + own_place o k
 
 -- the code of the block that begins with the order at a place of the list; none where the order stands in one that has begun
 abbrev pub pieces_at : Orders → (place : ℕ) → Order → List Coded
-pieces_at o k it = block_pieces (names_of o) (own_place o.list k) (block_at (left_at 0 o.list k) (drop k o.list)) it
+pieces_at o k it = pieces_by (names_of o) (own_place o k) k (block_at (left_at 0 o.list k) (drop k o.list)) it
 
 -- whether a statement may begin with an order
 abbrev pub may_begin : Order → Bool
@@ -152,7 +152,7 @@ pub record Stands (p : OrderProgram) (image : Image) (g : ℕ) (o : Orders) : Ty
   pub next_place : ℕ
   pub fills : Fills p g next_place value
   pub entry : HasPieces image value (base_of p g) entry_pieces
-  pub orders : (k : ℕ) (it : Order) → slice_get o.list k ≡ Some it → HasPiecesFrom (first_of it (behind_start o.list k)) image value (order_place (base_of p g) o.list k) (pieces_at o k it)
+  pub orders : (k : ℕ) (it : Order) → slice_get o.list k ≡ Some it → HasPiecesFrom (first_of it (behind_start o.list k)) image value (order_place (base_of p g) o k) (pieces_at o k it)
   pub landings : (l : ℕ) (m : LabelMark) → slice_get o.labels l ≡ Some m → HasPieces image value (base_of p g + landing_start (names_of o) l) (landing_pieces (names_of o) (landing_start (names_of o) l) m)
   pub switches : (n : ℕ) (gs : List Goal) → slice_get o.switches n ≡ Some gs → HasPieces image value (base_of p g + switch_start (names_of o) n) (switch_pieces (names_of o) (switch_start (names_of o) n) gs)
 

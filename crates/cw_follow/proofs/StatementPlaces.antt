@@ -20,13 +20,13 @@ use Rattle.cw_tmpl.specs.declared.pieces.Coded.TheVariants as coded
 use Rattle.cw_tmpl.specs.Mnemonics.{at_si, ax, load}
 use Rattle.cw_tmpl.specs.Pieces.{blanks, bytes_with}
 use Rattle.cw_tmpl.specs.Blocks.{is_part, fetched, fetched_from, fetched_or, element_orders, element_fetched, element_at, block_at, orders_left, left_at}
-use Rattle.cw_tmpl.specs.Templates.{address_pieces, load_place, part_taken, element_address, block_size, order_size, entry_pieces}
-use Rattle.cw_tmpl.specs.ReferenceCode.{templates, landings, switches, entry_size, order_places, landings_place, switches_place, names_of, pieces_of, orders_code, statements_from}
+use Rattle.cw_tmpl.specs.Templates.{address_pieces, load_place, part_taken, element_address, block_size, order_size, entry_pieces, is_short}
+use Rattle.cw_tmpl.specs.ReferenceCode.{templates, landings, switches, entry_size, order_places, landings_place, switches_place, names_of, pieces_of, orders_code, statements_from, reach_of}
 use Rattle.cw_follow.specs.Placing.{total_size, base_of, StandsBehind, Codable}
 use Rattle.cw_follow.specs.Passing.{size_at, moved_places, places_from, statement_places, NotBehindStart, PlacesStand}
 use Rattle.cw_tmpl.proofs.Growing.{blanks-append}
 use Rattle.cw_tmpl.proofs.Shapes.{front_is}
-use Rattle.cw_tmpl.proofs.Sizes.{size_to, size_next, left_next, places_are, own_place, size_of_templates, landings_at}
+use Rattle.cw_tmpl.proofs.Sizes.{size_to, size_next, left_next, places_are, own_place, size_of_templates, landings_at, size_by}
 use Rattle.cw_follow.proofs.InBlocks.{size_split, begins_at}
 use Rattle.cw_follow.proofs.Sized.{piece_some}
 
@@ -141,25 +141,28 @@ from_zero n = omega arith
 
 -- ---- the places of orders that have code
 
-size_behind : (list : List Order) (k : ℕ) (a : Order) → slice_get list k ≡ Some a → size_to 0 list (suc k) ≡ size_to 0 list k + size_at list k a
-size_behind list k a e = size_next 0 list k a e
+abbrev size_before : Orders → (place : ℕ) → ℕ
+size_before o k = size_to (is_short (reach_of o)) 0 0 o.list k
 
-sizes_rise : (list : List Order) (k m : ℕ) → k ≤ m → size_to 0 list k ≤ size_to 0 list m
-sizes_rise list k m le =
+size_behind : (o : Orders) (k : ℕ) (a : Order) → slice_get o.list k ≡ Some a → size_before o (suc k) ≡ size_before o k + size_at o k a
+size_behind o k a e = size_next (is_short (reach_of o)) 0 0 o.list k k a (omega arith) e
+
+sizes_rise : (o : Orders) (k m : ℕ) → k ≤ m → size_before o k ≤ size_before o m
+sizes_rise o k m le =
     let e : k + (m - k) ≡ m = omega arith in
-    let same = ap (size_to 0 list) e in
-    omega (arith, size_split 0 list k (m - k))
+    let same = ap (size_before o) e in
+    omega (arith, size_split (is_short (reach_of o)) 0 0 o.list k (m - k) k (omega arith))
 
-pub own_is : (list : List Order) (k : ℕ) (a : Order) → slice_get list k ≡ Some a → slice_index (order_places list) k ≡ own_place list k
-own_is list k a e = let inside = slice_get_within list k a e in places_are entry_size 0 list k (omega arith)
+pub own_is : (o : Orders) (k : ℕ) (a : Order) → slice_get o.list k ≡ Some a → slice_index (order_places o) k ≡ own_place o k
+own_is o k a e = let inside = slice_get_within o.list k a e in places_are (is_short (reach_of o)) entry_size 0 0 o.list k (omega arith)
 
 -- an order that begins a block wherever it stands
-here_is : (list : List Order) (k : ℕ) (a : Order) → slice_get list k ≡ Some a → (StandsBehind a → ⊥) → size_at list k a ≡ block_size (block_at 0 (a ∷ drop (suc k) list)) a
-here_is list k a e never = ap (λ b. block_size b a) (ap₂ block_at (begins_at list k a e never) (front_is list k a e))
+here_is : (o : Orders) (k : ℕ) (a : Order) → slice_get o.list k ≡ Some a → (StandsBehind a → ⊥) → size_at o k a ≡ size_by (is_short (reach_of o)) k (block_at 0 (a ∷ drop (suc k) o.list)) a
+here_is o k a e never = ap (λ b. size_by (is_short (reach_of o)) k b a) (ap₂ block_at (begins_at o.list k a e never) (front_is o.list k a e))
 
 -- a Start has no code, so the code of the next order begins where it stands
-start_size : (list : List Order) (k line : ℕ) → slice_get list k ≡ Some (order.Start line) → size_at list k (order.Start line) ≡ 0
-start_size list k line e = here_is list k (order.Start line) e (λ x. x)
+start_size : (o : Orders) (k line : ℕ) → slice_get o.list k ≡ Some (order.Start line) → size_at o k (order.Start line) ≡ 0
+start_size o k line e = here_is o k (order.Start line) e (λ x. x)
 
 pieces_some : (p : Coded) (ps : List Coded) → 0 < length (blanks (p ∷ ps))
 pieces_some p ps = let some = piece_some p in omega (arith, length-append (bytes_with 0 p) (blanks ps))
@@ -244,47 +247,57 @@ begins_addresses (order.ProcCommon d) os b = tt
 begins_addresses (order.SpecialOut k) os b = tt
 begins_addresses _ os b = absurd b
 
-addresses_some : (b : Block) (a : Order) → Addresses b → 0 < order_size a → 0 < block_size b a
-addresses_some block.Single a h some = some
-addresses_some (block.Fetch x) a h some = behind_some (address_pieces x) (load_place x) []
-addresses_some (block.FetchPart x t b is_signed) a h some = behind_some (address_pieces x) (load_place x) (part_taken t b is_signed)
-addresses_some (block.FetchElement e) a h some = behind_some (element_address e) (coded.Whole (load ax at_si)) []
-addresses_some _ a h some = absurd h
+-- whatever its jump: a short one saves not all of it
+single_some_by : (short : Bool) (a : Order) → BeginsStatement a → 0 < block_size short block.Single a
+single_some_by false a b = single_some a b
+single_some_by true (order.Jump m) b = lit< tt
+single_some_by true (order.JumpIf c m) b = absurd b
+single_some_by true (order.LoopWay marks) b = absurd b
+single_some_by true a b = single_some a b
 
-begins_some : (a : Order) (os : List Order) → BeginsStatement a → 0 < block_size (block_at 0 (a ∷ os)) a
-begins_some a os b = addresses_some (block_at 0 (a ∷ os)) a (begins_addresses a os b) (single_some a b)
+addresses_some : (short : Bool) (b : Block) (a : Order) → Addresses b → 0 < block_size short block.Single a → 0 < block_size short b a
+addresses_some short block.Single a h some = some
+addresses_some short (block.Fetch x) a h some = behind_some (address_pieces x) (load_place x) []
+addresses_some short (block.FetchPart x t b is_signed) a h some = behind_some (address_pieces x) (load_place x) (part_taken t b is_signed)
+addresses_some short (block.FetchElement e) a h some = behind_some (element_address e) (coded.Whole (load ax at_si)) []
+addresses_some short _ a h some = absurd h
+
+begins_some : (short : Bool) (a : Order) (os : List Order) → BeginsStatement a → 0 < block_size short (block_at 0 (a ∷ os)) a
+begins_some short a os b = addresses_some short (block_at 0 (a ∷ os)) a (begins_addresses a os b) (single_some_by short a b)
 
 -- at the beginning of a block
-pub statement_here : (list : List Order) (k : ℕ) (a : Order) → slice_get list k ≡ Some a → left_at 0 list k ≡ 0 → BeginsStatement a → 0 < size_at list k a
-statement_here list k a e first begins = subst (λ n. 0 < n) (sym (ap (λ b. block_size b a) (ap₂ block_at first (front_is list k a e)))) (begins_some a (drop (suc k) list) begins)
+pub statement_here : (o : Orders) (k : ℕ) (a : Order) → slice_get o.list k ≡ Some a → left_at 0 o.list k ≡ 0 → BeginsStatement a → 0 < size_at o k a
+statement_here o k a e first begins =
+    let b = block_at 0 (a ∷ drop (suc k) o.list) in
+    subst (λ n. 0 < n) (sym (ap (λ x. size_by (is_short (reach_of o)) k x a) (ap₂ block_at first (front_is o.list k a e)))) (begins_some (is_short (reach_of o) k b a) a (drop (suc k) o.list) begins)
 
 -- and so it is behind a Start
 behind_a_start : (list : List Order) (k line : ℕ) → slice_get list k ≡ Some (order.Start line) → left_at 0 list (suc k) ≡ 0
 behind_a_start list k line e = left_next 0 list k (order.Start line) e ∙ ap orders_left (ap₂ block_at (begins_at list k (order.Start line) e (λ x. x)) (front_is list k (order.Start line) e))
 
-statement_size : (list : List Order) (k line : ℕ) (a : Order) → slice_get list k ≡ Some (order.Start line) → slice_get list (suc k) ≡ Some a → BeginsStatement a → 0 < size_at list (suc k) a
-statement_size list k line a start e begins = statement_here list (suc k) a e (behind_a_start list k line start) begins
+statement_size : (o : Orders) (k line : ℕ) (a : Order) → slice_get o.list k ≡ Some (order.Start line) → slice_get o.list (suc k) ≡ Some a → BeginsStatement a → 0 < size_at o (suc k) a
+statement_size o k line a start e begins = statement_here o (suc k) a e (behind_a_start o.list k line start) begins
 
 -- the code of the orders lies in that of their segment
-orders_within : (o : Orders) → own_place o.list (length o.list) ≤ length (blanks (pieces_of o))
+orders_within : (o : Orders) → own_place o (length o.list) ≤ length (blanks (pieces_of o))
 orders_within o =
     let N = names_of o in
-    let T = templates N entry_size 0 o.list in
+    let T = templates N entry_size 0 0 o.list in
     let R = landings N (landings_place o) o.labels ++ switches N (switches_place o) o.switches in
     let first = ap length (blanks-append entry_pieces (T ++ R)) ∙ length-append (blanks entry_pieces) (blanks (T ++ R)) in
     let second = ap length (blanks-append T R) ∙ length-append (blanks T) (blanks R) in
-    omega (arith, first, second, size_of_templates N entry_size 0 o.list)
+    omega (arith, first, second, size_of_templates N entry_size 0 0 o.list)
 
 -- the order at a place of the list of a segment has code there
 record CodeAt (p : OrderProgram) (g k : ℕ) (o : Orders) (a : Order) : Type 0 where
   unit : slice_get p.units g ≡ Some o
   listed : slice_get o.list k ≡ Some a
-  some : 0 < size_at o.list k a
+  some : 0 < size_at o k a
 
 module _ (p : OrderProgram) where
   -- where the code of an order begins
   abbrev code_place : (g : ℕ) (o : Orders) (k : ℕ) → ℕ
-  code_place g o k = base_of p g + slice_index (order_places o.list) k
+  code_place g o k = base_of p g + slice_index (order_places o) k
 
   bases_rise : (g h : ℕ) → g ≤ h → base_of p g ≤ base_of p h
   bases_rise g h le =
@@ -292,24 +305,24 @@ module _ (p : OrderProgram) where
       let same = ap (λ n. total_size (take n p.units)) e in
       omega (arith, total_rises p.units g (h - g))
 
-  before_next : {g k : ℕ} {o : Orders} {a : Order} → CodeAt p g k o a → code_place g o k + size_at o.list k a ≤ base_of p (suc g)
+  before_next : {g k : ℕ} {o : Orders} {a : Order} → CodeAt p g k o a → code_place g o k + size_at o k a ≤ base_of p (suc g)
   before_next {g} {k} {o} {a} s =
       let inside = slice_get_within o.list k a s.listed in
-      omega (arith, own_is o.list k a s.listed, size_behind o.list k a s.listed, sizes_rise o.list (suc k) (length o.list) inside, orders_within o, total_next p.units g o s.unit)
+      omega (arith, own_is o k a s.listed, size_behind o k a s.listed, sizes_rise o (suc k) (length o.list) inside, orders_within o, total_next p.units g o s.unit)
 
-  order_below : (g : ℕ) {k m : ℕ} {o : Orders} {a b : Order} → CodeAt p g k o a → slice_get o.list m ≡ Some b → k < m → code_place g o k + size_at o.list k a ≤ code_place g o m
+  order_below : (g : ℕ) {k m : ℕ} {o : Orders} {a b : Order} → CodeAt p g k o a → slice_get o.list m ≡ Some b → k < m → code_place g o k + size_at o k a ≤ code_place g o m
   order_below g {k} {m} {o} {a} {b} s listed lt =
-      omega (arith, own_is o.list k a s.listed, own_is o.list m b listed, size_behind o.list k a s.listed, sizes_rise o.list (suc k) m lt)
+      omega (arith, own_is o k a s.listed, own_is o m b listed, size_behind o k a s.listed, sizes_rise o (suc k) m lt)
 
   -- no code begins in that of another order
-  same_code : {g k h m : ℕ} {o u : Orders} {a b : Order} (n : ℕ) → CodeAt p g k o a → CodeAt p h m u b → n < size_at o.list k a → code_place h u m ≡ code_place g o k + n → (g ≡ h) × (k ≡ m)
+  same_code : {g k h m : ℕ} {o u : Orders} {a b : Order} (n : ℕ) → CodeAt p g k o a → CodeAt p h m u b → n < size_at o k a → code_place h u m ≡ code_place g o k + n → (g ≡ h) × (k ≡ m)
   same_code {g} {k} {h} {m} {o} {u} {a} {b} n s t lt e = elim (cases_order g h) [
     | inl same ↦
         let here : slice_get p.units g ≡ Some u = ap (slice_get p.units) same ∙ t.unit in
         let orders : u ≡ o = let unit = s.unit in cc in
         let there : slice_get o.list m ≡ Some b = ap (λ x. slice_get x.list m) (sym orders) ∙ t.listed in
         let at : code_place g o m ≡ code_place g o k + n = sym (ap (λ x. code_place x u m) (sym same) ∙ ap (λ x. code_place g x m) orders) ∙ e in
-        let some : 0 < size_at o.list m b = subst (λ x. 0 < size_at x.list m b) orders t.some in
+        let some : 0 < size_at o m b = subst (λ x. 0 < size_at x m b) orders t.some in
         let code : CodeAt p g m o b = record { unit = s.unit; listed = there; some = some } in (
           same,
           elim (cases_order k m) [
@@ -328,11 +341,11 @@ module _ (p : OrderProgram) where
 
   start_place : (g k line : ℕ) (o : Orders) (a : Order) → slice_get o.list k ≡ Some (order.Start line) → slice_get o.list (suc k) ≡ Some a → code_place g o k ≡ code_place g o (suc k)
   start_place g k line o a listed next =
-      omega (arith, own_is o.list k (order.Start line) listed, own_is o.list (suc k) a next, size_behind o.list k (order.Start line) listed, start_size o.list k line listed)
+      omega (arith, own_is o k (order.Start line) listed, own_is o (suc k) a next, size_behind o k (order.Start line) listed, start_size o k line listed)
 
   -- no Start stands at this place of the image
   none_begins : (at : ℕ) → ((g k line : ℕ) (o : Orders) → slice_get p.units g ≡ Some o → slice_get o.list k ≡ Some (order.Start line) → code_place g o k ≡ at → ⊥) → lines_at (statement_places p) at ≡ []
-  none_begins at none = none_in p at 0 p.units (λ g o unit. ap (begun_in p at o) (from_zero g) ∙ none_there (base_of p g) (g + 1) (order_places o.list) 0 o.list at (λ k line listed e. none g k line o unit listed (ap (code_place g o) (sym (from_zero k)) ∙ e)))
+  none_begins at none = none_in p at 0 p.units (λ g o unit. ap (begun_in p at o) (from_zero g) ∙ none_there (base_of p g) (g + 1) (order_places o) 0 o.list at (λ k line listed e. none g k line o unit listed (ap (code_place g o) (sym (from_zero k)) ∙ e)))
 
   module _ (have : StartsHaveCode) where
     -- two Starts with the same place are one
@@ -353,13 +366,13 @@ module _ (p : OrderProgram) where
         let at = code_place g o k in
         let only : (i l : ℕ) → slice_get o.list i ≡ Some (order.Start l) → code_place g o (0 + i) ≡ at → i ≡ k =
         λ i l f e. sym (same_start g k line g i l o o unit listed unit f (ap (code_place g o) (sym (from_zero i)) ∙ e)).1 in
-        let here : begun_in p at o g ≡ (g + 1, line) ∷ [] = one_there (base_of p g) (g + 1) (order_places o.list) 0 o.list at k line listed (ap (code_place g o) (from_zero k)) only in
+        let here : begun_in p at o g ≡ (g + 1, line) ∷ [] = one_there (base_of p g) (g + 1) (order_places o) 0 o.list at k line listed (ap (code_place g o) (from_zero k)) only in
         let others : (h : ℕ) (u : Orders) → slice_get p.units h ≡ Some u → (h ≡ g → ⊥) → begun_in p at u (0 + h) ≡ [] = λ h u unit' other.
-        ap (begun_in p at u) (from_zero h) ∙ none_there (base_of p h) (h + 1) (order_places u.list) 0 u.list at (λ i l f e. other (sym (same_start g k line h i l o u unit listed unit' f (ap (code_place h u) (sym (from_zero i)) ∙ e)).0)) in
+        ap (begun_in p at u) (from_zero h) ∙ none_there (base_of p h) (h + 1) (order_places u) 0 u.list at (λ i l f e. other (sym (same_start g k line h i l o u unit listed unit' f (ap (code_place h u) (sym (from_zero i)) ∙ e)).0)) in
         one_in p at 0 p.units g o ((g + 1, line) ∷ []) unit (ap (begun_in p at o) (from_zero g) ∙ here) others
 
     -- in the code of an order, but at its first byte, none begins
-    none_inside : (g k n : ℕ) (o : Orders) (a : Order) → CodeAt p g k o a → 0 < n → n < size_at o.list k a → lines_at (statement_places p) (code_place g o k + n) ≡ []
+    none_inside : (g k n : ℕ) (o : Orders) (a : Order) → CodeAt p g k o a → 0 < n → n < size_at o k a → lines_at (statement_places p) (code_place g o k + n) ≡ []
     none_inside g k n o a s some lt = none_begins (code_place g o k + n) (λ h m line u unit listed e.
         let t = have h m line u unit listed in
         let there = start_place h m line u t.0 listed t.1.listed in
@@ -380,14 +393,14 @@ module _ (p : OrderProgram) where
         not_behind m line both.1 (ap (λ x. slice_get x.list m) (sym orders) ∙ listed))
 
     -- nor before the code of the orders of a segment, nor behind it
-    none_around : (g at : ℕ) (o : Orders) → slice_get p.units g ≡ Some o → base_of p g ≤ at → at < base_of p (suc g) → (at < base_of p g + entry_size) ⊎ (base_of p g + own_place o.list (length o.list) ≤ at) → lines_at (statement_places p) at ≡ []
+    none_around : (g at : ℕ) (o : Orders) → slice_get p.units g ≡ Some o → base_of p g ≤ at → at < base_of p (suc g) → (at < base_of p g + entry_size) ⊎ (base_of p g + own_place o (length o.list) ≤ at) → lines_at (statement_places p) at ≡ []
     none_around g at o unit from to outside = none_begins at (λ h m line u unit' listed e.
         let t = have h m line u unit' listed in
         let there = start_place h m line u t.0 listed t.1.listed in
         let inside = slice_get_within u.list (suc m) t.0 t.1.listed in
-        let own = own_is u.list (suc m) t.0 t.1.listed in
-        let size = size_behind u.list (suc m) t.0 t.1.listed in
-        let rise = sizes_rise u.list (suc (suc m)) (length u.list) inside in
+        let own = own_is u (suc m) t.0 t.1.listed in
+        let size = size_behind u (suc m) t.0 t.1.listed in
+        let rise = sizes_rise u (suc (suc m)) (length u.list) inside in
         let some = t.1.some in
         let end = before_next t.1 in
         elim (cases_order g h) [
@@ -395,8 +408,8 @@ module _ (p : OrderProgram) where
               let here : slice_get p.units g ≡ Some u = ap (slice_get p.units) same ∙ unit' in
               let orders : u ≡ o = cc in
               let base : base_of p h ≡ base_of p g = ap (base_of p) (sym same) in
-              let last : own_place u.list (length u.list) ≡ own_place o.list (length o.list) = ap (λ x. own_place x.list (length x.list)) orders in
-              ⊎_elim (λ (l : at < base_of p g + entry_size). omega arith) (λ (l : base_of p g + own_place o.list (length o.list) ≤ at). omega arith) outside
+              let last : own_place u (length u.list) ≡ own_place o (length o.list) = ap (λ x. own_place x (length x.list)) orders in
+              ⊎_elim (λ (l : at < base_of p g + entry_size). omega arith) (λ (l : base_of p g + own_place o (length o.list) ≤ at). omega arith) outside
           | inr (inl less) ↦ let x = bases_rise (suc g) h less in omega arith
           | inr (inr more) ↦ let x = bases_rise (suc h) g more in omega arith
         ])
@@ -409,7 +422,7 @@ module _ (p : OrderProgram) (image : List ℕ) (coded : Codable p) where
       let b = coded.begins g k line (ap (λ u. order_in u k) unit ∙ listed) in
       let next : k + 1 ≡ suc k = omega arith in
       let there : slice_get o.list (suc k) ≡ Some b.0 = ap (slice_get o.list) (sym next) ∙ sym (ap (λ u. order_in u (k + 1)) unit) ∙ b.1 in
-      (b.0, record { unit = unit; listed = there; some = statement_size o.list k line b.0 listed there b.2 })
+      (b.0, record { unit = unit; listed = there; some = statement_size o k line b.0 listed there b.2 })
 
   pub places_stand : PlacesStand p image (statement_places p)
   places_stand = record {
@@ -420,6 +433,6 @@ module _ (p : OrderProgram) (image : List ℕ) (coded : Codable p) where
     inside = λ g k n o a unit listed some lt. none_inside p have_code g k n o a (record { unit = unit; listed = listed; some = omega arith }) some lt;
     around = λ g at o unit from to outside.
         none_around p have_code g at o unit from to
-        (⊎_elim (λ (l : at < base_of p g + entry_size). inl l) (λ (l : base_of p g + landings_place o ≤ at). inr (let e = landings_at o in let x : base_of p g + own_place o.list (length o.list) ≤ at = omega arith in x)) outside);
+        (⊎_elim (λ (l : at < base_of p g + entry_size). inl l) (λ (l : base_of p g + landings_place o ≤ at). inr (let e = landings_at o in let x : base_of p g + own_place o (length o.list) ≤ at = omega arith in x)) outside);
     library = λ place below. none_begins p place (λ g k line o unit listed e. omega arith);
   }

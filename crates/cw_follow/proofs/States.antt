@@ -59,7 +59,7 @@ pub record Sound (p : OrderProgram) (image : Image) (g place : ℕ) (loaded : Bo
   pub inside : done ≤ orders_left (block_at 0 (drop from orders.list))
   pub did : silently p g acts done (drop from orders.list) before ≡ Changed w
   pub moded : loaded_silently done (drop from orders.list) loaded_before ≡ Some loaded
-  pub landed : Landed p image (order_place (base_of p g) orders.list from) g loaded_before acts before q
+  pub landed : Landed p image (order_place (base_of p g) orders from) g loaded_before acts before q
   pub fits : WordsFit w
   pub acts_fit : All ActivationFits acts
   pub fits_before : WordsFit before
@@ -80,7 +80,7 @@ pub record Starting (p : OrderProgram) (image : Image) (g place : ℕ) (loaded :
   pub orders : Orders
   pub unit : slice_get p.units g ≡ Some orders
   pub begins : left_at 0 orders.list place ≡ 0
-  pub called_at : CalledAt p image (order_place (base_of p g) orders.list place) a acts w q
+  pub called_at : CalledAt p image (order_place (base_of p g) orders place) a acts w q
   pub fits : StateFits (at g place loaded (a ∷ acts) w Running)
   pub stands : StateStands p (at g place loaded (a ∷ acts) w Running)
   pub beginning : Beginning p g place a acts w.operands

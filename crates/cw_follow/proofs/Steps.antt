@@ -29,10 +29,10 @@ use Rattle.cw_tmpl.specs.declared.blocks.Block.{Block}
 use Rattle.cw_tmpl.specs.declared.blocks.Block.TheVariants as block
 use Rattle.cw_tmpl.specs.Blocks.{block_at, orders_left, left_at}
 use Rattle.cw_tmpl.specs.Library.{places_of_entries, entry_place}
-use Rattle.cw_tmpl.specs.Templates.{template, block_pieces, block_size, order_size, distance}
-use Rattle.cw_tmpl.specs.ReferenceCode.{mark_starts, names_of}
+use Rattle.cw_tmpl.specs.Templates.{block_size, distance, is_short, jump_of, template_by, is_close}
+use Rattle.cw_tmpl.specs.ReferenceCode.{mark_starts, names_of, reach_of}
 use Rattle.cw_follow.specs.Placing.{base_of}
-use Rattle.cw_tmpl.proofs.Sizes.{size_to, size_next, left_next, own_place, mark_start}
+use Rattle.cw_tmpl.proofs.Sizes.{size_to, size_next, left_next, own_place, mark_start, pieces_by, size_by}
 use Rattle.cw_follow.proofs.Standing.{HasPiecesFrom, first_of, behind_start, order_place, Image}
 use Rattle.cw_follow.proofs.InBlocks.{slice_drop, size_split, left_split, begins_at, chain, puts_word, silently, silently_next, never_writes, loaded_then, loaded_silently, loaded_next}
 use Rattle.cw_follow.proofs.Chains.{at_work}
@@ -41,14 +41,16 @@ use Rattle.cw_follow.proofs.Stacks.{level, words_split}
 use Rattle.cw_follow.proofs.Orders.{Landed, Leading, Does, Tells, Chooses, LandedAt, over_landed}
 use Rattle.cw_follow.proofs.Operands.{Setting}
 use Rattle.cw_follow.proofs.States.{Given, Never, Sound, Arrived, LastStarts, length_in, left, never_on, not_stuck, went_on}
+use Rattle.cw_tmpl.proofs.Reaching.{closes}
+use Rattle.cw_order.specs.declared.order.Orders.{Orders}
 
 -- ---- places
 
-pub order_next : (base : ℕ) (list : List Order) (k : ℕ) (o : Order) → slice_get list k ≡ Some o → order_place base list k + block_size (block_at (left_at 0 list k) (drop k list)) o ≡ order_place base list (k + 1)
-order_next base list k o e =
-    let t = size_next 0 list k o e in
+pub order_next : (base : ℕ) (o : Orders) (k : ℕ) (it : Order) → slice_get o.list k ≡ Some it → order_place base o k + size_by (is_short (reach_of o)) k (block_at (left_at 0 o.list k) (drop k o.list)) it ≡ order_place base o (k + 1)
+order_next base o k it e =
+    let t = size_next (is_short (reach_of o)) 0 0 o.list k k it (omega arith) e in
     let s : k + 1 ≡ suc k = omega arith in
-    let m : size_to 0 list (k + 1) ≡ size_to 0 list (suc k) = ap (size_to 0 list) s in
+    let m : size_to (is_short (reach_of o)) 0 0 o.list (k + 1) ≡ size_to (is_short (reach_of o)) 0 0 o.list (suc k) = ap (size_to (is_short (reach_of o)) 0 0 o.list) s in
     omega arith
 
 -- the word below the top, which is the last one below offset 0
@@ -83,10 +85,10 @@ is_codeless (order.Take t b) = true
 is_codeless _ = false
 
 -- before an order that is a block of its own
-pub record Alone (p : OrderProgram) (image : Image) (g place : ℕ) (loaded : Bool) (acts : List OrderActivation) (w : Words) (q : Watched) (list : List Order) : Type 0 where
-  pub begins : left_at 0 list place ≡ 0
-  pub single : block_at 0 (drop place list) ≡ block.Single
-  pub landed : Landed p image (order_place (base_of p g) list place) g loaded acts w q
+pub record Alone (p : OrderProgram) (image : Image) (g place : ℕ) (loaded : Bool) (acts : List OrderActivation) (w : Words) (q : Watched) (o : Orders) : Type 0 where
+  pub begins : left_at 0 o.list place ≡ 0
+  pub single : block_at 0 (drop place o.list) ≡ block.Single
+  pub landed : Landed p image (order_place (base_of p g) o place) g loaded acts w q
 
 -- the words on a way are within the room
 abbrev pub Roomy : List OrderActivation → ℕ → Way → Type 0
@@ -185,7 +187,7 @@ module _ (known : Given) where
 
     -- before another block
     pub sound_at : (to : ℕ) (m : Bool) (v : Words) (r : Watched) → left_at 0 s.orders.list to ≡ 0 → stack_words v.operands acts ≤ p.room → step p (at g place loaded acts w Running) ≡ at g to m acts v Running
-        → Landed p image (order_place (base_of p g) s.orders.list to) g m acts v r → Arrived p image g to m acts v r
+        → Landed p image (order_place (base_of p g) s.orders to) g m acts v r → Arrived p image g to m acts v r
     sound_at to m v r begins room e l = (
       record {
         orders = s.orders;
@@ -216,7 +218,7 @@ module _ (known : Given) where
 
     -- an operation that leaves the accumulator so, and may stop at a line
     pub does : {first : Watched} (m : Bool) (line : ℕ) (o : Outcome) (limit : ℕ) → left_at 0 s.orders.list (place + 1) ≡ 0 → step p (at g place loaded acts w Running) ≡ after p.room line o g place m acts w → limit ≤ weight p (at g place loaded acts w Running)
-        → Does p image limit (order_place (base_of p g) s.orders.list (place + 1)) g m line acts w.output first o → FollowFrom first (at g place loaded acts w Running) q
+        → Does p image limit (order_place (base_of p g) s.orders (place + 1)) g m line acts w.output first o → FollowFrom first (at g place loaded acts w Running) q
     does m line (Changed v) limit begins e paid d =
         let on = went_on p g place loaded m line acts w v e s.never in
         leads_to g place loaded acts w (at g (place + 1) m acts v Running) limit on.goes paid (onward (λ r l. inl (sound_at (place + 1) m v r begins on.room on.goes l)) d)
@@ -225,7 +227,7 @@ module _ (known : Given) where
 
     -- the same, where on the way a byte is written
     pub tells : {first : Watched} (m : Bool) (o : Outcome) (limit : ℕ) → left_at 0 s.orders.list (place + 1) ≡ 0 → step p (at g place loaded acts w Running) ≡ after p.room 0 o g place m acts w → limit ≤ weight p (at g place loaded acts w Running)
-        → Tells p image limit (order_place (base_of p g) s.orders.list (place + 1)) g m acts w.output first o → FollowFrom first (at g place loaded acts w Running) q
+        → Tells p image limit (order_place (base_of p g) s.orders (place + 1)) g m acts w.output first o → FollowFrom first (at g place loaded acts w Running) q
     tells m (Changed v) limit begins e paid d =
         let here = at g place loaded acts w Running in
         let on = went_on p g place loaded m 0 acts w v e s.never in
@@ -243,34 +245,44 @@ module _ (known : Given) where
     rest = drop s.from s.orders.list
 
     abbrev pub start_place : ℕ
-    start_place = order_place (base_of p g) s.orders.list s.from
+    start_place = order_place (base_of p g) s.orders s.from
 
     pub block_code : (b : Block) (o : Order) (os : List Order) → drop s.from s.orders.list ≡ o ∷ os → block_at 0 (drop s.from s.orders.list) ≡ b
-        → HasPiecesFrom (first_of o (behind_start s.orders.list s.from)) image (all.stands g s.orders s.unit).value (order_place (base_of p g) s.orders.list s.from) (block_pieces (names_of s.orders) (own_place s.orders.list s.from) b o)
+        → HasPiecesFrom (first_of o (behind_start s.orders.list s.from)) image (all.stands g s.orders s.unit).value (order_place (base_of p g) s.orders s.from) (pieces_by (names_of s.orders) (own_place s.orders s.from) s.from b o)
     block_code b o os e is =
         let st = all.stands g s.orders s.unit in
-        let place = order_place (base_of p g) s.orders.list s.from in
-        let own = own_place s.orders.list s.from in
+        let place = order_place (base_of p g) s.orders s.from in
+        let own = own_place s.orders s.from in
         let here : s.from + 0 ≡ s.from = omega arith in
         let first : slice_get s.orders.list s.from ≡ Some o = ap (slice_get s.orders.list) (sym here) ∙ sym (slice_drop s.orders.list s.from 0) ∙ ap (λ l. slice_get l 0) e in
         let same : block_at (left_at 0 s.orders.list s.from) (drop s.from s.orders.list) ≡ b = ap (λ n. block_at n (drop s.from s.orders.list)) s.begins ∙ is in
-        subst (λ x. HasPiecesFrom (first_of o (behind_start s.orders.list s.from)) image st.value place (block_pieces (names_of s.orders) own x o)) same (st.orders s.from o first)
+        subst (λ x. HasPiecesFrom (first_of o (behind_start s.orders.list s.from)) image st.value place (pieces_by (names_of s.orders) own s.from x o)) same (st.orders s.from o first)
+
+    -- its short jump reaches its mark
+    pub reaches_mark : (b : Block) (o : Order) (os : List Order) (m : ℕ) → drop s.from s.orders.list ≡ o ∷ os → block_at 0 (drop s.from s.orders.list) ≡ b → jump_of b o ≡ Some m
+        → is_short (reach_of s.orders) s.from b o ≡ true → is_close (own_place s.orders s.from + block_size true b o) (mark_starts s.orders m) ≡ true
+    reaches_mark b o os m e is jumps short =
+        let here : s.from + 0 ≡ s.from = omega arith in
+        let first : slice_get s.orders.list s.from ≡ Some o = ap (slice_get s.orders.list) (sym here) ∙ sym (slice_drop s.orders.list s.from 0) ∙ ap (λ l. slice_get l 0) e in
+        let same : block_at (left_at 0 s.orders.list s.from) (drop s.from s.orders.list) ≡ b = ap (λ n. block_at n (drop s.from s.orders.list)) s.begins ∙ is in
+        closes s.orders s.from m b o first same jumps short
 
     -- where it ends
     pub record Ends (b : Block) (o : Order) : Type 0 where
-      pub behind : order_place (base_of p g) s.orders.list s.from + block_size b o ≡ order_place (base_of p g) s.orders.list (place + 1)
+      pub behind : order_place (base_of p g) s.orders s.from + size_by (is_short (reach_of s.orders)) s.from b o ≡ order_place (base_of p g) s.orders (place + 1)
       pub begins : left_at 0 s.orders.list (place + 1) ≡ 0
 
-    pub block_ends : (b : Block) (o : Order) (os : List Order) (n : ℕ) → s.done ≡ n → drop s.from s.orders.list ≡ o ∷ os → block_at 0 (drop s.from s.orders.list) ≡ b → size_to (orders_left b) os n ≡ 0 → left_at (orders_left b) os n ≡ 0 → Ends b o
+    pub block_ends : (b : Block) (o : Order) (os : List Order) (n : ℕ) → s.done ≡ n → drop s.from s.orders.list ≡ o ∷ os → block_at 0 (drop s.from s.orders.list) ≡ b → size_to (is_short (reach_of s.orders)) (suc s.from) (orders_left b) os n ≡ 0 → left_at (orders_left b) os n ≡ 0 → Ends b o
     block_ends b o os n is_done e is none over =
         let list = s.orders.list in
         let same : block_at 0 (o ∷ os) ≡ b = sym (ap (block_at 0) e) ∙ is in
         let placed = s.place_is in
         let there : place + 1 ≡ s.from + suc n = omega arith in
-        let size : size_to (left_at 0 list s.from) (drop s.from list) (suc n) ≡ block_size b o + size_to (orders_left b) os n =
-        ap₂ (λ l r. size_to l r (suc n)) s.begins e ∙ ap (λ x. block_size x o + size_to (orders_left x) os n) same in
-        let whole : size_to 0 list (place + 1) ≡ size_to 0 list s.from + (block_size b o + size_to (orders_left b) os n) =
-        ap (size_to 0 list) there ∙ size_split 0 list s.from (suc n) ∙ ap (λ m. size_to 0 list s.from + m) size in
+        let forms = is_short (reach_of s.orders) in
+        let size : size_to forms s.from (left_at 0 list s.from) (drop s.from list) (suc n) ≡ size_by forms s.from b o + size_to forms (suc s.from) (orders_left b) os n =
+        ap₂ (λ l r. size_to forms s.from l r (suc n)) s.begins e ∙ ap (λ x. size_by forms s.from x o + size_to forms (suc s.from) (orders_left x) os n) same in
+        let whole : size_to forms 0 0 list (place + 1) ≡ size_to forms 0 0 list s.from + (size_by forms s.from b o + size_to forms (suc s.from) (orders_left b) os n) =
+        ap (size_to forms 0 0 list) there ∙ size_split forms 0 0 list s.from (suc n) s.from (omega arith) ∙ ap (λ m. size_to forms 0 0 list s.from + m) size in
         record {
           behind = omega arith;
           begins = ap (left_at 0 list) there ∙ left_split 0 list s.from (suc n) ∙ ap₂ (λ l r. left_at l r (suc n)) s.begins e ∙ ap (λ x. left_at (orders_left x) os n) same ∙ over;
@@ -350,19 +362,19 @@ module _ (known : Given) where
     -- the last order of a block, whose code does what all its orders do
     pub last_does : {first : Watched} (m : Bool) (line : ℕ) (f : Words → Outcome) (limit n : ℕ) (os : List Order) → s.done ≡ n → drop s.from s.orders.list ≡ os → left_at 0 s.orders.list (place + 1) ≡ 0
         → step p (at g place loaded acts w Running) ≡ after p.room line (f w) g place m acts w → limit ≤ weight p (at g place loaded acts w Running)
-        → Does p image limit (order_place (base_of p g) s.orders.list (place + 1)) g m line acts s.before.output first (chain (silently p g acts n os s.before) f) → FollowFrom first (at g place loaded acts w Running) q
+        → Does p image limit (order_place (base_of p g) s.orders (place + 1)) g m line acts s.before.output first (chain (silently p g acts n os s.before) f) → FollowFrom first (at g place loaded acts w Running) q
     last_does {first} m line f limit n os is_done e begins goes paid d =
         does m line (f w) limit begins goes paid
-        (subst (λ o. Does p image limit (order_place (base_of p g) s.orders.list (place + 1)) g m line acts o first (f w)) s.wrote
-        (subst (λ x. Does p image limit (order_place (base_of p g) s.orders.list (place + 1)) g m line acts s.before.output first (chain x f)) (did_as n os is_done e) d))
+        (subst (λ o. Does p image limit (order_place (base_of p g) s.orders (place + 1)) g m line acts o first (f w)) s.wrote
+        (subst (λ x. Does p image limit (order_place (base_of p g) s.orders (place + 1)) g m line acts s.before.output first (chain x f)) (did_as n os is_done e) d))
 
     pub last_tells : {first : Watched} (m : Bool) (f : Words → Outcome) (limit n : ℕ) (os : List Order) → s.done ≡ n → drop s.from s.orders.list ≡ os → left_at 0 s.orders.list (place + 1) ≡ 0
         → step p (at g place loaded acts w Running) ≡ after p.room 0 (f w) g place m acts w → limit ≤ weight p (at g place loaded acts w Running)
-        → Tells p image limit (order_place (base_of p g) s.orders.list (place + 1)) g m acts s.before.output first (chain (silently p g acts n os s.before) f) → FollowFrom first (at g place loaded acts w Running) q
+        → Tells p image limit (order_place (base_of p g) s.orders (place + 1)) g m acts s.before.output first (chain (silently p g acts n os s.before) f) → FollowFrom first (at g place loaded acts w Running) q
     last_tells {first} m f limit n os is_done e begins goes paid d =
         tells m (f w) limit begins goes paid
-        (subst (λ o. Tells p image limit (order_place (base_of p g) s.orders.list (place + 1)) g m acts o first (f w)) s.wrote
-        (subst (λ x. Tells p image limit (order_place (base_of p g) s.orders.list (place + 1)) g m acts s.before.output first (chain x f)) (did_as n os is_done e) d))
+        (subst (λ o. Tells p image limit (order_place (base_of p g) s.orders (place + 1)) g m acts o first (f w)) s.wrote
+        (subst (λ x. Tells p image limit (order_place (base_of p g) s.orders (place + 1)) g m acts s.before.output first (chain x f)) (did_as n os is_done e) d))
 
     -- a call of an entry of the library
     abbrev pub by : (entry c : ℕ) → ℕ
@@ -413,7 +425,7 @@ module _ (known : Given) where
 
     -- the way on that an order chooses
     pub chosen : {first : Watched} (l : Bool) (line : ℕ) (way : Way) (limit : ℕ) → left_at 0 s.orders.list (place + 1) ≡ 0 → Roomy acts p.room way → step p (at g place loaded acts w Running) ≡ branch p line way g place l acts w → limit ≤ weight p (at g place loaded acts w Running)
-        → Chooses p image limit (order_place (base_of p g) s.orders.list (place + 1)) start g l line acts w.output first way → FollowFrom first (at g place loaded acts w Running) q
+        → Chooses p image limit (order_place (base_of p g) s.orders (place + 1)) start g l line acts w.output first way → FollowFrom first (at g place loaded acts w Running) q
     chosen l line (Onward v) limit begins room e paid d = leads_to g place loaded acts w (at g (place + 1) l acts v Running) limit e paid (onward (λ r t. inl (sound_at (place + 1) l v r begins room e t)) d)
     chosen {first} l line (ToMark m v) limit begins room e paid d = cases (slice_get s.orders.marks m) refl
       where
@@ -423,7 +435,7 @@ module _ (known : Given) where
         cases : (k : Option ℕ) → slice_get s.orders.marks m ≡ k → FollowFrom first (at g place loaded acts w Running) q
         cases None none = absurd (not_stuck p g place l acts w (never_on p (at g place loaded acts w Running) (at g place l acts w Stuck) (goes None none) s.never))
         cases (Some to) is =
-            let there : start m ≡ order_place (base_of p g) s.orders.list to = ap (λ n. base_of p g + n) (mark_start s.orders m to is (goes_within to l v (goes (Some to) is))) in
+            let there : start m ≡ order_place (base_of p g) s.orders to = ap (λ n. base_of p g + n) (mark_start s.orders m to is (goes_within to l v (goes (Some to) is))) in
             leads_to g place loaded acts w (at g to l acts v Running) limit (goes (Some to) is) paid
             (onward (λ r t. inl (sound_at to l v r (mark_begins m to is) room (goes (Some to) is) (subst (λ a. Landed p image a g l acts v r) there t))) d)
     chosen l line (Barred kind) limit begins room e paid d = leads_to g place loaded acts w (at g place l acts w (Stopped kind (g + 1) line)) limit e paid d
@@ -431,18 +443,18 @@ module _ (known : Given) where
 
     pub last_chooses : {first : Watched} (l : Bool) (line : ℕ) (f : Words → Way) (limit n : ℕ) (os : List Order) → s.done ≡ n → drop s.from s.orders.list ≡ os → left_at 0 s.orders.list (place + 1) ≡ 0 → Roomy acts p.room (f w)
         → step p (at g place loaded acts w Running) ≡ branch p line (f w) g place l acts w → limit ≤ weight p (at g place loaded acts w Running)
-        → Chooses p image limit (order_place (base_of p g) s.orders.list (place + 1)) start g l line acts s.before.output first (way_after (silently p g acts n os s.before) f) → FollowFrom first (at g place loaded acts w Running) q
+        → Chooses p image limit (order_place (base_of p g) s.orders (place + 1)) start g l line acts s.before.output first (way_after (silently p g acts n os s.before) f) → FollowFrom first (at g place loaded acts w Running) q
     last_chooses {first} l line f limit n os is_done e begins room goes paid d =
         chosen l line (f w) limit begins room goes paid
-        (subst (λ o. Chooses p image limit (order_place (base_of p g) s.orders.list (place + 1)) start g l line acts o first (f w)) s.wrote
-        (subst (λ x. Chooses p image limit (order_place (base_of p g) s.orders.list (place + 1)) start g l line acts s.before.output first (way_after x f)) (did_as n os is_done e) d))
+        (subst (λ o. Chooses p image limit (order_place (base_of p g) s.orders (place + 1)) start g l line acts o first (f w)) s.wrote
+        (subst (λ x. Chooses p image limit (order_place (base_of p g) s.orders (place + 1)) start g l line acts s.before.output first (way_after x f)) (did_as n os is_done e) d))
 
     pub low_room : operand_words w.operands < level acts
     low_room = let room = s.room in let most = coded.room in let split = words_split w.operands acts in omega arith
 
     -- ---- orders that are blocks of their own
 
-    pub alone : block_at 0 (drop s.from s.orders.list) ≡ block.Single → Alone p image g place loaded acts w q s.orders.list
+    pub alone : block_at 0 (drop s.from s.orders.list) ≡ block.Single → Alone p image g place loaded acts w q s.orders
     alone is =
         let inside = s.inside in
         let none : orders_left (block_at 0 (drop s.from s.orders.list)) ≡ 0 = ap orders_left is in
@@ -457,9 +469,9 @@ module _ (known : Given) where
           begins = ap (left_at 0 s.orders.list) (sym here) ∙ s.begins;
           single = ap (λ n. block_at 0 (drop n s.orders.list)) (sym here) ∙ is;
           landed =
-              subst (λ l. Landed p image (order_place (base_of p g) s.orders.list place) g l acts w q) modes
-              (subst (λ v. Landed p image (order_place (base_of p g) s.orders.list place) g s.loaded_before acts v q) words
-              (subst (λ n. Landed p image (order_place (base_of p g) s.orders.list n) g s.loaded_before acts s.before q) here s.landed));
+              subst (λ l. Landed p image (order_place (base_of p g) s.orders place) g l acts w q) modes
+              (subst (λ v. Landed p image (order_place (base_of p g) s.orders place) g s.loaded_before acts v q) words
+              (subst (λ n. Landed p image (order_place (base_of p g) s.orders n) g s.loaded_before acts s.before q) here s.landed));
         }
 
     -- whether a statement may begin where the code of the order does, and the processor there, where what begins is overlooked
@@ -476,30 +488,37 @@ module _ (known : Given) where
     abbrev pub begun_block : Watched
     begun_block = over (behind_start s.orders.list s.from) q
 
-    module _ (a : Alone p image g place loaded acts w q s.orders.list) where
-      pub landed_here : LandedAt (behind_start s.orders.list place) p image (order_place (base_of p g) s.orders.list place) g loaded acts w (over (behind_start s.orders.list place) q)
+    module _ (a : Alone p image g place loaded acts w q s.orders) where
+      pub landed_here : LandedAt (behind_start s.orders.list place) p image (order_place (base_of p g) s.orders place) g loaded acts w (over (behind_start s.orders.list place) q)
       landed_here = over_landed (behind_start s.orders.list place) a.landed
 
       -- where its code begins and ends
       abbrev pub here : ℕ
-      here = order_place (base_of p g) s.orders.list place
+      here = order_place (base_of p g) s.orders place
 
       abbrev pub next : ℕ
-      next = order_place (base_of p g) s.orders.list (place + 1)
+      next = order_place (base_of p g) s.orders (place + 1)
 
       pub alone_is : block_at (left_at 0 s.orders.list place) (drop place s.orders.list) ≡ block.Single
       alone_is = ap (λ n. block_at n (drop place s.orders.list)) a.begins ∙ a.single
 
-      pub code : (o : Order) → slice_get s.orders.list place ≡ Some o → HasPiecesFrom (first_of o (behind_start s.orders.list place)) image (all.stands g s.orders s.unit).value (order_place (base_of p g) s.orders.list place) (template (names_of s.orders) (own_place s.orders.list place) o)
+      -- the form of its jump, and that a short one reaches its mark
+      abbrev pub short_alone : Order → Bool
+      short_alone o = is_short (reach_of s.orders) place block.Single o
+
+      pub reaches_alone : (o : Order) (m : ℕ) → slice_get s.orders.list place ≡ Some o → jump_of block.Single o ≡ Some m → short_alone o ≡ true → is_close (own_place s.orders place + block_size true block.Single o) (mark_starts s.orders m) ≡ true
+      reaches_alone o m e jumps short = closes s.orders place m block.Single o e alone_is jumps short
+
+      pub code : (o : Order) → slice_get s.orders.list place ≡ Some o → HasPiecesFrom (first_of o (behind_start s.orders.list place)) image (all.stands g s.orders s.unit).value (order_place (base_of p g) s.orders place) (template_by (is_short (reach_of s.orders) place block.Single o) (names_of s.orders) (own_place s.orders place) o)
       code o e =
           let st = all.stands g s.orders s.unit in
-          let here = order_place (base_of p g) s.orders.list place in
-          subst (λ x. HasPiecesFrom (first_of o (behind_start s.orders.list place)) image st.value here (block_pieces (names_of s.orders) (own_place s.orders.list place) x o)) alone_is (st.orders place o e)
+          let here = order_place (base_of p g) s.orders place in
+          subst (λ x. HasPiecesFrom (first_of o (behind_start s.orders.list place)) image st.value here (pieces_by (names_of s.orders) (own_place s.orders place) place x o)) alone_is (st.orders place o e)
 
-      pub behind : (o : Order) → slice_get s.orders.list place ≡ Some o → order_place (base_of p g) s.orders.list place + order_size o ≡ order_place (base_of p g) s.orders.list (place + 1)
+      pub behind : (o : Order) → slice_get s.orders.list place ≡ Some o → order_place (base_of p g) s.orders place + size_by (is_short (reach_of s.orders)) place block.Single o ≡ order_place (base_of p g) s.orders (place + 1)
       behind o e =
-          let n = order_next (base_of p g) s.orders.list place o e in
-          let size : block_size (block_at (left_at 0 s.orders.list place) (drop place s.orders.list)) o ≡ order_size o = ap (λ x. block_size x o) alone_is in
+          let n = order_next (base_of p g) s.orders place o e in
+          let size = ap (λ x. size_by (is_short (reach_of s.orders)) place x o) alone_is in
           omega arith
 
       pub begins_next : (o : Order) → slice_get s.orders.list place ≡ Some o → left_at 0 s.orders.list (place + 1) ≡ 0
@@ -508,13 +527,13 @@ module _ (known : Given) where
           ap (left_at 0 s.orders.list) next ∙ left_next 0 s.orders.list place o e ∙ ap orders_left alone_is
 
       -- an order without code
-      pub silent : (o : Order) (m : Bool) (v : Words) → slice_get s.orders.list place ≡ Some o → step p (at g place loaded acts w Running) ≡ at g (place + 1) m acts v Running → stack_words v.operands acts ≤ p.room → order_size o ≡ 0 → is_codeless o ≡ true
+      pub silent : (o : Order) (m : Bool) (v : Words) → slice_get s.orders.list place ≡ Some o → step p (at g place loaded acts w Running) ≡ at g (place + 1) m acts v Running → stack_words v.operands acts ≤ p.room → size_by (is_short (reach_of s.orders)) place block.Single o ≡ 0 → is_codeless o ≡ true
           → ((at : ℕ) → Landed p image at g loaded acts w q → Landed p image at g m acts v q) → Follow (at g place loaded acts w Running) q
       silent o m v e goes room none codeless turned =
-          let here = order_place (base_of p g) s.orders.list place in
+          let here = order_place (base_of p g) s.orders place in
           let next = behind o e in
-          let to : here ≡ order_place (base_of p g) s.orders.list (place + 1) = omega arith in
-          let there : Landed p image (order_place (base_of p g) s.orders.list (place + 1)) g m acts v q = subst (λ a. Landed p image a g m acts v q) to (turned here a.landed) in
+          let to : here ≡ order_place (base_of p g) s.orders (place + 1) = omega arith in
+          let there : Landed p image (order_place (base_of p g) s.orders (place + 1)) g m acts v q = subst (λ a. Landed p image a g m acts v q) to (turned here a.landed) in
           let matched : Arrives (at g (place + 1) m acts v Running) q = inl (sound_at (place + 1) m v q (begins_next o e) room goes there) in
           let within = slice_get_within s.orders.list place o e in
           let long : length_in (slice_get p.units g) ≡ length s.orders.list = ap length_in s.unit in

@@ -9,10 +9,10 @@ use Rattle.cw_order.specs.OrderProgram.{OrderProgram}
 use Rattle.cw_tmpl.specs.declared.pieces.Coded.{Coded}
 use Rattle.cw_tmpl.specs.declared.pieces.Coded.TheVariants as coded
 use Rattle.cw_tmpl.specs.Pieces.{Filling, blanks, size_of, target_of, word_before}
-use Rattle.cw_tmpl.specs.Templates.{entry_pieces, landing_pieces, switch_pieces}
+use Rattle.cw_tmpl.specs.Templates.{entry_pieces, landing_pieces, switch_pieces, is_short}
 use Rattle.cw_tmpl.specs.Blocks.{block_at, left_at}
 use Rattle.cw_tmpl.specs.Names.{landing_start, switch_start}
-use Rattle.cw_tmpl.specs.ReferenceCode.{names_of, pieces_of, templates, landings, switches, entry_size, order_places, landings_place, switches_place}
+use Rattle.cw_tmpl.specs.ReferenceCode.{names_of, pieces_of, templates, landings, switches, entry_size, order_places, landings_place, switches_place, reach_of}
 use Rattle.cw_tmpl.proofs.Growing.{blanks-append}
 use Rattle.cw_tmpl.proofs.Sizes.{size_everywhere, own_place}
 use Rattle.cw_order.specs.BeginsStatement.{BeginsStatement}
@@ -108,7 +108,7 @@ module _ (p : OrderProgram) (image : Image) (coded : Codable p) (stand : PlacesS
 
     entry_within : entry_size ≤ length (blanks (pieces_of o))
     entry_within =
-        let T = templates (names_of o) entry_size 0 o.list ++ (landings (names_of o) (landings_place o) o.labels ++ switches (names_of o) (switches_place o) o.switches) in
+        let T = templates (names_of o) entry_size 0 0 o.list ++ (landings (names_of o) (landings_place o) o.labels ++ switches (names_of o) (switches_place o) o.switches) in
         omega (arith, ap length (blanks-append entry_pieces T) ∙ length-append (blanks entry_pieces) (blanks T))
 
     -- behind a Start stands an order with which a statement may begin
@@ -123,9 +123,9 @@ module _ (p : OrderProgram) (image : Image) (coded : Codable p) (stand : PlacesS
         let both : first_of a (behind_start o.list k) ≡ true = ap₂ (λ x y. x && y) may behind in
         true≢false (sym both ∙ none)
 
-    free_in : (k : ℕ) (a : Order) → slice_get o.list k ≡ Some a → (n : ℕ) → n < size_at o.list k a → (n ≡ 0 → first_of a (behind_start o.list k) ≡ false) → lines_at image.places (base_of p g + slice_index (order_places o.list) k + n) ≡ []
+    free_in : (k : ℕ) (a : Order) → slice_get o.list k ≡ Some a → (n : ℕ) → n < size_at o k a → (n ≡ 0 → first_of a (behind_start o.list k) ≡ false) → lines_at image.places (base_of p g + slice_index (order_places o) k + n) ≡ []
     free_in k a listed zero lt none =
-        let here : base_of p g + slice_index (order_places o.list) k ≡ base_of p g + slice_index (order_places o.list) k + 0 = omega arith in
+        let here : base_of p g + slice_index (order_places o) k ≡ base_of p g + slice_index (order_places o) k + 0 = omega arith in
         ap (lines_at image.places) (sym here) ∙ stand.others g k o a unit listed lt (behind_may k a listed (none refl))
     free_in k a listed (suc n) lt none = stand.inside g k (suc n) o a unit listed (omega arith) lt
 
@@ -138,11 +138,11 @@ module _ (p : OrderProgram) (image : Image) (coded : Codable p) (stand : PlacesS
           let next = base_next in
           let within = entry_within in
           stand.around g (base_of p g + n) o unit (omega arith) (let l : base_of p g + n < base_of p (suc g) = omega arith in l) (inl (let l : base_of p g + n < base_of p g + entry_size = omega arith in l)));
-      orders = λ k a listed. pieces_strong (first_of a (behind_start o.list k)) image s.value (order_place (base_of p g) o.list k) (pieces_at o k a) (s.orders k a listed) (λ n lt none.
-          let long = size_everywhere (names_of o) (own_place o.list k) (block_at (left_at 0 o.list k) (drop k o.list)) a in
-          let own = own_is o.list k a listed in
-          let there : base_of p g + slice_index (order_places o.list) k + n ≡ order_place (base_of p g) o.list k + n = omega arith in
-          ap (lines_at image.places) (sym there) ∙ free_in k a listed n (let l : n < size_at o.list k a = omega arith in l) none);
+      orders = λ k a listed. pieces_strong (first_of a (behind_start o.list k)) image s.value (order_place (base_of p g) o k) (pieces_at o k a) (s.orders k a listed) (λ n lt none.
+          let long = size_everywhere (names_of o) (own_place o k) (is_short (reach_of o) k (block_at (left_at 0 o.list k) (drop k o.list)) a) (block_at (left_at 0 o.list k) (drop k o.list)) a in
+          let own = own_is o k a listed in
+          let there : base_of p g + slice_index (order_places o) k + n ≡ order_place (base_of p g) o k + n = omega arith in
+          ap (lines_at image.places) (sym there) ∙ free_in k a listed n (let l : n < size_at o k a = omega arith in l) none);
       landings = λ l m listed. pieces_strong false image s.value (base_of p g + landing_start (names_of o) l) (landing_pieces (names_of o) (landing_start (names_of o) l) m) (s.landings l m listed) (λ n lt no.
           let next = base_next in
           let within = s.landings_within l m listed in

@@ -66,7 +66,7 @@ module _ (known : Given) where
     pub low_top : suc below_top ≤ level acts
     pub kept : Kept p g acts w.memory w.input w.output cells stack left_input told
 
-  pub goes_through_switch : {q : Watched} {g place : ℕ} {acts : List OrderActivation} {w : Words} (s : Sound p image g place true acts w q) (by_itself : Alone p image g place true acts w q s.orders.list) (line steps to n owner : ℕ) (z : ℤ) (rest : List Operand)
+  pub goes_through_switch : {q : Watched} {g place : ℕ} {acts : List OrderActivation} {w : Words} (s : Sound p image g place true acts w q) (by_itself : Alone p image g place true acts w q s.orders) (line steps to n owner : ℕ) (z : ℤ) (rest : List Operand)
       → line < 65536
       → w.operands ≡ Word z ∷ rest → FitsWord z → ControlStands p g acts (SwitchControl to n owner)
       → step p (at g place true acts w Running) ≡ go_through p line (Some (SwitchControl to n owner)) g place false acts w → steps + 15 ≤ weight p (at g place true acts w Running)
@@ -145,10 +145,10 @@ module _ (known : Given) where
                   k.0 (length acts - owner) (label_place p l.0 l.1) k.1 (slice_get_within gs k.0 x k.2) short table_is word a.owner_is))
 
   -- the way to the routine by a near jump
-  pub near_switch : {q : Watched} {g place : ℕ} {acts : List OrderActivation} {w : Words} (s : Sound p image g place true acts w q) (by_itself : Alone p image g place true acts w q s.orders.list) (line to n by : ℕ) (z : ℤ) (rest : List Operand)
+  pub near_switch : {q : Watched} {g place : ℕ} {acts : List OrderActivation} {w : Words} (s : Sound p image g place true acts w q) (by_itself : Alone p image g place true acts w q s.orders) (line to n by : ℕ) (z : ℤ) (rest : List Operand)
       → w.operands ≡ Word z ∷ rest
-      → (order_place (base_of p g) s.orders.list place + 8 + by) % 65536 ≡ switch_place p to n % 65536
-      → HasAll image (order_place (base_of p g) s.orders.list place) (i86.MovImm 2 (imm.Word line) ∷ i86.Mov true true 6 (rms.Reg 5) ∷ i86.Jump by ∷ [])
+      → (order_place (base_of p g) s.orders place + 8 + by) % 65536 ≡ switch_place p to n % 65536
+      → HasAll image (order_place (base_of p g) s.orders place) (i86.MovImm 2 (imm.Word line) ∷ i86.Mov true true 6 (rms.Reg 5) ∷ i86.Jump by ∷ [])
       → Leads w.output 3 q (AtSwitch (switch_place p to n) g line acts (length acts) z w)
   near_switch {q} {g} {place} {acts} {w} s by_itself line to n by z rest operands arrives i = from by_itself.landed.top refl
     where
@@ -162,7 +162,7 @@ module _ (known : Given) where
           let t = top_is p acts by_itself.landed.stack by_itself.landed.top rest held.1 in
           absurd (omega arith)
       from (suc m) same =
-          let here = order_place (base_of p g) s.orders.list place in
+          let here = order_place (base_of p g) s.orders place in
           let d = by_itself.landed in
           let r = d.stacked in
           let bp = record_of acts in
@@ -194,7 +194,7 @@ module _ (known : Given) where
   no_word line (Some gs) (Word z ∷ rest) to owner g place loaded acts w h = absurd (h z rest refl)
 
   -- a switch by itself, wherever it is: the processor comes to its routine in so many instructions, where there is an index
-  pub goes_with : {q : Watched} {g place : ℕ} {acts : List OrderActivation} {w : Words} (s : Sound p image g place true acts w q) (by_itself : Alone p image g place true acts w q s.orders.list) (line steps to n owner : ℕ) (operands : List Operand)
+  pub goes_with : {q : Watched} {g place : ℕ} {acts : List OrderActivation} {w : Words} (s : Sound p image g place true acts w q) (by_itself : Alone p image g place true acts w q s.orders) (line steps to n owner : ℕ) (operands : List Operand)
       → line < 65536 → w.operands ≡ operands
       → ControlStands p g acts (SwitchControl to n owner) → step p (at g place true acts w Running) ≡ go_through p line (Some (SwitchControl to n owner)) g place false acts w
       → steps + 15 ≤ weight p (at g place true acts w Running)
@@ -207,20 +207,20 @@ module _ (known : Given) where
       let fits : FitsWord z = All-head OperandFits (Word z) rest (subst (All OperandFits) same s.fits.operands) in
       goes_through_switch s by_itself line steps to n owner z rest line_small same fits stands goes paid (way z rest same)
 
-  pub switches_own : {q : Watched} {g place : ℕ} {acts : List OrderActivation} {w : Words} (s : Sound p image g place true acts w q) (by_itself : Alone p image g place true acts w q s.orders.list) (n line : ℕ)
+  pub switches_own : {q : Watched} {g place : ℕ} {acts : List OrderActivation} {w : Words} (s : Sound p image g place true acts w q) (by_itself : Alone p image g place true acts w q s.orders) (n line : ℕ)
       → slice_get s.orders.list place ≡ Some (order.GoSwitch n line) → Follow known (at g place true acts w Running) q
   switches_own {q} {g} {place} {acts} {w} s by_itself n line e =
       let o = order.GoSwitch n line in
-      let own = own_place s.orders.list place in
+      let own = own_place s.orders place in
       let by = distance (own + 8) (switch_start (names_of s.orders) n) in
       let there : switch_place p g n ≡ (base_of p g + switch_start (names_of s.orders) n) % 65536 = start_is known g s.orders (λ u. switch_start (names_of u) n) s.unit in
       let meets = jump_arrives (base_of p g) own 8 (switch_start (names_of s.orders) n) in
-      let arrives : (order_place (base_of p g) s.orders.list place + 8 + by) % 65536 ≡ switch_place p g n % 65536 = omega arith in
+      let arrives : (order_place (base_of p g) s.orders place + 8 + by) % 65536 ≡ switch_place p g n % 65536 = omega arith in
       let paid = weight_is known s o e in
       goes_with s by_itself line 3 g n (length acts) w.operands (line_fits known s o e) refl (switch_stands p coded.callable g n acts) (step_is known s (Some o) e) (omega arith)
       (λ z rest same. near_switch s by_itself line g n by z rest same arrives (code known s by_itself o e))
 
-  pub switches_by_descriptor : {q : Watched} {g place : ℕ} {acts : List OrderActivation} {w : Words} (s : Sound p image g place true acts w q) (by_itself : Alone p image g place true acts w q s.orders.list) (d line : ℕ)
+  pub switches_by_descriptor : {q : Watched} {g place : ℕ} {acts : List OrderActivation} {w : Words} (s : Sound p image g place true acts w q) (by_itself : Alone p image g place true acts w q s.orders) (d line : ℕ)
       → slice_get s.orders.list place ≡ Some (order.GoSwitchCommon d line) → (x : Option (ℕ × Def)) → defined_at p g d ≡ x → Follow known (at g place true acts w Running) q
   switches_by_descriptor {q} {g} {place} {acts} {w} s by_itself d line e None is =
       absurd (stuck_here known s (step_is known s (Some (order.GoSwitchCommon d line)) e ∙ ap (λ x. go_through p line (with_switch_owner (length acts) (switch_of_def x)) g place false acts w) is))
@@ -230,7 +230,7 @@ module _ (known : Given) where
       absurd (stuck_here known s (step_is known s (Some (order.GoSwitchCommon d line)) e ∙ ap (λ x. go_through p line (with_switch_owner (length acts) (switch_of_def x)) g place false acts w) is))
   switches_by_descriptor {q} {g} {place} {acts} {w} s by_itself d line e (Some (to, def.Switch n)) is =
       let o = order.GoSwitchCommon d line in
-      let here = order_place (base_of p g) s.orders.list place in
+      let here = order_place (base_of p g) s.orders place in
       let st = all.stands g s.orders s.unit in
       let by = st.value 5 d 0 (here + 3 + 2 + 3) in
       let filled : by ≡ (definition_place p (defined_at p g d) + (65536 - (here + 3 + 2 + 3) % 65536)) % 65536 = st.fills.ahead d (here + 3 + 2 + 3) in
@@ -240,7 +240,7 @@ module _ (known : Given) where
       goes_with s by_itself line 3 to n (length acts) w.operands (line_fits known s o e) refl (switches_stand p coded.callable g d acts (Some (to, def.Switch n)) is)
       (step_is known s (Some o) e ∙ ap (λ x. go_through p line (with_switch_owner (length acts) (switch_of_def x)) g place false acts w) is) (omega arith) (λ z rest same. near_switch s by_itself line to n by z rest same arrives (code known s by_itself o e))
 
-  pub switches_by_parameter : {q : Watched} {g place : ℕ} {a : OrderActivation} {acts : List OrderActivation} {w : Words} (s : Sound p image g place true (a ∷ acts) w q) (by_itself : Alone p image g place true (a ∷ acts) w q s.orders.list) (k line : ℕ)
+  pub switches_by_parameter : {q : Watched} {g place : ℕ} {a : OrderActivation} {acts : List OrderActivation} {w : Words} (s : Sound p image g place true (a ∷ acts) w q) (by_itself : Alone p image g place true (a ∷ acts) w q s.orders) (k line : ℕ)
       → slice_get s.orders.list place ≡ Some (order.GoSwitchSpecial k line)
       → (x : Option Operand) → argument_behind k a.arguments ≡ x → Follow known (at g place true (a ∷ acts) w Running) q
   switches_by_parameter {q} {g} {place} {a} {acts} {w} s by_itself k line e None is =
@@ -264,7 +264,7 @@ module _ (known : Given) where
       all' = a ∷ acts
 
       here : ℕ
-      here = order_place (base_of p g) s.orders.list place
+      here = order_place (base_of p g) s.orders place
 
       from : HasAll image here (i86.MovImm 2 (imm.Word line) ∷ i86.Mov true true 6 (argument (k + 1)) ∷ i86.Mov true true 3 (argument k) ∷ i86.JumpRm (rms.Reg 3) ∷ [])
           → ControlStands p a.segment acts (SwitchControl to n owner)

@@ -40,6 +40,7 @@ use Rattle.cw_follow.proofs.Routines.{Over, with_ax, quiet_in, quiet_library, fl
 use Rattle.cw_follow.proofs.Stacks.{level, record_of}
 use Rattle.cw_follow.proofs.Orders.{Kept, kept_under, Landed, landed, Chooses, further}
 use Rattle.cw_follow.proofs.Leaving.{past, kept_below, drops_operands}
+use Rattle.cw_i86.specs.State.{sign_extended}
 
 -- ---- numbers
 
@@ -243,6 +244,54 @@ module _ (rows : Rows) (prog : OrderProgram) (image : Image) where
   loops_once g acts to by start m (Word (negsuc n) ∷ rest) memory input output e arrives fits i l =
       let far = less_is_far n (All-head OperandFits (Word (negsuc n)) rest fits) in
       further 2 (lit≤ tt) (lit< tt) (one_past g acts by i (negsuc n) rest memory input output l to (some_left _ (omega arith)) e)
+
+  -- the same with a short jump
+  module _ {q : Watched} {at : ℕ} (g : ℕ) (acts : List OrderActivation) (by : ℕ) (i : HasAll image at (i86.Dec 0 ∷ i86.JumpIf 4 by ∷ [])) (z : ℤ) (rest : List Operand) (memory : List ℤ) (input output : List ℕ)
+      (l : Landed prog image at g true acts (record { operands = Word z ∷ rest; memory = memory; input = input; output = output }) q) where
+    abbrev counted_down : View
+    counted_down =
+        view (word_difference (unsigned z) 1) l.stacked.cx l.stacked.dx l.stacked.bx (2 * l.top) (record_of acts) l.stacked.si prog.limits.area (difference_overflows (unsigned z) 1) l.cells l.stack l.input l.told
+
+    -- whether nothing is left
+    abbrev CountedDown : Bool → Watched → Type 0
+    CountedDown b r = Is image (at + 1) counted_down r × (holds r.processor.state.flags 4 ≡ b)
+
+    counts_down : (b : Bool) → (word_difference (unsigned z) 1 == 0) ≡ b → CountedDown b (watched_step q)
+    counts_down b is =
+        let a = act rows (Count true 0) (lit< tt) i.0 tt (with_ax l.operands.0 l.stacked.is) in
+        (a.is, ap (λ f. holds f 4) a.flags ∙ (rows.counted_zero true (unsigned z) q.processor.state.flags ∙ is))
+
+    short_to : (to : ℕ) → (word_difference (unsigned z) 1 == 0) ≡ true → (at + 3 + sign_extended by) % 65536 ≡ to % 65536
+        → Leads output 2 q (Landed prog image to g false acts (record { operands = rest; memory = memory; input = input; output = output }))
+    short_to to is arrives =
+        let there : (at + 1 + 2 + sign_extended by) % 65536 ≡ to % 65536 = omega arith in
+        compared_more rows {Between = CountedDown true} l.stacked.is l.kept.wrote (counts_down true is) (λ r t.
+        last rows t.0 l.kept.wrote (landed rows prog image g acts false to l.top rest memory input output refl l.operands.1 l.kept (to_place there (jump_if rows 4 by t.1 i.1.0 t.0))))
+
+    short_past : (to : ℕ) → (word_difference (unsigned z) 1 == 0) ≡ false → at + 3 ≡ to
+        → Leads output 2 q (Landed prog image to g false acts (record { operands = rest; memory = memory; input = input; output = output }))
+    short_past to is e =
+        let ends : at + 1 + 2 ≡ to = omega arith in
+        compared_more rows {Between = CountedDown false} l.stacked.is l.kept.wrote (counts_down false is) (λ r t.
+        last rows t.0 l.kept.wrote (landed rows prog image g acts false to l.top rest memory input output ends l.operands.1 l.kept (pass_if rows 4 by t.1 i.1.0 t.0)))
+
+  pub loops_close : {q : Watched} {at : ℕ} (g : ℕ) (acts : List OrderActivation) (to by : ℕ) (start : ℕ → ℕ) (m : ℕ) (operands : List Operand) (memory : List ℤ) (input output : List ℕ)
+      → at + 3 ≡ to → (at + 3 + sign_extended by) % 65536 ≡ start m % 65536 → All OperandFits operands → HasAll image at (i86.Dec 0 ∷ i86.JumpIf 4 by ∷ [])
+      → Landed prog image at g true acts (record { operands = operands; memory = memory; input = input; output = output }) q
+      → Chooses prog image 3 to start g false 0 acts output q (way_of_one (λ i v. to_mark_in (mark_of_number (m ∷ []) i) v) operands (record { operands = operands; memory = memory; input = input; output = output }))
+  loops_close g acts to by start m [] memory input output e arrives fits i l = tt
+  loops_close g acts to by start m (Held c ∷ rest) memory input output e arrives fits i l = tt
+  loops_close g acts to by start m (Word (pos zero) ∷ rest) memory input output e arrives fits i l =
+      further 2 (lit≤ tt) (lit< tt) (short_past g acts by i (pos zero) rest memory input output l to refl e)
+  loops_close g acts to by start m (Word (pos (suc zero)) ∷ rest) memory input output e arrives fits i l =
+      further 2 (lit≤ tt) (lit< tt) (short_to g acts by i (pos 1) rest memory input output l (start m) refl arrives)
+  loops_close g acts to by start m (Word (pos (suc (suc k))) ∷ rest) memory input output e arrives fits i l =
+      let small = number_fits (suc k) (All-head OperandFits (Word (pos (suc (suc k)))) rest fits) in
+      let left = from_zero (suc k) small in
+      further 2 (lit≤ tt) (lit< tt) (short_past g acts by i (pos (suc (suc k))) rest memory input output l to (some_left _ (omega arith)) e)
+  loops_close g acts to by start m (Word (negsuc n) ∷ rest) memory input output e arrives fits i l =
+      let far = less_is_far n (All-head OperandFits (Word (negsuc n)) rest fits) in
+      further 2 (lit≤ tt) (lit< tt) (short_past g acts by i (negsuc n) rest memory input output l to (some_left _ (omega arith)) e)
 
   -- ---- switches
 

@@ -10,7 +10,7 @@ use Rattle.cw_i86.specs.declared.instr.Instr.TheVariants as i86
 use Rattle.cw_i86.specs.declared.instr.Imm.TheVariants as imm
 use Rattle.cw_i86.specs.declared.instr.Rm.TheVariants as rms
 use Rattle.cw_i86.specs.declared.instr.Place.TheVariants as places
-use Rattle.cw_run86.specs.Views.{condition_of, with_number, with_memory, product_low, product_overflows}
+use Rattle.cw_run86.specs.Views.{with_number, with_memory, product_low, product_overflows}
 use Rattle.cw_rows86.specs.Operations.{WordOperation, Add, Or, And, Subtract, Xor, Compare, number_of}
 use Rattle.cw_word.specs.FixedPoint.{FitsWord, fits_word, scaled_product}
 use Rattle.cw_word.specs.Word.{signed, unsigned}
@@ -44,10 +44,10 @@ use Rattle.cw_tmpl.specs.Library.{overflow_entry, stop_place}
 use Rattle.cw_tmpl.specs.Mnemonics.{ax, bx, cx, slot, base_slot, field, at_si, operate, load, move}
 use Rattle.cw_tmpl.specs.Pieces.{Filling, blanks}
 use Rattle.cw_tmpl.specs.Names.{no_names, mark_place}
-use Rattle.cw_tmpl.specs.Templates.{distance, opposite_of, with_operand, checked, branch, pieces_size, element_size, element_address, operated, block_size}
-use Rattle.cw_tmpl.specs.ReferenceCode.{names_of, mark_starts}
+use Rattle.cw_tmpl.specs.Templates.{with_operand, checked, pieces_size, element_size, element_address, operated, block_size, is_short, is_close, branch_by}
+use Rattle.cw_tmpl.specs.ReferenceCode.{names_of, mark_starts, reach_of}
 use Rattle.cw_follow.specs.Placing.{base_of}
-use Rattle.cw_tmpl.proofs.Sizes.{own_place, element_long_as}
+use Rattle.cw_tmpl.proofs.Sizes.{own_place, element_long_as, compared_long, size_by}
 use Rattle.cw_follow.proofs.Standing.{HasPieces, appended_long, stand_both, order_place, Has, HasAll, Image}
 use Rattle.cw_follow.proofs.Watched.{Watched}
 use Rattle.cw_follow.proofs.Chains.{Is, Leads, view, done, more, load_at, move as moved_to}
@@ -61,8 +61,9 @@ use Rattle.cw_follow.proofs.Scales.{turned_overflows, turned_is}
 use Rattle.cw_follow.proofs.Indexed.{element_steps, few_element}
 use Rattle.cw_follow.proofs.States.{Given, Sound}
 use Rattle.cw_follow.proofs.InBlocks.{chain}
-use Rattle.cw_follow.proofs.Steps.{Follow, setting, weight_is, line_fits, block_code, block_ends, start_place, order_here, last_does, by, calls, start, last_chooses, arrives_at, two_roomy, way_after}
+use Rattle.cw_follow.proofs.Steps.{Follow, setting, weight_is, line_fits, block_code, block_ends, start_place, order_here, last_does, by, calls, start, last_chooses, two_roomy, way_after, reaches_mark}
 use Rattle.cw_follow.proofs.BlockOrders.{WithoutAddress, room_in, operand_puts, block_follows, saved, step_in, number_small}
+use Rattle.cw_follow.proofs.Branches.{branch_size, goes_by, branch_code, jump_word, branch_arrives, branch_stands}
 
 -- ---- the code of an operation on AX and a simple operand
 
@@ -145,11 +146,11 @@ abbrev pub OneOperation : Use → Type 0
 OneOperation (uses.Multiply line) = ⊥
 OneOperation u = Unit {0}
 
-pub tested_size : (s : Simple) (u : Use) → OneOperation u → block_size (block.Operate s u) order.Save ≡ operand_size s + rest_size u
+pub tested_size : (s : Simple) (u : Use) → OneOperation u → block_size false (block.Operate s u) order.Save ≡ operand_size s + rest_size u
 tested_size s (uses.Multiply line) h = absurd h
 tested_size (simple.Number x) u h = number u h
   where
-    number : (u : Use) → OneOperation u → block_size (block.Operate (simple.Number x) u) order.Save ≡ 3 + rest_size u
+    number : (u : Use) → OneOperation u → block_size false (block.Operate (simple.Number x) u) order.Save ≡ 3 + rest_size u
     number (uses.Multiply line) h = absurd h
     number (uses.Add line) h = refl
     number (uses.Subtract line) h = refl
@@ -159,7 +160,7 @@ tested_size (simple.Number x) u h = number u h
     number (uses.Compare c m) h = refl
 tested_size (simple.Element e) u h = element u h
   where
-    element : (u : Use) → OneOperation u → block_size (block.Operate (simple.Element e) u) order.Save ≡ element_size e e.test + 2 + rest_size u
+    element : (u : Use) → OneOperation u → block_size false (block.Operate (simple.Element e) u) order.Save ≡ element_size e e.test + 2 + rest_size u
     element (uses.Multiply line) h = absurd h
     element (uses.Add line) h = omega (arith, appended_long (with_operand 0 (simple.Element e)) (checked line), element_operation e 0)
     element (uses.Subtract line) h = omega (arith, appended_long (with_operand 5 (simple.Element e)) (checked line), element_operation e 5)
@@ -167,11 +168,10 @@ tested_size (simple.Element e) u h = element u h
     element uses.Union h = omega (arith, element_operation e 1)
     element uses.Differ h = omega (arith, element_operation e 6)
     element (uses.Compare c m) h =
-        let jumps : List Coded = branch c (0 + pieces_size (with_operand 7 (simple.Element e)) + 5) (mark_place no_names m) in
-        omega (arith, appended_long (with_operand 7 (simple.Element e)) jumps, element_operation e 7)
+        omega (arith, compared_long false (with_operand 7 (simple.Element e)) c (0 + pieces_size (with_operand 7 (simple.Element e))) (mark_place no_names m), element_operation e 7)
 tested_size (simple.Contents (cell.Word f n)) u h = word u h
   where
-    word : (u : Use) → OneOperation u → block_size (block.Operate (simple.Contents (cell.Word f n)) u) order.Save ≡ 4 + rest_size u
+    word : (u : Use) → OneOperation u → block_size false (block.Operate (simple.Contents (cell.Word f n)) u) order.Save ≡ 4 + rest_size u
     word (uses.Multiply line) h = absurd h
     word (uses.Add line) h = refl
     word (uses.Subtract line) h = refl
@@ -181,7 +181,7 @@ tested_size (simple.Contents (cell.Word f n)) u h = word u h
     word (uses.Compare c m) h = refl
 tested_size (simple.Contents (cell.Frame n)) u h = word u h
   where
-    word : (u : Use) → OneOperation u → block_size (block.Operate (simple.Contents (cell.Frame n)) u) order.Save ≡ 7 + rest_size u
+    word : (u : Use) → OneOperation u → block_size false (block.Operate (simple.Contents (cell.Frame n)) u) order.Save ≡ 7 + rest_size u
     word (uses.Multiply line) h = absurd h
     word (uses.Add line) h = refl
     word (uses.Subtract line) h = refl
@@ -195,6 +195,10 @@ compare_size (simple.Number x) = refl
 compare_size (simple.Element e) = element_operation e 7
 compare_size (simple.Contents (cell.Word f n)) = refl
 compare_size (simple.Contents (cell.Frame n)) = refl
+
+compared_size : (short : Bool) (s : Simple) (c : Comparator) (m : ℕ) → block_size short (block.Operate s (uses.Compare c m)) order.Save ≡ operand_size s + branch_size short
+compared_size true s c m = omega (arith, compared_long true (with_operand 7 s) c (0 + pieces_size (with_operand 7 s)) (mark_place no_names m), compare_size s)
+compared_size false s c m = omega (arith, compared_long false (with_operand 7 s) c (0 + pieces_size (with_operand 7 s)) (mark_place no_names m), compare_size s)
 
 -- ---- outcomes
 
@@ -298,10 +302,10 @@ module _ (c : Setting) (memory : List ℤ) (input output : List ℕ) where
               (λ q r. difference_in_bits c memory input output to x y rest (top_fits operands fits x rest is) fy e h r)
 
     -- a comparison
-    compare_used : (by : ℕ) (start : ℕ → ℕ) (k : Comparator) (m : ℕ) → named_at s at + named_size s + 5 ≡ to → (named_at s at + named_size s + 5 + by) % 65536 ≡ start m % 65536 → Has c.image (named_at s at) (naming w s Compare)
-        → HasAll c.image (named_at s at + named_size s) (i86.JumpIf (condition_of (opposite_of k)) 3 ∷ i86.Jump by ∷ [])
+    compare_used : (short : Bool) (by : ℕ) (start : ℕ → ℕ) (k : Comparator) (m : ℕ) → named_at s at + named_size s + branch_size short ≡ to → (named_at s at + named_size s + branch_size short + goes_by short by) % 65536 ≡ start m % 65536 → Has c.image (named_at s at) (naming w s Compare)
+        → HasAll c.image (named_at s at + named_size s) (branch_code short k by)
         → Chooses c.program c.image 10 to start c.g false 0 c.acts output p (way_of_two (λ x y v. to_mark_if (holds (comparison k) x y) m v) (put y (words operands memory input output)))
-    compare_used by start k m e arrives h i = cases operands refl
+    compare_used short by start k m e arrives h i = cases operands refl
       where
         cases : (xs : List Operand) → operands ≡ xs → Chooses c.program c.image 10 to start c.g false 0 c.acts output p (way_of_two (λ x y v. to_mark_if (holds (comparison k) x y) m v) (put y (words xs memory input output)))
         cases [] is = tt
@@ -309,7 +313,7 @@ module _ (c : Setting) (memory : List ℤ) (input output : List ℕ) where
         cases (Word x ∷ rest) is =
             let few = few_steps s in
             sooner c.program c.image 3 to start c.g false 0 c.acts (steps_to s) 10 (to_mark_if (holds (comparison k) x y) m (words rest memory input output)) (omega arith) (named x rest is)
-            (λ q r. comparison_of c memory input output to by start k m x y rest (top_fits operands fits x rest is) fy e arrives h i r)
+            (λ q r. comparison_of c memory input output short to by start k m x y rest (top_fits operands fits x rest is) fy e arrives h i r)
 
 -- ---- what each operand is
 
@@ -431,7 +435,7 @@ module _ (known : Given) where
   module _ {q : Watched} {g place : ℕ} {loaded : Bool} {acts : List OrderActivation} {w : Words} (s : Sound p image g place loaded acts w q) where
     -- where the code of the block ends, where its last order is at work
     abbrev pub block_end : ℕ
-    block_end = order_place (base_of p g) s.orders.list (place + 1)
+    block_end = order_place (base_of p g) s.orders (place + 1)
 
     abbrev pub here_at : ℕ
     here_at = start_place known s
@@ -493,7 +497,7 @@ module _ (known : Given) where
 
     -- the code of a block from its operand on
     abbrev pub Code : Simple → Use → Type 0
-    Code o u = HasPieces image (all.stands g s.orders s.unit).value here_at (operated (names_of s.orders) (own_place s.orders.list s.from) o u)
+    Code o u = HasPieces image (all.stands g s.orders s.unit).value here_at (operated (names_of s.orders) (own_place s.orders s.from) (is_short (reach_of s.orders) s.from (block.Operate o u) order.Save) o u)
 
     abbrev pub NamedHere : Simple → ℤ → Type 0
     NamedHere o y = NamedFrom (setting known s) s.before.memory s.before.input s.before.output here_at (offset_at (all.stands g s.orders s.unit).value o here_at) o y s.before.operands q
@@ -501,13 +505,13 @@ module _ (known : Given) where
     -- the product with an operand
     abbrev pub Multiplies : Simple → ℤ → Type 0
     Multiplies o y =
-        (line : ℕ) → line < 65536 → Code o (uses.Multiply line) → here_at + block_size (block.Operate o (uses.Multiply line)) order.Save ≡ block_end
+        (line : ℕ) → line < 65536 → Code o (uses.Multiply line) → here_at + block_size false (block.Operate o (uses.Multiply line)) order.Save ≡ block_end
         → Does p image 24 block_end g true line acts s.before.output q (perform p.limits.area (Multiply (pos 0)) (put y s.before))
 
     abbrev pub call_of : ℕ → ℕ
     call_of test = by known s overflow_entry (test + 2 + 3)
 
-    pub used_law : (o : Simple) (u : Use) (y : ℤ) → Computes u → FitsWord y → line_of (order_of u) < 65536 → here_at + block_size (block.Operate o u) order.Save ≡ block_end → Code o u → (OneOperation u → NamedHere o y) → Multiplies o y
+    pub used_law : (o : Simple) (u : Use) (y : ℤ) → Computes u → FitsWord y → line_of (order_of u) < 65536 → here_at + size_by (is_short (reach_of s.orders)) s.from (block.Operate o u) order.Save ≡ block_end → Code o u → (OneOperation u → NamedHere o y) → Multiplies o y
         → Ended u (outcome p.limits.area u (put y s.before))
     used_law o (uses.Add line) y h fy small ends i named product =
         let k = operand_code image (all.stands g s.orders s.unit).value here_at o Add (checked line) i in
@@ -580,13 +584,13 @@ module _ (known : Given) where
     -- ---- the last order
 
     -- an operation with a number, with a word of the data area and with one of the frame
-    number_does : (n : ℕ) (u : Use) → Computes u → n < 65536 → line_of (order_of u) < 65536 → here_at + block_size (block.Operate (simple.Number n) u) order.Save ≡ block_end → Code (simple.Number n) u → Landed p image here_at g true acts s.before q
+    number_does : (n : ℕ) (u : Use) → Computes u → n < 65536 → line_of (order_of u) < 65536 → here_at + size_by (is_short (reach_of s.orders)) s.from (block.Operate (simple.Number n) u) order.Save ≡ block_end → Code (simple.Number n) u → Landed p image here_at g true acts s.before q
         → Ended u (outcome p.limits.area u (put (signed n) s.before))
     number_does n u h lt small ends i l =
         let v = s.before in
         used_law (simple.Number n) u (signed n) h (rows.words.signed_fits n lt) small ends i (λ one. number_from (setting known s) v.memory v.input v.output v.operands (room_in known s) l n lt) (number_product n lt l)
 
-    word_does : (f n : ℕ) (u : Use) → Computes u → line_of (order_of u) < 65536 → here_at + block_size (block.Operate (simple.Contents (cell.Word f n)) u) order.Save ≡ block_end → Code (simple.Contents (cell.Word f n)) u
+    word_does : (f n : ℕ) (u : Use) → Computes u → line_of (order_of u) < 65536 → here_at + size_by (is_short (reach_of s.orders)) s.from (block.Operate (simple.Contents (cell.Word f n)) u) order.Save ≡ block_end → Code (simple.Contents (cell.Word f n)) u
         → Landed p image here_at g true acts s.before q
         → Ended u (chain (chain (unrefused (perform p.limits.area (Fetch None) (put (signed (home_word p.addresses g f n)) s.before))) Changed) (outcome p.limits.area u))
     word_does f n u h small ends i l =
@@ -614,7 +618,7 @@ module _ (known : Given) where
     abbrev fetched_frame : ℕ → Outcome
     fetched_frame n = chain (put_address (frame_word p.limits.area acts n) s.before) (λ v. chain (unrefused (perform p.limits.area (Fetch None) v)) Changed)
 
-    frame_does : (n : ℕ) (u : Use) → Computes u → line_of (order_of u) < 65536 → here_at + block_size (block.Operate (simple.Contents (cell.Frame n)) u) order.Save ≡ block_end → Code (simple.Contents (cell.Frame n)) u
+    frame_does : (n : ℕ) (u : Use) → Computes u → line_of (order_of u) < 65536 → here_at + size_by (is_short (reach_of s.orders)) s.from (block.Operate (simple.Contents (cell.Frame n)) u) order.Save ≡ block_end → Code (simple.Contents (cell.Frame n)) u
         → Landed p image here_at g true acts s.before q → Ended u (chain (fetched_frame n) (outcome p.limits.area u))
     frame_does n u h small ends i l = cases acts refl
       where
@@ -673,26 +677,48 @@ module _ (known : Given) where
     abbrev pub way_of : Comparator → ℕ → Words → Way
     way_of c m v = way_of_two (λ x y t. to_mark_if (holds (comparison c) x y) m t) v
 
-    pub compares_with : (o : Simple) (c : Comparator) (m : ℕ) (y : ℤ) → FitsWord y → here_at + block_size (block.Operate o (uses.Compare c m)) order.Save ≡ block_end → Code o (uses.Compare c m) → NamedHere o y → Chosen (way_of c m (put y s.before))
-    compares_with o c m y fy ends i named =
-        let v = s.before in
-        let own = own_place s.orders.list s.from in
-        let behind = own + pieces_size (with_operand 7 o) + 5 in
-        let k = operand_code image (all.stands g s.orders s.unit).value here_at o Compare (branch c behind (mark_starts s.orders m)) i in
-        let size = compare_size o in
-        let there = arrives_at (base_of p g) own (pieces_size (with_operand 7 o)) (mark_starts s.orders m) in
-        compare_used (setting known s) v.memory v.input v.output here_at o block_end _ y v.operands fy s.fits_before.operands named (distance behind (mark_starts s.orders m)) (start known s) c m
-        (omega (arith, ends, tested_size o (uses.Compare c m) tt, named_end o here_at)) (omega (arith, named_end o here_at, size, there)) k.1 k.2
+    -- whether the jump behind a comparison is short, and then that it reaches its mark
+    abbrev pub short_on : Simple → Comparator → ℕ → Bool
+    short_on o c m = is_short (reach_of s.orders) s.from (block.Operate o (uses.Compare c m)) order.Save
 
-    number_chooses : (n : ℕ) (c : Comparator) (m : ℕ) → n < 65536 → here_at + block_size (block.Operate (simple.Number n) (uses.Compare c m)) order.Save ≡ block_end → Code (simple.Number n) (uses.Compare c m) → Landed p image here_at g true acts s.before q
+    abbrev pub Reaches : Simple → Comparator → ℕ → Type 0
+    Reaches o c m = short_on o c m ≡ true → is_close (own_place s.orders s.from + block_size true (block.Operate o (uses.Compare c m)) order.Save) (mark_starts s.orders m) ≡ true
+
+    pub compares_with : (o : Simple) (c : Comparator) (m : ℕ) (y : ℤ) → FitsWord y → here_at + block_size (short_on o c m) (block.Operate o (uses.Compare c m)) order.Save ≡ block_end → Code o (uses.Compare c m) → Reaches o c m → NamedHere o y
+        → Chosen (way_of c m (put y s.before))
+    compares_with o c m y fy ends i reached named = cases (short_on o c m) ends i reached
+      where
+        own : ℕ
+        own = own_place s.orders s.from
+
+        behind : ℕ
+        behind = own + pieces_size (with_operand 7 o)
+
+        to : ℕ
+        to = mark_starts s.orders m
+
+        cases : (short : Bool) → here_at + block_size short (block.Operate o (uses.Compare c m)) order.Save ≡ block_end
+            → HasPieces image (all.stands g s.orders s.unit).value here_at (with_operand 7 o ++ branch_by short c behind to)
+            → (short ≡ true → is_close (own + block_size true (block.Operate o (uses.Compare c m)) order.Save) to ≡ true) → Chosen (way_of c m (put y s.before))
+        cases short ends i reached =
+            let v = s.before in
+            let k = operand_code image (all.stands g s.orders s.unit).value here_at o Compare (branch_by short c behind to) i in
+            let size = compare_size o in
+            let sized = compared_size short o c m in
+            let close : short ≡ true → is_close (behind + 2) to ≡ true = λ is. ap (λ n. is_close n to) (let e : behind + 2 ≡ own + block_size true (block.Operate o (uses.Compare c m)) order.Save = omega (arith, compared_size true o c m, size) in e) ∙ reached is in
+            let there = branch_arrives (base_of p g) own (pieces_size (with_operand 7 o)) to short close in
+            compare_used (setting known s) v.memory v.input v.output here_at o block_end _ y v.operands fy s.fits_before.operands named short (jump_word short (behind + branch_size short) to) (start known s) c m
+            (omega (arith, ends, sized, named_end o here_at)) (omega (arith, named_end o here_at, size, there)) k.1 (branch_stands image (all.stands g s.orders s.unit).value _ short c behind to k.2)
+
+    number_chooses : (n : ℕ) (c : Comparator) (m : ℕ) → n < 65536 → here_at + block_size (short_on (simple.Number n) c m) (block.Operate (simple.Number n) (uses.Compare c m)) order.Save ≡ block_end → Code (simple.Number n) (uses.Compare c m) → Reaches (simple.Number n) c m → Landed p image here_at g true acts s.before q
         → Chosen (way_of c m (put (signed n) s.before))
-    number_chooses n c m lt ends i l =
+    number_chooses n c m lt ends i reached l =
         let v = s.before in
-        compares_with (simple.Number n) c m (signed n) (rows.words.signed_fits n lt) ends i (number_from (setting known s) v.memory v.input v.output v.operands (room_in known s) l n lt)
+        compares_with (simple.Number n) c m (signed n) (rows.words.signed_fits n lt) ends i reached (number_from (setting known s) v.memory v.input v.output v.operands (room_in known s) l n lt)
 
-    frame_chooses : (n : ℕ) (c : Comparator) (m : ℕ) → here_at + block_size (block.Operate (simple.Contents (cell.Frame n)) (uses.Compare c m)) order.Save ≡ block_end → Code (simple.Contents (cell.Frame n)) (uses.Compare c m)
+    frame_chooses : (n : ℕ) (c : Comparator) (m : ℕ) → here_at + block_size (short_on (simple.Contents (cell.Frame n)) c m) (block.Operate (simple.Contents (cell.Frame n)) (uses.Compare c m)) order.Save ≡ block_end → Code (simple.Contents (cell.Frame n)) (uses.Compare c m) → Reaches (simple.Contents (cell.Frame n)) c m
         → Landed p image here_at g true acts s.before q → Chosen (way_after (fetched_frame n) (way_of c m))
-    frame_chooses n c m ends i l = cases acts refl
+    frame_chooses n c m ends i reached l = cases acts refl
       where
         cases : (xs : List OrderActivation) → acts ≡ xs → Chosen (way_after (chain (put_address (frame_word p.limits.area xs n) s.before) (λ v. chain (unrefused (perform p.limits.area (Fetch None) v)) Changed)) (way_of c m))
         cases [] is = tt
@@ -706,7 +732,7 @@ module _ (known : Given) where
                 let inside = ltb-true (a.frame_base + n) p.limits.area is_in in
                 fetched_chooses (a.frame_base + n) 10 (way_of c m) (omega arith)
                 (λ k within same.
-                compares_with (simple.Contents (cell.Frame n)) c m (word_at v.memory k) (memory_word k within) ends i
+                compares_with (simple.Contents (cell.Frame n)) c m (word_at v.memory k) (memory_word k within) ends i reached
                 (frame_from (setting known s) v.memory v.input v.output v.operands (room_in known s) l a under n k is within same (addressed n (uses.Compare c m) tt i)))
 
     compares_last : (o : Simple) (c : Comparator) (m : ℕ) (rest : List Order) → WithoutAddress o → s.done ≡ suc (length (operand_orders o)) → drop s.from s.orders.list ≡ order.Save ∷ (operand_orders o ++ order.JumpIf c m ∷ rest)
@@ -720,7 +746,7 @@ module _ (known : Given) where
         let before = saved known s true 1 os is_done e refl in
         let paid : 10 ≤ weight p (at g place loaded acts w Running) = let y = weight_is known s (order.JumpIf c m) here in omega arith in
         last_chooses known s false 0 (way_of c m) 10 2 _ is_done e ends.begins (two_roomy acts p.room m c w.operands w s.room) (step_in known s true (order.JumpIf c m) before.now here) paid
-        (number_chooses n c m (number_small known s n (order.JumpIf c m ∷ rest) e) ends.behind (block_code known s b order.Save os e is) before.landed)
+        (number_chooses n c m (number_small known s n (order.JumpIf c m ∷ rest) e) ends.behind (block_code known s b order.Save os e is) (reaches_mark known s b order.Save os m e is refl) before.landed)
     compares_last (simple.Contents (cell.Word f n)) c m rest without is_done e is =
         let os = order.Home f n ∷ order.Load ∷ order.JumpIf c m ∷ rest in
         let o = simple.Contents (cell.Word f n) in
@@ -736,7 +762,7 @@ module _ (known : Given) where
         last_chooses known s false 0 (way_of c m) 10 3 _ is_done e ends.begins (two_roomy acts p.room m c w.operands w s.room) (step_in known s true (order.JumpIf c m) before.now here) paid
         (fetched_chooses word 10 (way_of c m) (omega arith)
         (λ k within same.
-        compares_with o c m (word_at v.memory k) (memory_word k within) ends.behind (block_code known s b order.Save os e is)
+        compares_with o c m (word_at v.memory k) (memory_word k within) ends.behind (block_code known s b order.Save os e is) (reaches_mark known s b order.Save os m e is refl)
         (word_from (setting known s) v.memory v.input v.output v.operands (room_in known s) before.landed f n (st.value 2 f n (here_at + 4)) k within (omega arith))))
     compares_last (simple.Contents (cell.Frame n)) c m rest without is_done e is =
         let os = order.FrameHome n ∷ order.Load ∷ order.JumpIf c m ∷ rest in
@@ -747,7 +773,7 @@ module _ (known : Given) where
         let before = saved known s true 2 os is_done e refl in
         let paid : 10 ≤ weight p (at g place loaded acts w Running) = let y = weight_is known s (order.JumpIf c m) here in omega arith in
         last_chooses known s false 0 (way_of c m) 10 3 _ is_done e ends.begins (two_roomy acts p.room m c w.operands w s.room) (step_in known s true (order.JumpIf c m) before.now here) paid
-        (frame_chooses n c m ends.behind (block_code known s b order.Save os e is) before.landed)
+        (frame_chooses n c m ends.behind (block_code known s b order.Save os e is) (reaches_mark known s b order.Save os m e is refl) before.landed)
 
     -- the orders of a block that uses a simple operand whose address is not formed
     pub operand_follows : (o : Simple) → WithoutAddress o → (u : Use) (rest : List Order) → drop s.from s.orders.list ≡ order.Save ∷ (operand_orders o ++ order_of u ∷ rest) → block_at 0 (drop s.from s.orders.list) ≡ block.Operate o u

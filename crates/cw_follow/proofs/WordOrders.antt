@@ -13,9 +13,9 @@ use Rattle.cw_order.specs.OrderState.{OrderActivation, at}
 use Rattle.cw_tmpl.specs.declared.pieces.Coded.{Coded}
 use Rattle.cw_tmpl.specs.Pieces.{Filling, blanks}
 use Rattle.cw_tmpl.specs.Library.{overflow_entry, zero_divisor_entry, address_entry, product_entry, quotient_down_entry, quotient_up_entry}
-use Rattle.cw_tmpl.specs.Templates.{template, order_size, times_if, product_start, rescale_if, product_down}
-use Rattle.cw_tmpl.specs.ReferenceCode.{names_of}
-use Rattle.cw_tmpl.proofs.Sizes.{own_place}
+use Rattle.cw_tmpl.specs.Templates.{times_if, product_start, rescale_if, product_down, is_short, template_by}
+use Rattle.cw_tmpl.specs.ReferenceCode.{names_of, reach_of}
+use Rattle.cw_tmpl.proofs.Sizes.{own_place, size_by}
 use Rattle.cw_follow.proofs.Watched.{Watched}
 use Rattle.cw_follow.proofs.Standing.{HasPieces, HasPiecesFrom, first_of, behind_start, Image}
 use Rattle.cw_follow.proofs.States.{Given, Sound}
@@ -27,6 +27,7 @@ use Rattle.cw_follow.proofs.Elements.{forms_element, forms_element_of_two, forms
 use Rattle.cw_follow.proofs.Scales.{rescales_up, rescales_down, products, products_up, products_down, products_far_down}
 use Rattle.cw_follow.proofs.Divisions.{divides_up, divides_down}
 use Rattle.cw_follow.proofs.Steps.{Follow, Alone, step_is, does, by, calls, setting, cheap, has_code, line_fits, low_room, here, next, code, behind, begins_next, above}
+use Rattle.cw_tmpl.specs.declared.blocks.Block.TheVariants as block
 
 -- A multiplication by a number, whose code hangs on whether that is 32,768: where it stands, its parts do, and where it ends.
 module _ (image : Image) (value : Filling) (begin entry line n : ℕ) where
@@ -46,7 +47,7 @@ scaled_ends begin line n to false e = omega arith
 module _ (known : Given) where
   open known use {rows, p, image, all, coded, few, low}
 
-  module _ {q : Watched} {g place : ℕ} {acts : List OrderActivation} {w : Words} (s : Sound p image g place true acts w q) (a : Alone p image g place true acts w q s.orders.list) where
+  module _ {q : Watched} {g place : ℕ} {acts : List OrderActivation} {w : Words} (s : Sound p image g place true acts w q) (a : Alone p image g place true acts w q s.orders) where
     abbrev words_of : Filling
     words_of = (all.stands g s.orders s.unit).value
 
@@ -55,11 +56,11 @@ module _ (known : Given) where
       pub stands : HasPieces image words_of (here known s a) (F b)
       pub ends : here known s a + length (blanks (F b)) ≡ next known s a
 
-    tested : (o : Order) (F : Bool → List Coded) (t b : Bool) → first_of o (behind_start s.orders.list place) ≡ false → slice_get s.orders.list place ≡ Some o → template (names_of s.orders) (own_place s.orders.list place) o ≡ F t
-        → order_size o ≡ length (blanks (F t)) → t ≡ b → Tested F b
+    tested : (o : Order) (F : Bool → List Coded) (t b : Bool) → first_of o (behind_start s.orders.list place) ≡ false → slice_get s.orders.list place ≡ Some o → template_by (is_short (reach_of s.orders) place block.Single o) (names_of s.orders) (own_place s.orders place) o ≡ F t
+        → size_by (is_short (reach_of s.orders)) place block.Single o ≡ length (blanks (F t)) → t ≡ b → Tested F b
     tested o F t b plain e same long is =
         let after_it = behind known s a o e in
-        let code_t : HasPieces image words_of (here known s a) (F t) = subst (HasPieces image words_of (here known s a)) same (subst (λ f. HasPiecesFrom f image words_of (here known s a) (template (names_of s.orders) (own_place s.orders.list place) o)) plain (code known s a o e)) in
+        let code_t : HasPieces image words_of (here known s a) (F t) = subst (HasPieces image words_of (here known s a)) same (subst (λ f. HasPiecesFrom f image words_of (here known s a) (template_by (is_short (reach_of s.orders) place block.Single o) (names_of s.orders) (own_place s.orders place) o)) plain (code known s a o e)) in
         let end_t : here known s a + length (blanks (F t)) ≡ next known s a = omega arith in
         subst (Tested F) is (record { stands = code_t; ends = end_t })
 

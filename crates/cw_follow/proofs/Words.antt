@@ -40,7 +40,7 @@ module _ (known : Given) where
 
   -- ---- the accumulator free
 
-  module _ {q : Watched} {g place : ℕ} {acts : List OrderActivation} {w : Words} (s : Sound p image g place false acts w q) (a : Alone p image g place false acts w q s.orders.list) where
+  module _ {q : Watched} {g place : ℕ} {acts : List OrderActivation} {w : Words} (s : Sound p image g place false acts w q) (a : Alone p image g place false acts w q s.orders) where
     -- a word that one instruction puts
     put_is : (o : Order) (x : ℕ) (z : ℤ) → slice_get s.orders.list place ≡ Some o → carry_out p (Some o) g place false acts w ≡ after p.room 0 (Changed (put z w)) g place true acts w → 1 ≤ weight_of o
         → x ≡ unsigned z → here known s a + 3 ≡ next known s a → HasAt (begins_here known s) image (here known s a) (i86.MovImm 0 (imm.Word x)) → FollowFrom known (begun_here known s) (at g place false acts w Running) q
@@ -97,7 +97,7 @@ module _ (known : Given) where
 
   -- ---- the accumulator loaded
 
-  module _ {q : Watched} {g place : ℕ} {acts : List OrderActivation} {w : Words} (s : Sound p image g place true acts w q) (a : Alone p image g place true acts w q s.orders.list) where
+  module _ {q : Watched} {g place : ℕ} {acts : List OrderActivation} {w : Words} (s : Sound p image g place true acts w q) (a : Alone p image g place true acts w q s.orders) where
     pub save_follows : slice_get s.orders.list place ≡ Some order.Save → Follow known (at g place true acts w Running) q
     save_follows e =
         let o = order.Save in

@@ -9,8 +9,8 @@ use Rattle.cw_order.specs.declared.order.Orders.{Orders}
 use Rattle.cw_order.specs.OrderProgram.{OrderProgram}
 use Rattle.cw_tmpl.specs.Library.{library_bytes}
 use Rattle.cw_tmpl.specs.Blocks.{block_at, left_at}
-use Rattle.cw_tmpl.specs.Templates.{block_size}
-use Rattle.cw_tmpl.specs.ReferenceCode.{entry_size, order_places, landings_place, orders_code}
+use Rattle.cw_tmpl.specs.Templates.{block_size, is_short}
+use Rattle.cw_tmpl.specs.ReferenceCode.{entry_size, order_places, landings_place, orders_code, reach_of}
 use Rattle.cw_follow.specs.Placing.{base_of}
 
 -- at a processor that has halted, nothing begins
@@ -39,14 +39,16 @@ abbrev pub NotBehindStart : List Order → (place : ℕ) → Type 0
 NotBehindStart list place = (j line : ℕ) → place ≡ suc j → slice_get list j ≡ Some (order.Start line) → ⊥
 
 -- the bytes of the code that begins with the order at a place of a list
-abbrev pub size_at : List Order → (place : ℕ) → Order → ℕ
-size_at list k o = block_size (block_at (left_at 0 list k) (drop k list)) o
+abbrev pub size_at : Orders → (place : ℕ) → Order → ℕ
+size_at o k it =
+    let b = block_at (left_at 0 o.list k) (drop k o.list) in
+    block_size (is_short (reach_of o) k b it) b it
 
 -- The list of places is one of the image. A Start has no code, and its statement begins where the code of the next order does; none begins
 -- at the code of another order, strictly inside the code of a block, outside the code of the orders of a segment, and in the library.
 pub record PlacesStand (p : OrderProgram) (image : List ℕ) (places : List StatementPlace) : Type 0 where
-  pub starts : (g k line : ℕ) (o : Orders) → slice_get p.units g ≡ Some o → slice_get o.list k ≡ Some (order.Start line) → lines_at places (base_of p g + slice_index (order_places o.list) (suc k)) ≡ (g + 1, line) ∷ []
-  pub others : (g k : ℕ) (o : Orders) (a : Order) → slice_get p.units g ≡ Some o → slice_get o.list k ≡ Some a → 0 < size_at o.list k a → NotBehindStart o.list k → lines_at places (base_of p g + slice_index (order_places o.list) k) ≡ []
-  pub inside : (g k n : ℕ) (o : Orders) (a : Order) → slice_get p.units g ≡ Some o → slice_get o.list k ≡ Some a → 0 < n → n < size_at o.list k a → lines_at places (base_of p g + slice_index (order_places o.list) k + n) ≡ []
+  pub starts : (g k line : ℕ) (o : Orders) → slice_get p.units g ≡ Some o → slice_get o.list k ≡ Some (order.Start line) → lines_at places (base_of p g + slice_index (order_places o) (suc k)) ≡ (g + 1, line) ∷ []
+  pub others : (g k : ℕ) (o : Orders) (a : Order) → slice_get p.units g ≡ Some o → slice_get o.list k ≡ Some a → 0 < size_at o k a → NotBehindStart o.list k → lines_at places (base_of p g + slice_index (order_places o) k) ≡ []
+  pub inside : (g k n : ℕ) (o : Orders) (a : Order) → slice_get p.units g ≡ Some o → slice_get o.list k ≡ Some a → 0 < n → n < size_at o k a → lines_at places (base_of p g + slice_index (order_places o) k + n) ≡ []
   pub around : (g at : ℕ) (o : Orders) → slice_get p.units g ≡ Some o → base_of p g ≤ at → at < base_of p (suc g) → (at < base_of p g + entry_size) ⊎ (base_of p g + landings_place o ≤ at) → lines_at places at ≡ []
   pub library : (place : ℕ) → place < length library_bytes → lines_at places place ≡ []

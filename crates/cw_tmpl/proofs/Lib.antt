@@ -3,3 +3,4 @@ pub mod Filling
 pub mod Blank
 pub mod Shapes
 pub mod Sizes
+pub mod Reaching

@@ -37,8 +37,8 @@ use Rattle.cw_tmpl.specs.Names.{Names, no_names, mark_place, switch_size}
 use Rattle.cw_tmpl.specs.Blocks.{address_orders, bounds_orders, element_orders, orders_to_form, form_order, operand_orders, order_of, count_order, element_at, element_fetched, fetched_or, block_of, block_at, orders_left, left_at}
 use Rattle.cw_tmpl.proofs.Shapes.{IsBlock, shape}
 use Rattle.cw_tmpl.specs.Library.{overflow_entry, address_entry}
-use Rattle.cw_tmpl.specs.Templates.{template, mark_words, goal_words, landing_pieces, switch_pieces, times_if, rescale_if, product_start, product_down, times, less_bound, plus_word, times_width, based, element, in_row, element_of_two, entry, address_pieces, load_place, store_place, pieces_size, operated, block_pieces, block_size, order_size, times_size, width_size, bound_size, word_size, listed_size, size_behind, sizes_behind, listed_sizes, distance, entry_pieces, shifted, shifted_up, shifted_down, shifted_down_signed, lowest_if, part_taken, index_size, lower_size, element_size, used_size, store_part, operate_place, change_place, index_added, index_loaded, from_lower, indexes_between, index_below, address_tested, index_tested, element_tested, element_address, with_operand, product_with, checked, branch, call_stop, shift_size, lowest_size, part_size, size_in_list, owed, number_size, bounds_size, top_lower_size, formed_size, top_from_lower, top_below, formed, loop_ways_size, doubled_size}
-use Rattle.cw_tmpl.specs.ReferenceCode.{templates, landings, switches, places_from, entry_size, order_places, landings_place, switches_place, names_of, mark_starts, pieces_of, switch_sizes, StandsAt}
+use Rattle.cw_tmpl.specs.Templates.{Forms, is_short, jump_of, saved, template, template_by, mark_words, goal_words, landing_pieces, switch_pieces, times_if, rescale_if, product_start, product_down, times, less_bound, plus_word, times_width, based, element, in_row, element_of_two, entry, address_pieces, load_place, store_place, pieces_size, operated, block_pieces, block_size, order_size, times_size, width_size, bound_size, word_size, listed_size, size_behind, sizes_behind, listed_sizes, distance, entry_pieces, shifted, shifted_up, shifted_down, shifted_down_signed, lowest_if, part_taken, index_size, lower_size, element_size, used_size, store_part, operate_place, change_place, index_added, index_loaded, from_lower, indexes_between, index_below, address_tested, index_tested, element_tested, element_address, with_operand, product_with, checked, branch, branch_by, call_stop, shift_size, lowest_size, part_size, size_in_list, owed, number_size, bounds_size, top_lower_size, formed_size, top_from_lower, top_below, formed, loop_ways_size, doubled_size}
+use Rattle.cw_tmpl.specs.ReferenceCode.{templates, landings, switches, places_from, places_by, entry_size, reach_of, order_places, landings_place, switches_place, names_of, mark_starts, pieces_of, switch_sizes, StandsAt}
 use Rattle.cw_tmpl.proofs.Growing.{blanks-append}
 
 -- the words of a table
@@ -60,108 +60,167 @@ step_taken_long : (names : Names) (place : ℕ) (x : Place) (line m : ℕ) → l
 step_taken_long names place (cell.Word f n) line m = refl
 step_taken_long names place (cell.Frame n) line m = refl
 
--- a comparison with an element, and the jumps behind it
-element_compared_long : (names : Names) (place : ℕ) (e : Element) (c : Comparator) (m : ℕ) → length (blanks (operated names place (simple.Element e) (uses.Compare c m))) ≡ length (blanks (operated no_names 0 (simple.Element e) (uses.Compare c m)))
-element_compared_long names place e c m =
-    let before : List Coded = with_operand 7 (simple.Element e) in
-    let long : (end to : ℕ) → length (blanks (before ++ branch c end to)) ≡ length (blanks before) + 5 = λ end to. ap length (blanks-append before (branch c end to)) ∙ length-append (blanks before) (blanks (branch c end to)) in
-    long (place + pieces_size before + 5) (mark_place names m) ∙ sym (long (0 + pieces_size before + 5) (mark_place no_names m))
+-- a comparison, and the jump behind it
+pub compared_long : (short : Bool) (before : List Coded) (c : Comparator) (place to : ℕ) → length (blanks (before ++ branch_by short c place to)) ≡ length (blanks before) + (if short then 2 else 5)
+compared_long true before c place to = ap length (blanks-append before (branch_by true c place to)) ∙ length-append (blanks before) (blanks (branch_by true c place to))
+compared_long false before c place to = ap length (blanks-append before (branch_by false c place to)) ∙ length-append (blanks before) (blanks (branch_by false c place to))
+
+-- the code of an order alone
+template_everywhere : (names : Names) (place : ℕ) (o : Order) → length (blanks (template names place o)) ≡ order_size o
+template_everywhere names place (order.JumpIf c mark) = refl
+template_everywhere names place (order.LoopWay marks) = loop_way_long names place marks ∙ sym (loop_way_long no_names 0 marks)
+template_everywhere names place (order.NextStep x line m) = step_taken_long names place x line m ∙ sym (step_taken_long no_names 0 x line m)
+template_everywhere names place _ = refl
+
+single_everywhere : (names : Names) (place : ℕ) (short : Bool) (o : Order) → length (blanks (template_by short names place o)) ≡ block_size short block.Single o
+single_everywhere names place false o = template_everywhere names place o
+single_everywhere names place true (order.Jump m) = refl
+single_everywhere names place true (order.JumpIf c m) = refl
+single_everywhere names place true (order.LoopWay []) = template_everywhere names place (order.LoopWay [])
+single_everywhere names place true (order.LoopWay (m ∷ [])) = refl
+single_everywhere names place true (order.LoopWay (m ∷ n ∷ ms)) = template_everywhere names place (order.LoopWay (m ∷ n ∷ ms))
+single_everywhere names place true o = template_everywhere names place o
 
 -- the code of a block is as long wherever it stands
-pub size_everywhere : (names : Names) (place : ℕ) (b : Block) (o : Order) → length (blanks (block_pieces names place b o)) ≡ block_size b o
-size_everywhere names place (block.Within n) o = refl
-size_everywhere names place block.Single (order.JumpIf c mark) = refl
-size_everywhere names place block.Single (order.LoopWay marks) = loop_way_long names place marks ∙ sym (loop_way_long no_names 0 marks)
-size_everywhere names place block.Single (order.NextStep x line m) = step_taken_long names place x line m ∙ sym (step_taken_long no_names 0 x line m)
-size_everywhere names place block.Single _ = refl
-size_everywhere names place (block.Fetch x) o = refl
-size_everywhere names place (block.Assign x) o = refl
-size_everywhere names place block.Write o = refl
-size_everywhere names place (block.Divide w line) o = refl
-size_everywhere names place (block.Operate (simple.Number w) (uses.Compare c m)) o = refl
-size_everywhere names place (block.Operate (simple.Contents (cell.Word f n)) (uses.Compare c m)) o = refl
-size_everywhere names place (block.Operate (simple.Contents (cell.Frame n)) (uses.Compare c m)) o = refl
-size_everywhere names place (block.Operate (simple.Element e) (uses.Compare c m)) o = element_compared_long names place e c m
-size_everywhere names place (block.Operate s (uses.Add line)) o = refl
-size_everywhere names place (block.Operate s (uses.Subtract line)) o = refl
-size_everywhere names place (block.Operate s (uses.Multiply line)) o = refl
-size_everywhere names place (block.Operate s uses.Mask) o = refl
-size_everywhere names place (block.Operate s uses.Union) o = refl
-size_everywhere names place (block.Operate s uses.Differ) o = refl
-size_everywhere names place (block.FetchPart x t b is_signed) o = refl
-size_everywhere names place (block.AssignPart x t b) o = refl
-size_everywhere names place (block.FetchElement e) o = refl
-size_everywhere names place (block.AssignElement e) o = refl
-size_everywhere names place (block.Count down line) o = refl
-size_everywhere names place (block.Halve w power places line) o = refl
-size_everywhere names place (block.Bounded b) o = refl
+pub size_everywhere : (names : Names) (place : ℕ) (short : Bool) (b : Block) (o : Order) → length (blanks (block_pieces names place short b o)) ≡ block_size short b o
+size_everywhere names place short (block.Within n) o = refl
+size_everywhere names place short block.Single o = single_everywhere names place short o
+size_everywhere names place short (block.Fetch x) o = refl
+size_everywhere names place short (block.Assign x) o = refl
+size_everywhere names place short block.Write o = refl
+size_everywhere names place short (block.Divide w line) o = refl
+size_everywhere names place short (block.Operate s (uses.Compare c m)) o =
+    compared_long short (with_operand 7 s) c (place + pieces_size (with_operand 7 s)) (mark_place names m) ∙ sym (compared_long short (with_operand 7 s) c (0 + pieces_size (with_operand 7 s)) (mark_place no_names m))
+size_everywhere names place short (block.Operate s (uses.Add line)) o = refl
+size_everywhere names place short (block.Operate s (uses.Subtract line)) o = refl
+size_everywhere names place short (block.Operate s (uses.Multiply line)) o = refl
+size_everywhere names place short (block.Operate s uses.Mask) o = refl
+size_everywhere names place short (block.Operate s uses.Union) o = refl
+size_everywhere names place short (block.Operate s uses.Differ) o = refl
+size_everywhere names place short (block.FetchPart x t b is_signed) o = refl
+size_everywhere names place short (block.AssignPart x t b) o = refl
+size_everywhere names place short (block.FetchElement e) o = refl
+size_everywhere names place short (block.AssignElement e) o = refl
+size_everywhere names place short (block.Count down line) o = refl
+size_everywhere names place short (block.Halve w power places line) o = refl
+size_everywhere names place short (block.Bounded b) o = refl
+
+-- ---- short jumps
+
+-- a block without a jump that can be short has one form
+pub one_form : (names : Names) (place : ℕ) (short : Bool) (b : Block) (o : Order) → jump_of b o ≡ None → block_pieces names place short b o ≡ block_pieces names place false b o
+one_form names place false b o e = refl
+one_form names place true (block.Within n) o e = refl
+one_form names place true block.Single (order.Jump m) e = absurd (cc)
+one_form names place true block.Single (order.JumpIf c m) e = absurd (cc)
+one_form names place true block.Single (order.LoopWay []) e = refl
+one_form names place true block.Single (order.LoopWay (m ∷ [])) e = absurd (cc)
+one_form names place true block.Single (order.LoopWay (m ∷ n ∷ ms)) e = refl
+one_form names place true block.Single o e = refl
+one_form names place true (block.Operate s (uses.Compare c m)) o e = absurd (cc)
+one_form names place true (block.Operate s u) o e = refl
+one_form names place true b o e = refl
+
+-- and a short jump makes it no longer
+pub saves : (b : Block) (o : Order) → block_size true b o + saved b o ≡ block_size false b o
+saves (block.Within n) o = refl
+saves block.Single (order.Jump m) = refl
+saves block.Single (order.JumpIf c m) = refl
+saves block.Single (order.LoopWay []) = omega arith
+saves block.Single (order.LoopWay (m ∷ [])) = refl
+saves block.Single (order.LoopWay (m ∷ n ∷ ms)) = omega arith
+saves (block.Operate s (uses.Compare c m)) o =
+    let size = pieces_size (with_operand 7 s) in
+    let near : block_size false (block.Operate s (uses.Compare c m)) o ≡ size + 5 = compared_long false (with_operand 7 s) c (0 + size) (mark_place no_names m) in
+    let short : block_size true (block.Operate s (uses.Compare c m)) o ≡ size + 2 = compared_long true (with_operand 7 s) c (0 + size) (mark_place no_names m) in
+    omega (arith, near, short)
+saves b o = omega arith
+
+pub shorter_by : (short : Bool) (b : Block) (o : Order) → block_size short b o ≤ block_size false b o
+shorter_by true b o = omega (arith, saves b o)
+shorter_by false b o = omega arith
 
 -- ---- the code before a place of the list
 
 -- the bytes of the code of the orders before a place
-abbrev pub size_to : (left : ℕ) → List Order → (place : ℕ) → ℕ
-size_to left os zero = 0
-size_to left [] (suc k) = 0
-size_to left (o ∷ os) (suc k) = block_size (block_at left (o ∷ os)) o + size_to (orders_left (block_at left (o ∷ os))) os k
+abbrev pub size_to : Forms → (number left : ℕ) → List Order → (place : ℕ) → ℕ
+size_to forms number left os zero = 0
+size_to forms number left [] (suc k) = 0
+size_to forms number left (o ∷ os) (suc k) =
+    let b = block_at left (o ∷ os) in
+    block_size (forms number b o) b o + size_to forms (suc number) (orders_left b) os k
 
-pub size_next : (left : ℕ) (list : List Order) (k : ℕ) (o : Order) → slice_get list k ≡ Some o → size_to left list (suc k) ≡ size_to left list k + block_size (block_at (left_at left list k) (drop k list)) o
-size_next left [] k o e = absurd (cc)
-size_next left (x ∷ xs) zero o e =
+-- the bytes of the block that begins with an order of a list, by the number of the order
+abbrev pub size_by : Forms → (number : ℕ) → Block → Order → ℕ
+size_by forms number b o = block_size (forms number b o) b o
+
+pub size_next : (forms : Forms) (number left : ℕ) (list : List Order) (k here : ℕ) (o : Order) → here ≡ number + k → slice_get list k ≡ Some o
+    → size_to forms number left list (suc k) ≡ size_to forms number left list k + size_by forms here (block_at (left_at left list k) (drop k list)) o
+size_next forms number left [] k here o is e = absurd (cc)
+size_next forms number left (x ∷ xs) zero here o is e =
     let same : x ≡ o = cc in
-    let size : block_size (block_at left (x ∷ xs)) x ≡ block_size (block_at left (x ∷ xs)) o = ap (block_size (block_at left (x ∷ xs))) same in
-    omega arith
-size_next left (x ∷ xs) (suc k) o e = omega (arith, size_next (orders_left (block_at left (x ∷ xs))) xs k o e)
+    let first : number ≡ here = omega (arith, is) in
+    let size : size_by forms number (block_at left (x ∷ xs)) x ≡ size_by forms here (block_at left (x ∷ xs)) o = ap₂ (λ n y. size_by forms n (block_at left (x ∷ xs)) y) first same in
+    omega (arith, size)
+size_next forms number left (x ∷ xs) (suc k) here o is e =
+    omega (arith, size_next forms (suc number) (orders_left (block_at left (x ∷ xs))) xs k here o (omega (arith, is)) e)
 
 pub left_next : (left : ℕ) (list : List Order) (k : ℕ) (o : Order) → slice_get list k ≡ Some o → left_at left list (suc k) ≡ orders_left (block_at (left_at left list k) (drop k list))
 left_next left [] k o e = absurd (cc)
 left_next left (x ∷ xs) zero o e = refl
 left_next left (x ∷ xs) (suc k) o e = left_next (orders_left (block_at left (x ∷ xs))) xs k o e
 
--- the code of the order at a place, in the middle of that of the others
-pub record InMiddle (names : Names) (at left : ℕ) (list : List Order) (k : ℕ) (o : Order) : Type 0 where
+-- the code of the block that begins with an order, in the middle of that of the others
+abbrev pub pieces_by : Names → (at number : ℕ) → Block → Order → List Coded
+pieces_by names at number b o = block_pieces names at (is_short names.reach number b o) b o
+
+pub record InMiddle (names : Names) (at number left : ℕ) (list : List Order) (k here : ℕ) (o : Order) : Type 0 where
   pub before : List Coded
   pub behind : List Coded
-  pub is : templates names at left list ≡ before ++ (block_pieces names (at + size_to left list k) (block_at (left_at left list k) (drop k list)) o ++ behind)
-  pub size : length (blanks before) ≡ size_to left list k
+  pub is : templates names at number left list ≡ before ++ (pieces_by names (at + size_to (is_short names.reach) number left list k) here (block_at (left_at left list k) (drop k list)) o ++ behind)
+  pub size : length (blanks before) ≡ size_to (is_short names.reach) number left list k
 
-pub in_middle : (names : Names) (at left : ℕ) (list : List Order) (k : ℕ) (o : Order) → slice_get list k ≡ Some o → InMiddle names at left list k o
-in_middle names at left [] k o e = absurd (cc)
-in_middle names at left (x ∷ xs) zero o e =
+-- the order at a place of the list has the number of the first one and that place
+pub in_middle : (names : Names) (at number left : ℕ) (list : List Order) (k here : ℕ) (o : Order) → here ≡ number + k → slice_get list k ≡ Some o → InMiddle names at number left list k here o
+in_middle names at number left [] k here o is e = absurd (cc)
+in_middle names at number left (x ∷ xs) zero here o is e =
     let b = block_at left (x ∷ xs) in
-    let behind = templates names (at + block_size b x) (orders_left b) xs in
+    let behind = templates names (at + size_by (is_short names.reach) number b x) (suc number) (orders_left b) xs in
     let same : x ≡ o = cc in
-    let here : at ≡ at + 0 = omega arith in
+    let there : at ≡ at + 0 = omega arith in
+    let first : number ≡ here = omega (arith, is) in
     record {
       before = [];
       behind = behind;
-      is = ap (λ y. block_pieces names at b y ++ behind) same ∙ ap (λ n. block_pieces names n b o ++ behind) here;
+      is = ap (λ y. pieces_by names at number b y ++ behind) same ∙ ap₂ (λ n i. pieces_by names n i b o ++ behind) there first;
       size = refl;
     }
-in_middle names at left (x ∷ xs) (suc k) o e =
+in_middle names at number left (x ∷ xs) (suc k) here o is e =
     let b = block_at left (x ∷ xs) in
-    let next = at + block_size b x in
-    let m = in_middle names next (orders_left b) xs k o e in
-    let X = block_pieces names at b x in
-    let size = size_to (orders_left b) xs k in
-    let there : next + size ≡ at + (block_size b x + size) = omega arith in
+    let short = is_short names.reach number b x in
+    let next = at + block_size short b x in
+    let m = in_middle names next (suc number) (orders_left b) xs k here o (omega (arith, is)) e in
+    let X = block_pieces names at short b x in
+    let size = size_to (is_short names.reach) (suc number) (orders_left b) xs k in
+    let there : next + size ≡ at + (block_size short b x + size) = omega arith in
     let long = ap length (blanks-append X m.before) ∙ length-append (blanks X) (blanks m.before) in
+    let c : Block = block_at (left_at (orders_left b) xs k) (drop k xs) in
     record {
       before = X ++ m.before;
       behind = m.behind;
-      is = ap (λ l. X ++ l) m.is ∙ sym (append_assoc X m.before (block_pieces names (next + size) (block_at (left_at (orders_left b) xs k) (drop k xs)) o ++ m.behind))
-          ∙ ap (λ n. (X ++ m.before) ++ (block_pieces names n (block_at (left_at (orders_left b) xs k) (drop k xs)) o ++ m.behind)) there;
-      size = omega (arith, long, m.size, size_everywhere names at b x);
+      is = ap (λ l. X ++ l) m.is ∙ sym (append_assoc X m.before (pieces_by names (next + size) here c o ++ m.behind)) ∙ ap (λ n. (X ++ m.before) ++ (pieces_by names n here c o ++ m.behind)) there;
+      size = omega (arith, long, m.size, size_everywhere names at short b x);
     }
 
 -- ---- places
 
-pub places_are : (at left : ℕ) (os : List Order) (k : ℕ) → k ≤ length os → get_or (places_from at left os) k 0 ≡ at + size_to left os k
-places_are at left [] zero le = omega arith
-places_are at left [] (suc k) le = absurd (omega arith)
-places_are at left (o ∷ os) zero le = omega arith
-places_are at left (o ∷ os) (suc k) le =
+pub places_are : (forms : Forms) (at number left : ℕ) (os : List Order) (k : ℕ) → k ≤ length os → get_or (places_from forms at number left os) k 0 ≡ at + size_to forms number left os k
+places_are forms at number left [] zero le = omega arith
+places_are forms at number left [] (suc k) le = absurd (omega arith)
+places_are forms at number left (o ∷ os) zero le = omega arith
+places_are forms at number left (o ∷ os) (suc k) le =
     let b = block_at left (o ∷ os) in
-    omega (arith, places_are (at + block_size b o) (orders_left b) os k (omega arith))
+    omega (arith, places_are forms (at + size_by forms number b o) (suc number) (orders_left b) os k (omega arith))
 
 within : (os : List Order) (k : ℕ) (o : Order) → slice_get os k ≡ Some o → k ≤ length os
 within [] k o e = absurd (cc)
@@ -169,25 +228,26 @@ within (x ∷ xs) zero o e = omega arith
 within (x ∷ xs) (suc k) o e = omega (arith, within xs k o e)
 
 pub stands_at : (names : Names) (os : List Order) (k : ℕ) (o : Order) → slice_get os k ≡ Some o
-    → StandsAt (templates names entry_size 0 os) (slice_index (order_places os) k) (block_pieces names (slice_index (order_places os) k) (block_at (left_at 0 os k) (drop k os)) o)
+    → StandsAt (templates names entry_size 0 0 os) (slice_index (places_by (is_short names.reach) os) k) (pieces_by names (slice_index (places_by (is_short names.reach) os) k) k (block_at (left_at 0 os k) (drop k os)) o)
 stands_at names os k o e =
-    let m = in_middle names entry_size 0 os k o e in
-    let place : slice_index (order_places os) k ≡ entry_size + size_to 0 os k = places_are entry_size 0 os k (within os k o e) in
+    let forms = is_short names.reach in
+    let m = in_middle names entry_size 0 0 os k k o (omega arith) e in
+    let place : slice_index (places_by forms os) k ≡ entry_size + size_to forms 0 0 os k = places_are forms entry_size 0 0 os k (within os k o e) in
     let long = ap length (blanks-append entry_pieces m.before) ∙ length-append (blanks entry_pieces) (blanks m.before) in
     record {
       before = m.before;
       behind = m.behind;
-      is = m.is ∙ ap (λ n. m.before ++ (block_pieces names n (block_at (left_at 0 os k) (drop k os)) o ++ m.behind)) (sym place);
+      is = m.is ∙ ap (λ n. m.before ++ (pieces_by names n k (block_at (left_at 0 os k) (drop k os)) o ++ m.behind)) (sym place);
       place_is = place ∙ (omega (arith, long, m.size));
     }
 
 -- where the code of the order at a place of the list begins in that of its segment
-abbrev pub own_place : List Order → (place : ℕ) → ℕ
-own_place list k = entry_size + size_to 0 list k
+abbrev pub own_place : Orders → (place : ℕ) → ℕ
+own_place o k = entry_size + size_to (is_short (reach_of o)) 0 0 o.list k
 
 -- a mark that the list of marks has, at a place of the list or at its end
-pub mark_start : (o : Orders) (mark place : ℕ) → slice_get o.marks mark ≡ Some place → place ≤ length o.list → mark_starts o mark ≡ own_place o.list place
-mark_start o mark place e le = ap (slice_index (order_places o.list)) (got o.marks mark place e) ∙ places_are entry_size 0 o.list place le
+pub mark_start : (o : Orders) (mark place : ℕ) → slice_get o.marks mark ≡ Some place → place ≤ length o.list → mark_starts o mark ≡ own_place o place
+mark_start o mark place e le = ap (slice_index (order_places o)) (got o.marks mark place e) ∙ places_are (is_short (reach_of o)) entry_size 0 0 o.list place le
   where
     got : (marks : List ℕ) (mark place : ℕ) → slice_get marks mark ≡ Some place → slice_index marks mark ≡ place
     got [] mark place e = absurd (cc)
@@ -378,7 +438,7 @@ count_fits : (down : Bool) (line : ℕ) (rest : List Order) → 8 + listed_sizes
 count_fits true line rest = omega (arith, behind_other (Some (order.Const 1)) (order.Sub line) tt (λ x. refl) refl rest)
 count_fits false line rest = omega (arith, behind_other (Some (order.Const 1)) (order.Add line) tt (λ x. refl) refl rest)
 
-count_long : (down : Bool) (line : ℕ) → block_size (block.Count down line) order.Save ≡ 8
+count_long : (down : Bool) (line : ℕ) → block_size false (block.Count down line) order.Save ≡ 8
 count_long true line = refl
 count_long false line = refl
 
@@ -436,7 +496,7 @@ element_long_as e = tested_long_as e e.test
 pub element_with_long : (op : ℕ) (e : Element) → length (blanks (with_operand op (simple.Element e))) ≡ element_size e e.test + 2
 element_with_long op e = appended_long (element_address e) (coded.Whole (operate op ax at_si) ∷ []) ∙ ap (λ n. n + 2) (element_long_as e)
 
-pub element_used_long : (e : Element) (u : Use) → block_size (block.Operate (simple.Element e) u) order.Save ≡ element_size e e.test + used_size u
+pub element_used_long : (e : Element) (u : Use) → block_size false (block.Operate (simple.Element e) u) order.Save ≡ element_size e e.test + used_size u
 element_used_long e (uses.Add line) = omega (arith, appended_long (with_operand 0 (simple.Element e)) (checked line), element_with_long 0 e)
 element_used_long e (uses.Subtract line) = omega (arith, appended_long (with_operand 5 (simple.Element e)) (checked line), element_with_long 5 e)
 element_used_long e (uses.Multiply line) =
@@ -521,7 +581,7 @@ used_last before uses.Union rest = behind_other (Some before) order.Or tt (λ x.
 used_last before uses.Differ rest = behind_other (Some before) order.Xor tt (λ x. refl) refl rest
 used_last before (uses.Compare c m) rest = behind_other (Some before) (order.JumpIf c m) tt (λ x. refl) refl rest
 
-operate_element_fits : (e : Element) (u : Use) (rest : List Order) → pieces_size (operated no_names 0 (simple.Element e) u) + listed_sizes rest ≤ listed_sizes (order.Save ∷ (operand_orders (simple.Element e) ++ order_of u ∷ rest))
+operate_element_fits : (e : Element) (u : Use) (rest : List Order) → pieces_size (operated no_names 0 false (simple.Element e) u) + listed_sizes rest ≤ listed_sizes (order.Save ∷ (operand_orders (simple.Element e) ++ order_of u ∷ rest))
 operate_element_fits e u rest = element u (used_last order.Load u rest)
   where
     listed_behind : (u : Use) → sizes_behind (Some order.Load) (Some (order_of u)) rest ≡ listed_sizes rest → element_size e e.test + 14 + listed_size (order_of u) + listed_sizes rest ≤ listed_sizes (order.Save ∷ (operand_orders (simple.Element e) ++ order_of u ∷ rest))
@@ -543,7 +603,7 @@ operate_element_fits e u rest = element u (used_last order.Load u rest)
         use_behind (uses.Compare c m) same sizes = omega (arith, same, sizes, (element_last e order.Load (order.JumpIf c m ∷ rest)).1)
 
     element : (u : Use) → sizes_behind (Some order.Load) (Some (order_of u)) rest ≡ listed_sizes rest
-        → pieces_size (operated no_names 0 (simple.Element e) u) + listed_sizes rest ≤ listed_sizes (order.Save ∷ (operand_orders (simple.Element e) ++ order_of u ∷ rest))
+        → pieces_size (operated no_names 0 false (simple.Element e) u) + listed_sizes rest ≤ listed_sizes (order.Save ∷ (operand_orders (simple.Element e) ++ order_of u ∷ rest))
     element (uses.Add line) same = omega (arith, listed_behind (uses.Add line) same, element_used_long e (uses.Add line))
     element (uses.Subtract line) same = omega (arith, listed_behind (uses.Subtract line) same, element_used_long e (uses.Subtract line))
     element (uses.Multiply line) same = omega (arith, listed_behind (uses.Multiply line) same, element_used_long e (uses.Multiply line))
@@ -556,14 +616,14 @@ number_some : (w : ℕ) → 2 ≤ number_size w
 number_some zero = omega arith
 number_some (suc w) = omega arith
 
-operate_fits : (s : Simple) (u : Use) (rest : List Order) → pieces_size (operated no_names 0 s u) + listed_sizes rest ≤ listed_sizes (order.Save ∷ (operand_orders s ++ order_of u ∷ rest))
+operate_fits : (s : Simple) (u : Use) (rest : List Order) → pieces_size (operated no_names 0 false s u) + listed_sizes rest ≤ listed_sizes (order.Save ∷ (operand_orders s ++ order_of u ∷ rest))
 operate_fits (simple.Element e) u rest = operate_element_fits e u rest
 operate_fits (simple.Number w) u rest = number u (used_last (order.Const w) u rest)
   where
     some : 2 ≤ number_size w
     some = number_some w
 
-    number : (u : Use) → sizes_behind (Some (order.Const w)) (Some (order_of u)) rest ≡ listed_sizes rest → pieces_size (operated no_names 0 (simple.Number w) u) + listed_sizes rest ≤ listed_sizes (order.Save ∷ order.Const w ∷ order_of u ∷ rest)
+    number : (u : Use) → sizes_behind (Some (order.Const w)) (Some (order_of u)) rest ≡ listed_sizes rest → pieces_size (operated no_names 0 false (simple.Number w) u) + listed_sizes rest ≤ listed_sizes (order.Save ∷ order.Const w ∷ order_of u ∷ rest)
     number (uses.Add line) e = omega (arith, e, some)
     number (uses.Subtract line) e = omega (arith, e, some)
     number (uses.Multiply line) e = omega (arith, e, some)
@@ -574,7 +634,7 @@ operate_fits (simple.Number w) u rest = number u (used_last (order.Const w) u re
 operate_fits (simple.Contents (cell.Word f n)) u rest = word u (used_last order.Load u rest)
   where
     word : (u : Use) → sizes_behind (Some order.Load) (Some (order_of u)) rest ≡ listed_sizes rest
-        → pieces_size (operated no_names 0 (simple.Contents (cell.Word f n)) u) + listed_sizes rest ≤ listed_sizes (order.Save ∷ order.Home f n ∷ order.Load ∷ order_of u ∷ rest)
+        → pieces_size (operated no_names 0 false (simple.Contents (cell.Word f n)) u) + listed_sizes rest ≤ listed_sizes (order.Save ∷ order.Home f n ∷ order.Load ∷ order_of u ∷ rest)
     word (uses.Add line) e = omega (arith, e)
     word (uses.Subtract line) e = omega (arith, e)
     word (uses.Multiply line) e = omega (arith, e)
@@ -585,7 +645,7 @@ operate_fits (simple.Contents (cell.Word f n)) u rest = word u (used_last order.
 operate_fits (simple.Contents (cell.Frame n)) u rest = word u (used_last order.Load u rest)
   where
     word : (u : Use) → sizes_behind (Some order.Load) (Some (order_of u)) rest ≡ listed_sizes rest
-        → pieces_size (operated no_names 0 (simple.Contents (cell.Frame n)) u) + listed_sizes rest ≤ listed_sizes (order.Save ∷ order.FrameHome n ∷ order.Load ∷ order_of u ∷ rest)
+        → pieces_size (operated no_names 0 false (simple.Contents (cell.Frame n)) u) + listed_sizes rest ≤ listed_sizes (order.Save ∷ order.FrameHome n ∷ order.Load ∷ order_of u ∷ rest)
     word (uses.Add line) e = omega (arith, e)
     word (uses.Subtract line) e = omega (arith, e)
     word (uses.Multiply line) e = omega (arith, e)
@@ -608,7 +668,7 @@ formed_long f n (form.Entry width word span line) = cases (width == 1)
     cases true = refl
     cases false = refl
 
-pub bounded_long : (b : Bounded) → block_size (block.Bounded b) order.Save ≡ top_lower_size b.bounds.lower + 10 + formed_size b.form
+pub bounded_long : (b : Bounded) → block_size false (block.Bounded b) order.Save ≡ top_lower_size b.bounds.lower + 10 + formed_size b.form
 bounded_long b =
     let test : List Coded = top_below b.bounds.line (indexes_between (b.bounds.upper -ℤ b.bounds.lower)) in
     let last : List Coded = formed b.family b.first b.form in
@@ -629,7 +689,7 @@ bounded_fits b rest = cases b.form
 
 -- a block, and the orders behind it
 abbrev FromBlock : Block → Order → List Order → Type 0
-FromBlock b o os = block_size b o + listed_sizes (drop (orders_left b) os) ≤ listed_sizes (o ∷ os)
+FromBlock b o os = block_size false b o + listed_sizes (drop (orders_left b) os) ≤ listed_sizes (o ∷ os)
 
 block_fits : (o : Order) (os : List Order) → FromBlock (block_of (o ∷ os)) o os
 block_fits o os = cases (block_of (o ∷ os)) refl (shape (o ∷ os))
@@ -653,28 +713,32 @@ block_fits o os = cases (block_of (o ∷ os)) refl (shape (o ∷ os))
     cases (block.Halve w power places line) is sh = omega (arith, ap listed_sizes sh.0, halve_fits w power places line (drop 2 os))
     cases (block.Bounded b) is sh = omega (arith, ap listed_sizes sh.0, bounded_long b, bounded_fits b (drop 3 os))
 
-whole_within : (names : Names) (place left : ℕ) (os : List Order) → length (blanks (templates names place left os)) ≤ listed_sizes (drop left os)
-whole_within names place zero [] = omega arith
-whole_within names place (suc n) [] = omega arith
-whole_within names place zero (o ∷ os) =
+whole_within : (names : Names) (place number left : ℕ) (os : List Order) → length (blanks (templates names place number left os)) ≤ listed_sizes (drop left os)
+whole_within names place number zero [] = omega arith
+whole_within names place number (suc n) [] = omega arith
+whole_within names place number zero (o ∷ os) =
     let b = block_at 0 (o ∷ os) in
-    let rest = templates names (place + block_size b o) (orders_left b) os in
-    let long = ap length (blanks-append (block_pieces names place b o) rest) ∙ length-append (blanks (block_pieces names place b o)) (blanks rest) in
-    omega (arith, long, size_everywhere names place b o, block_fits o os, whole_within names (place + block_size b o) (orders_left b) os)
-whole_within names place (suc n) (o ∷ os) = whole_within names (place + 0) n os
+    let short = is_short names.reach number b o in
+    let X = block_pieces names place short b o in
+    let rest = templates names (place + block_size short b o) (suc number) (orders_left b) os in
+    let long = ap length (blanks-append X rest) ∙ length-append (blanks X) (blanks rest) in
+    omega (arith, long, size_everywhere names place short b o, shorter_by short b o, block_fits o os, whole_within names (place + block_size short b o) (suc number) (orders_left b) os)
+whole_within names place number (suc n) (o ∷ os) = whole_within names (place + 0) (suc number) n os
 
-pub whole : (names : Names) (place : ℕ) (os : List Order) → length (blanks (templates names place 0 os)) ≤ listed_sizes os
-whole names place os = whole_within names place 0 os
+pub whole : (names : Names) (place number : ℕ) (os : List Order) → length (blanks (templates names place number 0 os)) ≤ listed_sizes os
+whole names place number os = whole_within names place number 0 os
 
 -- ---- landings and switches
 
-pub size_of_templates : (names : Names) (at left : ℕ) (os : List Order) → length (blanks (templates names at left os)) ≡ size_to left os (length os)
-size_of_templates names at left [] = refl
-size_of_templates names at left (o ∷ os) =
+pub size_of_templates : (names : Names) (at number left : ℕ) (os : List Order) → length (blanks (templates names at number left os)) ≡ size_to (is_short names.reach) number left os (length os)
+size_of_templates names at number left [] = refl
+size_of_templates names at number left (o ∷ os) =
     let b = block_at left (o ∷ os) in
-    let rest = templates names (at + block_size b o) (orders_left b) os in
-    let long = ap length (blanks-append (block_pieces names at b o) rest) ∙ length-append (blanks (block_pieces names at b o)) (blanks rest) in
-    omega (arith, long, size_everywhere names at b o, size_of_templates names (at + block_size b o) (orders_left b) os)
+    let short = is_short names.reach number b o in
+    let X = block_pieces names at short b o in
+    let rest = templates names (at + block_size short b o) (suc number) (orders_left b) os in
+    let long = ap length (blanks-append X rest) ∙ length-append (blanks X) (blanks rest) in
+    omega (arith, long, size_everywhere names at short b o, size_of_templates names (at + block_size short b o) (suc number) (orders_left b) os)
 
 pub size_of_landings : (names : Names) (place : ℕ) (ms : List LabelMark) → length (blanks (landings names place ms)) ≡ 15 * length ms
 size_of_landings names place [] = refl
@@ -698,14 +762,14 @@ size_of_switches names place (gs ∷ rest) =
 pub segment_size : (o : Orders) → length (blanks (pieces_of o)) ≤ entry_size + (listed_sizes o.list + (15 * length o.labels + switch_sizes o.switches))
 segment_size o =
     let N = names_of o in
-    let T = templates N entry_size 0 o.list in
+    let T = templates N entry_size 0 0 o.list in
     let L = landings N (landings_place o) o.labels in
     let S = switches N (switches_place o) o.switches in
     let first = ap length (blanks-append entry_pieces (T ++ (L ++ S))) ∙ length-append (blanks entry_pieces) (blanks (T ++ (L ++ S))) in
     let second = ap length (blanks-append T (L ++ S)) ∙ length-append (blanks T) (blanks (L ++ S)) in
     let third = ap length (blanks-append L S) ∙ length-append (blanks L) (blanks S) in
-    omega (arith, first, second, third, whole N entry_size o.list, size_of_landings N (landings_place o) o.labels, size_of_switches N (switches_place o) o.switches)
+    omega (arith, first, second, third, whole N entry_size 0 o.list, size_of_landings N (landings_place o) o.labels, size_of_switches N (switches_place o) o.switches)
 
 -- where the landings start, which is the end of the orders' code
-pub landings_at : (o : Orders) → landings_place o ≡ entry_size + size_to 0 o.list (length o.list)
-landings_at o = places_are entry_size 0 o.list (length o.list) (omega arith)
+pub landings_at : (o : Orders) → landings_place o ≡ own_place o (length o.list)
+landings_at o = places_are (is_short (reach_of o)) entry_size 0 0 o.list (length o.list) (omega arith)

@@ -6,11 +6,17 @@ use Rattle.cw_order.specs.declared.order.LabelMark.{LabelMark}
 use Rattle.cw_tmpl.specs.declared.pieces.Target.{Target}
 use Rattle.cw_tmpl.specs.declared.pieces.Target.TheVariants as target
 
+-- What tells how far a jump goes: the marks of the unit, each by the number of its order, and the places of the orders' code where it is longest,
+-- with no short jump.
+pub record Reach : Type 0 where
+  pub marks : List ℕ
+  pub longest : List ℕ
+
 -- The places of the orders' code, the marks, labels and procedures of the unit, where the landings of labels start, and the places of the
 -- routines of switches.
 pub record Names : Type 0 where
   pub places : List ℕ
-  pub marks : List ℕ
+  pub reach : Reach
   pub labels : List LabelMark
   pub procedures : List ℕ
   pub landings : ℕ
@@ -19,7 +25,7 @@ pub record Names : Type 0 where
 -- The start of a mark is the place of its order's code; 0 for a mark past the end of the list. A mark that the list of marks does not have
 -- is at the first order.
 abbrev pub mark_place : Names → (mark : ℕ) → ℕ
-mark_place names m = slice_index names.places (slice_index names.marks m)
+mark_place names m = slice_index names.places (slice_index names.reach.marks m)
 
 -- A label that a procedure has is reached with the record of its activation at work. Each label has a landing too, which makes the base
 -- record the one at work, for the labels of a segment's body.
@@ -52,4 +58,4 @@ abbrev pub own : ℕ → Target
 own place = target.Place (place % 65536)
 
 abbrev pub no_names : Names
-no_names = record { places = []; marks = []; labels = []; procedures = []; landings = 0; switches = [] }
+no_names = record { places = []; reach = record { marks = []; longest = [] }; labels = []; procedures = []; landings = 0; switches = [] }

@@ -1,5 +1,5 @@
 -- The code of a list of orders.
-use Rattle.std.specs.Prelude.{◌≡◌, ℕ, ◌+◌, ◌*◌, List, [], ◌∷◌, ◌++◌, map, length, Some, slice_index}
+use Rattle.std.specs.Prelude.{◌≡◌, ℕ, suc, ◌+◌, ◌*◌, List, [], ◌∷◌, ◌++◌, map, length, Some, slice_index}
 use Rattle.cw_unit.specs.declared.unit.Goal.{Goal}
 use Rattle.cw_order.specs.declared.order.Order.{Order}
 use Rattle.cw_order.specs.declared.order.Order.TheVariants as order
@@ -9,15 +9,16 @@ use Rattle.cw_tmpl.specs.declared.assembling.Code.{Code}
 use Rattle.cw_tmpl.specs.declared.pieces.Coded.{Coded}
 use Rattle.cw_tmpl.specs.Pieces.{blanks, relocations}
 use Rattle.cw_tmpl.specs.Blocks.{block_at, orders_left}
-use Rattle.cw_tmpl.specs.Names.{Names, mark_place, way_to_label, landing_size, switch_size}
-use Rattle.cw_tmpl.specs.Templates.{block_pieces, block_size, entry_pieces, landing_pieces, switch_pieces}
+use Rattle.cw_tmpl.specs.Names.{Reach, Names, mark_place, way_to_label, landing_size, switch_size}
+use Rattle.cw_tmpl.specs.Templates.{Forms, all_near, is_short, block_pieces, block_size, entry_pieces, landing_pieces, switch_pieces}
 
--- the code of a list from a place, where so many of the first orders are left of the block before
-abbrev pub templates : Names → (place left : ℕ) → List Order → List Coded
-templates names place left [] = []
-templates names place left (o ∷ os) =
+-- the code of a list from a place, the first order of which has this number, and where so many of the first orders are left of the block before
+abbrev pub templates : Names → (place number left : ℕ) → List Order → List Coded
+templates names place number left [] = []
+templates names place number left (o ∷ os) =
     let b = block_at left (o ∷ os) in
-    block_pieces names place b o ++ templates names (place + block_size b o) (orders_left b) os
+    let short = is_short names.reach number b o in
+    block_pieces names place short b o ++ templates names (place + block_size short b o) (suc number) (orders_left b) os
 
 -- the landings of labels, and the routines of switches, from a place
 abbrev pub landings : Names → (place : ℕ) → List LabelMark → List Coded
@@ -31,17 +32,27 @@ switches names place (gs ∷ rest) = switch_pieces names place gs ++ switches na
 -- ---- places
 
 -- The places of the orders' code, the first one given, and of the end. In a block all orders but the first have the place of its end.
-abbrev pub places_from : (at left : ℕ) → List Order → List ℕ
-places_from at left [] = at ∷ []
-places_from at left (o ∷ os) =
+abbrev pub places_from : Forms → (at number left : ℕ) → List Order → List ℕ
+places_from forms at number left [] = at ∷ []
+places_from forms at number left (o ∷ os) =
     let b = block_at left (o ∷ os) in
-    at ∷ places_from (at + block_size b o) (orders_left b) os
+    at ∷ places_from forms (at + block_size (forms number b o) b o) (suc number) (orders_left b) os
 
 abbrev pub entry_size : ℕ
 entry_size = length (blanks entry_pieces)
 
-abbrev pub order_places : List Order → List ℕ
-order_places orders = places_from entry_size 0 orders
+abbrev pub places_by : Forms → List Order → List ℕ
+places_by forms orders = places_from forms entry_size 0 0 orders
+
+-- those of the longest code, and those of the code with short jumps
+abbrev pub longest_places : List Order → List ℕ
+longest_places orders = places_by all_near orders
+
+abbrev pub reach_of : Orders → Reach
+reach_of orders = record { marks = orders.marks; longest = longest_places orders.list }
+
+abbrev pub order_places : Orders → List ℕ
+order_places orders = places_by (is_short (reach_of orders)) orders.list
 
 -- those of the routines of switches
 abbrev pub switch_places : ℕ → List (List Goal) → List ℕ
@@ -54,15 +65,15 @@ switch_sizes (gs ∷ rest) = switch_size gs + switch_sizes rest
 
 -- the landings stand behind the orders, and the switches behind the landings
 abbrev pub landings_place : Orders → ℕ
-landings_place orders = slice_index (order_places orders.list) (length orders.list)
+landings_place orders = slice_index (order_places orders) (length orders.list)
 
 abbrev pub switches_place : Orders → ℕ
 switches_place orders = landings_place orders + landing_size * length orders.labels
 
 abbrev pub names_of : Orders → Names
 names_of orders = record {
-  places = order_places orders.list;
-  marks = orders.marks;
+  places = order_places orders;
+  reach = reach_of orders;
   labels = orders.labels;
   procedures = orders.procedures;
   landings = landings_place orders;
@@ -94,19 +105,19 @@ statements_from k places (o ∷ os) = statement_at (slice_index places k) o ++ s
 abbrev pub pieces_of : Orders → List Coded
 pieces_of orders =
     entry_pieces
-    ++ (templates (names_of orders) entry_size 0 orders.list
+    ++ (templates (names_of orders) entry_size 0 0 orders.list
     ++ (landings (names_of orders) (landings_place orders) orders.labels ++ switches (names_of orders) (switches_place orders) orders.switches))
 
 abbrev pub orders_code : Orders → Code
 orders_code orders = record {
   bytes = blanks (pieces_of orders);
   relocs = relocations 0 (pieces_of orders);
-  starts = map (slice_index (order_places orders.list)) orders.marks;
+  starts = map (slice_index (order_places orders)) orders.marks;
   entry = 0;
   labels = label_starts (names_of orders) 0 orders.labels;
   switches = switch_places (switches_place orders) orders.switches;
   procedures = map (mark_starts orders) orders.procedures;
-  statements = statements_from 0 (order_places orders.list) orders.list;
+  statements = statements_from 0 (order_places orders) orders.list;
 }
 
 -- these pieces stand among the others where so many bytes, with those of the entry, come before

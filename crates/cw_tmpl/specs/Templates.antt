@@ -4,8 +4,9 @@
 -- The top operand is in AX, or AX is free, as the orders have it; all others are on the stack of the processor. Addresses of the data area
 -- are in words, and DI has their number. A stop is called in the library, with the line behind the call; a routine that may stop, and a call,
 -- take the line in DX. The segment is told by the activation record. A jump goes by the distance from its end, so its code hangs on where it
--- stands, and on where the marks' code starts: both are places in the code of the segment.
-use Rattle.std.specs.Prelude.{ℕ, ◌*◌, zero, suc, ◌+◌, ◌-◌, ◌%◌, ◌^◌, ◌==◌, nat_lt, nat_le, ℤ, pos, negsuc, ◌-ℤ◌, Bool, true, false, List, [], ◌∷◌, ◌++◌, length, if◌then◌else◌, Option, Some, None}
+-- stands, and on where the marks' code starts: both are places in the code of the segment. A jump to a mark is near, by a word; where its mark is
+-- close by, a block that ends with the jump has a short one, by a byte.
+use Rattle.std.specs.Prelude.{ℕ, ◌*◌, zero, suc, ◌+◌, ◌-◌, ◌%◌, ◌^◌, ◌==◌, ◌&&◌, nat_lt, nat_le, ℤ, pos, negsuc, ◌-ℤ◌, Bool, true, false, List, [], ◌∷◌, ◌++◌, length, if◌then◌else◌, Option, Some, None, slice_index}
 use Rattle.cw_i86.specs.declared.instr.Instr.{Instr}
 use Rattle.cw_i86.specs.declared.instr.Instr.TheVariants as i86
 use Rattle.cw_run86.specs.Views.{with_number, Comparison, Equal, Unequal, Less, NotLess, AtMost, Greater, condition_of}
@@ -37,10 +38,10 @@ use Rattle.cw_tmpl.specs.declared.blocks.Use.{Use}
 use Rattle.cw_tmpl.specs.declared.blocks.Use.TheVariants as uses
 use Rattle.cw_tmpl.specs.declared.blocks.Block.{Block}
 use Rattle.cw_tmpl.specs.declared.blocks.Block.TheVariants as block
-use Rattle.cw_tmpl.specs.Mnemonics.{ax, bx, cx, dx, sp, bp, si, di, segment_slot, base_slot, base_record, base_operands, record_depth, slot, argument, at_bx, at_si, field, set_word, load, store, move, add, subtract, compare, exchange, negate, double, both, either, one_of, shift_up, shift_down, shift_down_signed, multiply, divide_signed, jump_to, jump_if_no_overflow, jump_if_below, jump_if_unequal, jump_if_not_less, jump_if_at_most, operate, change, increase, decrease, shift_up_once, shift_down_once, shift_down_signed_once, operate_number, set_ax}
+use Rattle.cw_tmpl.specs.Mnemonics.{ax, bx, cx, dx, sp, bp, si, di, segment_slot, base_slot, base_record, base_operands, record_depth, slot, argument, at_bx, at_si, field, set_word, load, store, move, add, subtract, compare, exchange, negate, double, both, either, one_of, shift_up, shift_down, shift_down_signed, multiply, divide_signed, jump_to, jump_if_no_overflow, jump_if_below, jump_if_equal, jump_if_unequal, jump_if_not_less, jump_if_at_most, operate, change, increase, decrease, shift_up_once, shift_down_once, shift_down_signed_once, operate_number, set_ax}
 use Rattle.cw_tmpl.specs.Library.{start_entry, overflow_entry, zero_divisor_entry, address_entry, switch_entry, bounds_entry, enter_entry, read_entry, product_entry, quotient_down_entry, quotient_up_entry, set_variable_entry, add_step_entry, put_variable_entry, exhausted_entry, next_step_entry}
 use Rattle.cw_tmpl.specs.Pieces.{blanks}
-use Rattle.cw_tmpl.specs.Names.{Names, no_names, mark_place, label_start, procedure_start, switch_start, own}
+use Rattle.cw_tmpl.specs.Names.{Reach, Names, no_names, mark_place, label_start, procedure_start, switch_start, own}
 
 abbrev pub call_library : ℕ → Coded
 call_library entry = coded.Call (target.LibraryAhead entry)
@@ -235,6 +236,25 @@ distance from to = (to + (65536 - from % 65536)) % 65536
 abbrev pub jump_near : (from to : ℕ) → Coded
 jump_near from to = coded.Whole (i86.Jump (distance from to))
 
+-- the same as a byte, which has the distance with its sign extended where the places are at most 127 bytes apart
+abbrev pub short_distance : (from to : ℕ) → ℕ
+short_distance from to = (to + (256 - from % 256)) % 256
+
+abbrev pub jump_short : (from to : ℕ) → Coded
+jump_short from to = coded.Whole (i86.JumpShort (short_distance from to))
+
+abbrev pub is_close : (from to : ℕ) → Bool
+is_close from to = nat_le from (to + 127) && nat_le to (from + 127)
+
+-- what a comparator compares
+abbrev pub comparison_of : Comparator → Comparison
+comparison_of comparator.Less = Less
+comparison_of comparator.LessEqual = AtMost
+comparison_of comparator.Equal = Equal
+comparison_of comparator.GreaterEqual = NotLess
+comparison_of comparator.Greater = Greater
+comparison_of comparator.Unequal = Unequal
+
 -- what holds where a comparison does not
 abbrev pub opposite_of : Comparator → Comparison
 opposite_of comparator.Less = NotLess
@@ -252,9 +272,21 @@ pass_unless c = coded.Whole (i86.JumpIf (condition_of (opposite_of c)) 3)
 abbrev pub branch : Comparator → (end to : ℕ) → List Coded
 branch c end to = pass_unless c ∷ jump_near end to ∷ []
 
+-- the same where that place is close by
+abbrev pub short_branch : Comparator → (end to : ℕ) → List Coded
+short_branch c end to = coded.Whole (i86.JumpIf (condition_of (comparison_of c)) (short_distance end to)) ∷ []
+
+-- behind a comparison that ends at a place
+abbrev pub branch_by : (short : Bool) → Comparator → (place to : ℕ) → List Coded
+branch_by true c place to = short_branch c (place + 2) to
+branch_by false c place to = branch c (place + 5) to
+
 -- goes to a place where a comparison of the two operands on top holds; the code stands at a place
 abbrev pub jump_where : Comparator → (place to : ℕ) → List Coded
 jump_where c place to = coded.Whole (i86.Pop bx) ∷ coded.Whole (compare bx ax) ∷ branch c (place + 8) to
+
+abbrev pub short_where : Comparator → (place to : ℕ) → List Coded
+short_where c place to = coded.Whole (i86.Pop bx) ∷ coded.Whole (compare bx ax) ∷ short_branch c (place + 5) to
 
 -- ---- calls
 
@@ -324,6 +356,9 @@ loop_way names place marks =
 -- the same of one mark
 abbrev pub one_way : Names → (place mark : ℕ) → List Coded
 one_way names place m = coded.Whole (decrease ax) ∷ coded.Whole (jump_if_unequal 3) ∷ jump_near (place + 6) (mark_place names m) ∷ []
+
+abbrev pub short_way : Names → (place mark : ℕ) → List Coded
+short_way names place m = coded.Whole (decrease ax) ∷ coded.Whole (jump_if_equal (short_distance (place + 3) (mark_place names m))) ∷ []
 
 abbrev pub loop_ways : Names → (place : ℕ) → List ℕ → List Coded
 loop_ways names place [] = loop_way names place []
@@ -433,6 +468,17 @@ template names place (order.GoSwitchSpecial k line) =
 -- without code
 template names place order.Drop = []
 template names place order.Mark = []
+
+-- the same where the jump to its mark is short: an order without such a jump has one form
+abbrev pub short_template : Names → (place : ℕ) → Order → List Coded
+short_template names place (order.Jump mark) = jump_short (place + 2) (mark_place names mark) ∷ []
+short_template names place (order.JumpIf c mark) = short_where c place (mark_place names mark)
+short_template names place (order.LoopWay (m ∷ [])) = short_way names place m
+short_template names place o = template names place o
+
+abbrev pub template_by : (short : Bool) → Names → (place : ℕ) → Order → List Coded
+template_by true names place o = short_template names place o
+template_by false names place o = template names place o
 
 -- ---- places and simple operands
 
@@ -550,32 +596,64 @@ pieces_size ps = length (blanks ps)
 abbrev pub with_operand : (op : ℕ) → Simple → List Coded
 with_operand op s = operand_pieces s ++ operation op s ∷ []
 
-abbrev pub operated : Names → (place : ℕ) → Simple → Use → List Coded
-operated names place s (uses.Add line) = with_operand 0 s ++ checked line
-operated names place s (uses.Subtract line) = with_operand 5 s ++ checked line
-operated names place s (uses.Multiply line) = product_with s ++ checked line
-operated names place s uses.Mask = with_operand 4 s
-operated names place s uses.Union = with_operand 1 s
-operated names place s uses.Differ = with_operand 6 s
-operated names place s (uses.Compare c mark) = with_operand 7 s ++ branch c (place + pieces_size (with_operand 7 s) + 5) (mark_place names mark)
+abbrev pub operated : Names → (place : ℕ) → (short : Bool) → Simple → Use → List Coded
+operated names place short s (uses.Add line) = with_operand 0 s ++ checked line
+operated names place short s (uses.Subtract line) = with_operand 5 s ++ checked line
+operated names place short s (uses.Multiply line) = product_with s ++ checked line
+operated names place short s uses.Mask = with_operand 4 s
+operated names place short s uses.Union = with_operand 1 s
+operated names place short s uses.Differ = with_operand 6 s
+operated names place short s (uses.Compare c mark) = with_operand 7 s ++ branch_by short c (place + pieces_size (with_operand 7 s)) (mark_place names mark)
 
--- the code of a block, which begins with an order
-abbrev pub block_pieces : Names → (place : ℕ) → Block → Order → List Coded
-block_pieces names place (block.Within n) o = []
-block_pieces names place block.Single o = template names place o
-block_pieces names place (block.Fetch x) o = address_pieces x ++ load_place x ∷ []
-block_pieces names place (block.Assign x) o = address_pieces x ++ store_place x ∷ []
-block_pieces names place block.Write o = coded.Whole (i86.Out 0x12) ∷ []
-block_pieces names place (block.Divide w line) o = coded.Whole (set_word bx w) ∷ coded.Whole i86.Cwd ∷ coded.Whole (divide_signed bx) ∷ []
-block_pieces names place (block.Operate s u) o = operated names place s u
-block_pieces names place (block.FetchPart x t b is_signed) o = address_pieces x ++ load_place x ∷ part_taken t b is_signed
-block_pieces names place (block.AssignPart x t b) o =
+-- the code of a block, which begins with an order; its jump to a mark, where it has one that can be, is short or near
+abbrev pub block_pieces : Names → (place : ℕ) → (short : Bool) → Block → Order → List Coded
+block_pieces names place short (block.Within n) o = []
+block_pieces names place short block.Single o = template_by short names place o
+block_pieces names place short (block.Fetch x) o = address_pieces x ++ load_place x ∷ []
+block_pieces names place short (block.Assign x) o = address_pieces x ++ store_place x ∷ []
+block_pieces names place short block.Write o = coded.Whole (i86.Out 0x12) ∷ []
+block_pieces names place short (block.Divide w line) o = coded.Whole (set_word bx w) ∷ coded.Whole i86.Cwd ∷ coded.Whole (divide_signed bx) ∷ []
+block_pieces names place short (block.Operate s u) o = operated names place short s u
+block_pieces names place short (block.FetchPart x t b is_signed) o = address_pieces x ++ load_place x ∷ part_taken t b is_signed
+block_pieces names place short (block.AssignPart x t b) o =
     shifted_up b ++ (address_pieces x ++ operate_place 6 x ∷ coded.Whole (with_number 4 (field_mask t b)) ∷ change_place 6 x ∷ [])
-block_pieces names place (block.FetchElement e) o = element_address e ++ coded.Whole (load ax at_si) ∷ []
-block_pieces names place (block.AssignElement e) o = element_address e ++ coded.Whole (store at_si ax) ∷ []
-block_pieces names place (block.Count down line) o = coded.Whole (counted down) ∷ checked line
-block_pieces names place (block.Halve w power places line) o = shifted_down_signed places
-block_pieces names place (block.Bounded b) o = bounded_address b
+block_pieces names place short (block.FetchElement e) o = element_address e ++ coded.Whole (load ax at_si) ∷ []
+block_pieces names place short (block.AssignElement e) o = element_address e ++ coded.Whole (store at_si ax) ∷ []
+block_pieces names place short (block.Count down line) o = coded.Whole (counted down) ∷ checked line
+block_pieces names place short (block.Halve w power places line) o = shifted_down_signed places
+block_pieces names place short (block.Bounded b) o = bounded_address b
+
+-- the mark of a block's jump that can be short
+abbrev pub jump_of : Block → Order → Option ℕ
+jump_of block.Single (order.Jump m) = Some m
+jump_of block.Single (order.JumpIf c m) = Some m
+jump_of block.Single (order.LoopWay (m ∷ [])) = Some m
+jump_of (block.Operate s (uses.Compare c m)) o = Some m
+jump_of b o = None
+
+-- the bytes that it saves
+abbrev pub saved : Block → Order → ℕ
+saved block.Single (order.Jump m) = 1
+saved block.Single (order.JumpIf c m) = 3
+saved block.Single (order.LoopWay (m ∷ [])) = 3
+saved (block.Operate s (uses.Compare c m)) o = 3
+saved b o = 0
+
+-- Which blocks have a short jump, by the number of the block's first order. Without any, the code is the longest one.
+abbrev pub Forms : Type 0
+Forms = (number : ℕ) → Block → Order → Bool
+
+abbrev pub all_near : Forms
+all_near number b o = false
+
+-- Two places of the longest code are at least as far apart as those of the same orders in the code with short jumps. So a jump is short where it
+-- ends close to its mark in the longest code, and none makes another one reach less far.
+abbrev pub reaches : Reach → (number : ℕ) → Option ℕ → Bool
+reaches r number None = false
+reaches r number (Some m) = is_close (slice_index r.longest (number + 1)) (slice_index r.longest (slice_index r.marks m))
+
+abbrev pub is_short : Reach → Forms
+is_short r number b o = reaches r number (jump_of b o)
 
 -- what the code of a segment begins with: the base record is made
 abbrev pub entry_pieces : List Coded
@@ -585,12 +663,12 @@ entry_pieces =
     ∷ coded.Word (target.Limit limit.Calls) ∷ coded.Word (target.Limit limit.Segment) ∷ []
 
 -- the bytes of a block's code, which are as many wherever it stands and whatever it names
-abbrev pub block_size : Block → Order → ℕ
-block_size b o = length (blanks (block_pieces no_names 0 b o))
+abbrev pub block_size : (short : Bool) → Block → Order → ℕ
+block_size short b o = length (blanks (block_pieces no_names 0 short b o))
 
--- those of an order alone
+-- those of an order alone, with a near jump
 abbrev pub order_size : Order → ℕ
-order_size o = block_size block.Single o
+order_size o = block_size false block.Single o
 
 -- a multiplication by a number
 abbrev pub times_size : ℕ → ℕ

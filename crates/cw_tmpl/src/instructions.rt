@@ -370,6 +370,13 @@ pub fn jump_if_below(by: u8) -> Instr
     Instr::JumpIf { cond: 2, by }
 }
 
+/// JZ.
+pub fn jump_if_equal(by: u8) -> Instr
+    ensures { result ≡ mnemonics.jump_if_equal by }
+{
+    Instr::JumpIf { cond: 4, by }
+}
+
 /// JNZ.
 pub fn jump_if_unequal(by: u8) -> Instr
     ensures { result ≡ mnemonics.jump_if_unequal by }

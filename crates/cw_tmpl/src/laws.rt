@@ -1,5 +1,6 @@
 //! Laws of the definitions.
-ghost use Rattle.std.specs.Prelude.{◌≡◌, ℕ, ◌+◌, ◌*◌, ◌≤◌, List, ◌++◌, length, drop, Some, slice_get, slice_index, All};
+ghost use Rattle.std.specs.Prelude.{◌≡◌, ℕ, ◌+◌, ◌*◌, ◌≤◌, Bool, true, false, List, ◌++◌, length, drop, Some, slice_get, slice_index, All};
+ghost use Rattle.cw_i86.specs.State.{sign_extended};
 ghost use Rattle.cw_tmpl.specs.declared.blocks.Block.{Block};
 ghost use Rattle.cw_order.specs.declared.order.Order.{Order};
 ghost use Rattle.cw_order.specs.declared.order.Orders.{Orders};
@@ -9,8 +10,8 @@ ghost use Rattle.cw_tmpl.specs.Pieces.{blanks, relocations, Filling, filled, fil
 ghost use Rattle.cw_tmpl.specs.Blanks.{FillsBlank, Rise};
 ghost use Rattle.cw_tmpl.specs.Library.{library_bytes};
 ghost use Rattle.cw_tmpl.specs.Blocks.{block_at, left_at};
-ghost use Rattle.cw_tmpl.specs.Templates.{block_pieces, block_size, order_size, listed_size, listed_sizes};
-ghost use Rattle.cw_tmpl.specs.ReferenceCode.{templates, entry_size, order_places, pieces_of, switch_sizes, StandsAt};
+ghost use Rattle.cw_tmpl.specs.Templates.{distance, short_distance, is_close, jump_of, saved, is_short, block_pieces, block_size, order_size, listed_size, listed_sizes};
+ghost use Rattle.cw_tmpl.specs.ReferenceCode.{templates, entry_size, places_by, reach_of, order_places, mark_starts, pieces_of, switch_sizes, StandsAt};
 
 /// The linker's filling of an object's relocations, one after another, gives the code with its words filled. That is as
 /// long as the object's, and goes on behind the first pieces with the rest.
@@ -27,14 +28,24 @@ pub fn relocating()
 {}
 
 /// The sizes of the code. A list has at most the bytes that its orders are listed with, one behind another, and the places of the orders' code
-/// are where it stands.
+/// are where it stands. A short jump saves bytes.
 /// The code of a segment has its entry, the code of its orders, and that of its labels and its switches.
 pub fn sizes()
     ensures each { (o : Order) → order_size o ≡ listed_size o }
-    ensures everywhere { (names : Names) (place : ℕ) (b : Block) (o : Order) → length (blanks (block_pieces names place b o)) ≡ block_size b o }
-    ensures whole { (names : Names) (place : ℕ) (orders : List Order) → length (blanks (templates names place 0 orders)) ≤ listed_sizes orders }
+    ensures everywhere { (names : Names) (place : ℕ) (short : Bool) (b : Block) (o : Order) → length (blanks (block_pieces names place short b o)) ≡ block_size short b o }
+    ensures saves { (b : Block) (o : Order) → block_size true b o + saved b o ≡ block_size false b o }
+    ensures whole { (names : Names) (place number : ℕ) (orders : List Order) → length (blanks (templates names place number 0 orders)) ≤ listed_sizes orders }
     ensures segment { (o : Orders) → length (blanks (pieces_of o)) ≤ entry_size + (listed_sizes o.list + (landing_size * length o.labels + switch_sizes o.switches)) }
     ensures library { length library_bytes ≤ 4096 }
     ensures places { (names : Names) (orders : List Order) (k : ℕ) (o : Order) → slice_get orders k ≡ Some o →
-        StandsAt (templates names entry_size 0 orders) (slice_index (order_places orders) k) (block_pieces names (slice_index (order_places orders) k) (block_at (left_at 0 orders k) (drop k orders)) o) }
+        StandsAt (templates names entry_size 0 0 orders) (slice_index (places_by (is_short names.reach) orders) k)
+        (let b = block_at (left_at 0 orders k) (drop k orders) in block_pieces names (slice_index (places_by (is_short names.reach) orders) k) (is_short names.reach k b o) b o) }
+{}
+
+/// A short jump reaches its mark, as far from its end in the code with short jumps as the near one goes: the block that begins with the order ends
+/// with it.
+pub fn reaching()
+    ensures close { (o : Orders) (k m : ℕ) (x : Order) → slice_get o.list k ≡ Some x →
+        (let b = block_at (left_at 0 o.list k) (drop k o.list) in jump_of b x ≡ Some m → is_short (reach_of o) k b x ≡ true → is_close (slice_index (order_places o) (k + 1)) (mark_starts o m) ≡ true) }
+    ensures as_far { (from to : ℕ) → is_close from to ≡ true → sign_extended (short_distance from to) ≡ distance from to }
 {}

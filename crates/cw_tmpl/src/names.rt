@@ -3,6 +3,7 @@ ghost use Rattle.std.specs.Prelude.{◌≡◌};
 ghost use Rattle.cw_tmpl.specs.Names.{mark_place, switch_start, label_start, procedure_start, own};
 
 use crate::pieces::Target;
+use crate::reach::{Reach, entry};
 use cw_order::LabelMark;
 use std::marker::Model;
 
@@ -14,7 +15,7 @@ pub const LANDING: u64 = 15;
 #[derive(Drop)]
 pub struct Names<'a> {
     pub places: &'a [u32],
-    pub marks: &'a [u32],
+    pub reach: Reach<'a>,
     pub labels: &'a [LabelMark],
     pub procedures: &'a [u32],
     pub landings: u32,
@@ -28,7 +29,7 @@ impl<'a> Model for Names<'a> {
 
     ghost view = { λ t. record {
       places = t.places.now;
-      marks = t.marks.now;
+      reach = t.reach;
       labels = t.labels.now;
       procedures = t.procedures.now;
       landings = t.landings;
@@ -48,8 +49,8 @@ impl<'a> Names<'a> {
     pub fn mark(&self, mark: u32) -> u32
         ensures { result ≡ mark_place self.now mark }
     {
-        let order = self.marks.get(mark as usize).copied().unwrap_or(0);
-        self.places.get(order as usize).copied().unwrap_or(0)
+        let order = entry(self.reach.marks, mark as usize);
+        entry(self.places, order as usize)
     }
 
     /// Where a jump to a label that may leave activations goes.

@@ -28,14 +28,14 @@ use Rattle.cw_tmpl.specs.declared.blocks.Use.TheVariants as uses
 use Rattle.cw_tmpl.specs.declared.blocks.Block.{Block}
 use Rattle.cw_tmpl.specs.declared.blocks.Block.TheVariants as block
 use Rattle.cw_tmpl.specs.Pieces.{blanks}
-use Rattle.cw_tmpl.specs.Names.{mark_place, way_to_label, landing_start, switch_size}
+use Rattle.cw_tmpl.specs.Names.{Reach, mark_place, way_to_label, landing_start, switch_size}
 use Rattle.cw_tmpl.specs.Blocks.{address_orders, element_orders, operand_orders, order_of, count_order, block_at, orders_left, bounds_orders, form_order}
 use Rattle.cw_tmpl.proofs.Shapes.{IsBlock, shape}
 use Rattle.cw_tmpl.specs.Mnemonics.{ax, at_si, load}
-use Rattle.cw_tmpl.specs.Templates.{block_size, listed_size, entry_pieces}
-use Rattle.cw_tmpl.specs.ReferenceCode.{templates, landings, switches, entry_size, order_places, switch_places, switch_sizes, landings_place, switches_place, names_of, mark_starts, label_starts, statement_at, statements_from, orders_code}
+use Rattle.cw_tmpl.specs.Templates.{is_short, saved, block_size, listed_size, entry_pieces}
+use Rattle.cw_tmpl.specs.ReferenceCode.{templates, landings, switches, entry_size, reach_of, order_places, switch_places, switch_sizes, landings_place, switches_place, names_of, mark_starts, label_starts, statement_at, statements_from, orders_code}
 use Rattle.cw_tmpl.proofs.Growing.{blanks-append}
-use Rattle.cw_tmpl.proofs.Sizes.{listed as size_alone, element_at_long, size_to, places_are, mark_start, size_of_templates, size_of_landings, size_of_switches, landings_at}
+use Rattle.cw_tmpl.proofs.Sizes.{listed as size_alone, element_at_long, saves, size_by, size_to, places_are, mark_start, size_of_templates, size_of_landings, size_of_switches, landings_at}
 use Rattle.cw_obj.specs.ReferenceObject.{definition_of, definition_place}
 use Rattle.cw_object.specs.Fits.{is_word, is_long, fits_definition, fits_statement}
 use Rattle.cw_object.specs.IsWritable.{is_defined, are_defined, is_begun, are_begun}
@@ -161,27 +161,35 @@ left-next zero o os h = left-first o os
 
 -- ---- places of orders
 
--- the code of each order begins at the end at the latest
-before-end : (left : ℕ) (os : List Order) (k : ℕ) → k ≤ length os → size_to left os k ≤ size_to left os (length os)
-before-end left [] zero le = omega arith
-before-end left [] (suc k) le = absurd (omega (arith, le))
-before-end left (o ∷ os) zero le = omega arith
-before-end left (o ∷ os) (suc k) le =
-    let z = before-end (orders_left (block_at left (o ∷ os))) os k (let y : k ≤ length os = omega (arith, le) in y) in
-    omega (arith, z)
+module _ (reach : Reach) where
+  -- the bytes of a block that begins with the order of a number, and of the orders before a place
+  abbrev size-of : (number : ℕ) → Block → Order → ℕ
+  size-of number b o = size_by (is_short reach) number b o
 
--- and that of an entry before it
-entry-before : (left : ℕ) (os : List Order) → IsTrue (left_over left os) → (k : ℕ) → IsTrue (enters (slice_get os k)) → size_to left os k < size_to left os (length os)
-entry-before left [] l k h = no h
-entry-before left (o ∷ os) l (suc k) h =
-    let z = entry-before (orders_left (block_at left (o ∷ os))) os (left-next left o os l) k h in
-    omega (arith, z)
-entry-before left (order.Enter n ∷ os) l zero h = by_left left l
-  where
-    by_left : (left : ℕ) → IsTrue (left_over left (order.Enter n ∷ os)) → 0 < size_to left (order.Enter n ∷ os) (suc (length os))
-    by_left zero l = let one : block_size block.Single (order.Enter n) ≡ 7 = refl in omega (arith, one)
-    by_left (suc m) l = no l
-entry-before left (o ∷ os) l zero h = no h
+  abbrev size-to : (number left : ℕ) → List Order → (place : ℕ) → ℕ
+  size-to number left os k = size_to (is_short reach) number left os k
+
+  -- the code of each order begins at the end at the latest
+  before-end : (number left : ℕ) (os : List Order) (k : ℕ) → k ≤ length os → size-to number left os k ≤ size-to number left os (length os)
+  before-end number left [] zero le = omega arith
+  before-end number left [] (suc k) le = absurd (omega (arith, le))
+  before-end number left (o ∷ os) zero le = omega arith
+  before-end number left (o ∷ os) (suc k) le =
+      let z = before-end (suc number) (orders_left (block_at left (o ∷ os))) os k (let y : k ≤ length os = omega (arith, le) in y) in
+      omega (arith, z)
+
+  -- and that of an entry before it
+  entry-before : (number left : ℕ) (os : List Order) → IsTrue (left_over left os) → (k : ℕ) → IsTrue (enters (slice_get os k)) → size-to number left os k < size-to number left os (length os)
+  entry-before number left [] l k h = no h
+  entry-before number left (o ∷ os) l (suc k) h =
+      let z = entry-before (suc number) (orders_left (block_at left (o ∷ os))) os (left-next left o os l) k h in
+      omega (arith, z)
+  entry-before number left (order.Enter n ∷ os) l zero h = by_left left l
+    where
+      by_left : (left : ℕ) → IsTrue (left_over left (order.Enter n ∷ os)) → 0 < size-to number left (order.Enter n ∷ os) (suc (length os))
+      by_left zero l = let one : size-of number block.Single (order.Enter n) ≡ 7 = refl in omega (arith, one)
+      by_left (suc m) l = no l
+  entry-before number left (o ∷ os) l zero h = no h
 
 -- ---- statements
 
@@ -213,17 +221,28 @@ alone-long (order.GoCommon d) h = omega arith
 alone-long (order.GoSpecial k) h = omega arith
 alone-long _ h = absurd h
 
+-- a short jump saves not all of them
+saved-less : (o : Order) → BeginsStatement o → saved block.Single o < listed_size o
+saved-less (order.Jump m) h = omega arith
+saved-less (order.JumpIf c m) h = absurd h
+saved-less (order.LoopWay marks) h = absurd h
+saved-less o h = alone-long o h
+
 -- and so has that of the block which it begins
-begins-long : (o : Order) (os : List Order) → BeginsStatement o → 0 < block_size (block_at 0 (o ∷ os)) o
-begins-long o os h = cases (block_at 0 (o ∷ os)) (shape (o ∷ os))
+begins-long : (short : Bool) (o : Order) (os : List Order) → BeginsStatement o → 0 < block_size short (block_at 0 (o ∷ os)) o
+begins-long short o os h = cases (block_at 0 (o ∷ os)) (shape (o ∷ os))
   where
     -- a block of such an order begins with an address
     not-so : (all : List Order) → o ∷ os ≡ all → Leads all
     not-so all e = subst Leads e h
 
-    cases : (b : Block) → IsBlock b (o ∷ os) → 0 < block_size b o
+    alone : (short : Bool) → 0 < block_size short block.Single o
+    alone false = let z = size_alone o in let y = alone-long o h in omega (arith, z, y)
+    alone true = let z = size_alone o in let y = saved-less o h in let x = saves block.Single o in omega (arith, z, y, x)
+
+    cases : (b : Block) → IsBlock b (o ∷ os) → 0 < block_size short b o
     cases (block.Within n) sh = absurd sh
-    cases block.Single sh = let z = size_alone o in let y = alone-long o h in omega (arith, z, y)
+    cases block.Single sh = alone short
     cases (block.Fetch (cell.Word f n)) sh = omega arith
     cases (block.Fetch (cell.Frame n)) sh = omega arith
     cases (block.FetchPart (cell.Word f n) t b is_signed) sh = omega arith
@@ -239,37 +258,37 @@ begins-long o os h = cases (block_at 0 (o ∷ os)) (shape (o ∷ os))
     cases (block.Halve w power places line) sh = absurd (not-so _ sh.0)
     cases (block.Bounded b) sh = absurd (not-so _ sh.0)
 
-module _ (n : ℕ) (fs : List Family) (places : List ℕ) (size : ℕ) (small : size ≤ 2097120) where
-  pub begun-from : (os : List Order) → Fit n fs os → AreBegun os → (left at low k : ℕ) → IsTrue (left_over left os) → low ≤ at → at + size_to left os (length os) ≤ size
-      → ((j : ℕ) → j ≤ length os → slice_index places (k + j) ≡ at + size_to left os j) → IsTrue (list_all has_code os) → IsTrue (are_begun size low (statements_from k places os))
-  begun-from _ none g left at low k l le end here c = refl
-  begun-from _ (next o os h r) g left at low k l le end here c =
+module _ (reach : Reach) (n : ℕ) (fs : List Family) (places : List ℕ) (size : ℕ) (small : size ≤ 2097120) where
+  pub begun-from : (os : List Order) → Fit n fs os → AreBegun os → (number left at low k : ℕ) → IsTrue (left_over left os) → low ≤ at → at + size-to reach number left os (length os) ≤ size
+      → ((j : ℕ) → j ≤ length os → slice_index places (k + j) ≡ at + size-to reach number left os j) → IsTrue (list_all has_code os) → IsTrue (are_begun size low (statements_from k places os))
+  begun-from _ none g number left at low k l le end here c = refl
+  begun-from _ (next o os h r) g number left at low k l le end here c =
       let b = block_at left (o ∷ os) in
-      let s = block_size b o in
-      let rest = begun-from os r g.1 (orders_left b) (at + s) low (k + 1) (left-next left o os l) (let z : low ≤ at + s = omega (arith, le) in z) (let z : at + s + size_to (orders_left b) os (length os) ≤ size = omega (arith, end) in z)
-      (λ j lt. let e : k + 1 + j ≡ k + suc j = omega arith in let z : at + (s + size_to (orders_left b) os j) ≡ at + s + size_to (orders_left b) os j = omega arith in ap (slice_index places) e ∙ here (suc j) (let y : suc j ≤ suc (length os) = omega (arith, lt) in y) ∙ z)
+      let s = size-of reach number b o in
+      let rest = begun-from os r g.1 (suc number) (orders_left b) (at + s) low (k + 1) (left-next left o os l) (let z : low ≤ at + s = omega (arith, le) in z) (let z : at + s + size-to reach (suc number) (orders_left b) os (length os) ≤ size = omega (arith, end) in z)
+      (λ j lt. let e : k + 1 + j ≡ k + suc j = omega arith in let z : at + (s + size-to reach (suc number) (orders_left b) os j) ≡ at + s + size-to reach (suc number) (orders_left b) os j = omega arith in ap (slice_index places) e ∙ here (suc j) (let y : suc j ≤ suc (length os) = omega (arith, lt) in y) ∙ z)
       (parts (has_code o) (list_all has_code os) c).1 in
       subst (λ xs. IsTrue (are_begun size low (xs ++ statements_from (k + 1) places os))) (sym (no-statement n fs (slice_index places k) o h)) rest
-  begun-from _ (begun line os h r) g (suc left) at low k l le end here c = no l
-  begun-from _ (begun line _ h none) g zero at low k l le end here c = absurd g.0
-  begun-from _ (begun line _ h (begun m os i r)) g zero at low k l le end here c = absurd g.0
+  begun-from _ (begun line os h r) g number (suc left) at low k l le end here c = no l
+  begun-from _ (begun line _ h none) g number zero at low k l le end here c = absurd g.0
+  begun-from _ (begun line _ h (begun m os i r)) g number zero at low k l le end here c = absurd g.0
   -- the code of the order behind the Start is that of the statement
-  begun-from _ (begun line _ h (next o os m r)) g zero at low k l le end here c =
+  begun-from _ (begun line _ h (next o os m r)) g number zero at low k l le end here c =
       let b = block_at 0 (o ∷ os) in
-      let s = block_size b o in
-      let some : 0 < s = begins-long o os g.0 in
+      let s = size-of reach (suc number) b o in
+      let some : 0 < s = begins-long (is_short reach (suc number) b o) o os g.0 in
       let p = slice_index places k in
       let e : k + 0 ≡ k = omega arith in
       let place : p ≡ at = ap (slice_index places) (sym e) ∙ here 0 (let z : 0 ≤ suc (suc (length os)) = omega arith in z) ∙ (let z : at + 0 ≡ at = omega arith in z) in
       let a = parts (has_code (order.Start line)) (list_all has_code (o ∷ os)) c in
-      let whole : at + (0 + (s + size_to (orders_left b) os (length os))) ≤ size = end in
+      let whole : at + (0 + (s + size-to reach (suc (suc number)) (orders_left b) os (length os))) ≤ size = end in
       let inside : p < size = omega (arith, place, whole, some) in
       let long : p < 4294967296 = omega (arith, inside, small) in
       let above : low ≤ p = omega (arith, place, le) in
       let after : p + 1 ≤ at + s = omega (arith, place, some) in
-      let behind : at + s + size_to (orders_left b) os (length os) ≤ size = omega (arith, whole) in
-      let rest = begun-from os r g.1.1 (orders_left b) (at + s) (p + 1) (k + 1 + 1) (left-first o os) after behind
-      (λ j lt. let f : k + 1 + 1 + j ≡ k + suc (suc j) = omega arith in let z : at + (0 + (s + size_to (orders_left b) os j)) ≡ at + s + size_to (orders_left b) os j = omega arith in ap (slice_index places) f ∙ here (suc (suc j)) (let y : suc (suc j) ≤ suc (suc (length os)) = omega (arith, lt) in y) ∙ z)
+      let behind : at + s + size-to reach (suc (suc number)) (orders_left b) os (length os) ≤ size = omega (arith, whole) in
+      let rest = begun-from os r g.1.1 (suc (suc number)) (orders_left b) (at + s) (p + 1) (k + 1 + 1) (left-first o os) after behind
+      (λ j lt. let f : k + 1 + 1 + j ≡ k + suc (suc j) = omega arith in let z : at + (0 + (s + size-to reach (suc (suc number)) (orders_left b) os j)) ≡ at + s + size-to reach (suc (suc number)) (orders_left b) os j = omega arith in ap (slice_index places) f ∙ here (suc (suc j)) (let y : suc (suc j) ≤ suc (suc (length os)) = omega (arith, lt) in y) ∙ z)
       (parts (has_code o) (list_all has_code os) a.1).1 in
       let others = subst (λ xs. IsTrue (are_begun size (p + 1) (xs ++ statements_from (k + 1 + 1) places os))) (sym (no-statement n fs (slice_index places (k + 1)) o m)) rest in
       both (is_begun size low (p, line)) (are_begun size (p + 1) (statements_from (k + 1) places (o ∷ os)))
@@ -283,33 +302,33 @@ module _ (o : Orders) where
   abbrev pub Whole : ℕ
   Whole = length (orders_code o).bytes
 
-  pub code-long : Whole ≡ entry_size + (size_to 0 o.list (length o.list) + (15 * length o.labels + switch_sizes o.switches))
+  pub code-long : Whole ≡ entry_size + (size-to (reach_of o) 0 0 o.list (length o.list) + (15 * length o.labels + switch_sizes o.switches))
   code-long =
       let N = names_of o in
-      let T = templates N entry_size 0 o.list in
+      let T = templates N entry_size 0 0 o.list in
       let L = landings N (landings_place o) o.labels in
       let S = switches N (switches_place o) o.switches in
       let first = ap length (blanks-append entry_pieces (T ++ (L ++ S))) ∙ length-append (blanks entry_pieces) (blanks (T ++ (L ++ S))) in
       let second = ap length (blanks-append T (L ++ S)) ∙ length-append (blanks T) (blanks (L ++ S)) in
       let third = ap length (blanks-append L S) ∙ length-append (blanks L) (blanks S) in
-      omega (arith, first, second, third, size_of_templates N entry_size 0 o.list, size_of_landings N (landings_place o) o.labels, size_of_switches N (switches_place o) o.switches)
+      omega (arith, first, second, third, size_of_templates N entry_size 0 0 o.list, size_of_landings N (landings_place o) o.labels, size_of_switches N (switches_place o) o.switches)
 
   pub statements : (n : ℕ) (fs : List Family) → Whole ≤ 2097120 → Fit n fs o.list → AreBegun o.list → IsTrue (list_all has_code o.list) → IsTrue (are_begun Whole 0 (orders_code o).statements)
   statements n fs small fit begin coded =
       let long = code-long in
-      begun-from n fs (order_places o.list) Whole small o.list fit begin 0 entry_size 0 0 refl (let z : 0 ≤ entry_size = omega arith in z) (let z : entry_size + size_to 0 o.list (length o.list) ≤ Whole = omega (arith, long) in z)
-      (λ j le. let e : 0 + j ≡ j = omega arith in ap (slice_index (order_places o.list)) e ∙ places_are entry_size 0 o.list j le) coded
+      begun-from (reach_of o) n fs (order_places o) Whole small o.list fit begin 0 0 entry_size 0 0 refl (let z : 0 ≤ entry_size = omega arith in z) (let z : entry_size + size-to (reach_of o) 0 0 o.list (length o.list) ≤ Whole = omega (arith, long) in z)
+      (λ j le. let e : 0 + j ≡ j = omega arith in ap (slice_index (order_places o)) e ∙ places_are (is_short (reach_of o)) entry_size 0 0 o.list j le) coded
 
   -- ---- definitions
 
   module _ (marked : IsTrue (list_all (is_mark o.list) o.marks)) (entered : IsTrue (list_all (is_entry o.list o.marks) o.procedures)) where
     abbrev End : ℕ
-    End = entry_size + size_to 0 o.list (length o.list)
+    End = entry_size + size-to (reach_of o) 0 0 o.list (length o.list)
 
-    order-inside : (k : ℕ) → k ≤ length o.list → slice_index (order_places o.list) k ≤ End
+    order-inside : (k : ℕ) → k ≤ length o.list → slice_index (order_places o) k ≤ End
     order-inside k le =
-        let at : slice_index (order_places o.list) k ≡ entry_size + size_to 0 o.list k = places_are entry_size 0 o.list k le in
-        let z = before-end 0 o.list k le in
+        let at : slice_index (order_places o) k ≡ entry_size + size-to (reach_of o) 0 0 o.list k = places_are (is_short (reach_of o)) entry_size 0 0 o.list k le in
+        let z = before-end (reach_of o) 0 0 o.list k le in
         omega (arith, at, z)
 
     index-mark : (ms : List ℕ) → IsTrue (list_all (is_mark o.list) ms) → (k : ℕ) → IsTrue (is_mark o.list (slice_index ms k))
@@ -317,15 +336,15 @@ module _ (o : Orders) where
     index-mark (m ∷ ms) h zero = (parts (is_mark o.list m) (list_all (is_mark o.list) ms) h).0
     index-mark (m ∷ ms) h (suc k) = index-mark ms (parts (is_mark o.list m) (list_all (is_mark o.list) ms) h).1 k
 
-    marked-inside : (place : ℕ) → IsTrue (is_mark o.list place) → slice_index (order_places o.list) place ≤ End
+    marked-inside : (place : ℕ) → IsTrue (is_mark o.list place) → slice_index (order_places o) place ≤ End
     marked-inside place h = by_test (nat_eq place 0) refl h
       where
-        by_order : (x : Option Order) → slice_get o.list place ≡ x → IsTrue (lands x) → slice_index (order_places o.list) place ≤ End
+        by_order : (x : Option Order) → slice_get o.list place ≡ x → IsTrue (lands x) → slice_index (order_places o) place ≤ End
         by_order None e h = no h
         by_order (Some x) e h = let lt = slice_get_within o.list place x e in order-inside place (let z : place ≤ length o.list = omega (arith, lt) in z)
 
-        by_test : (b : Bool) → nat_eq place 0 ≡ b → IsTrue (b || lands (slice_get o.list place)) → slice_index (order_places o.list) place ≤ End
-        by_test true e h = subst (λ k. slice_index (order_places o.list) k ≤ End) (sym (eqb-true place 0 e)) (order-inside 0 (let z : 0 ≤ length o.list = omega arith in z))
+        by_test : (b : Bool) → nat_eq place 0 ≡ b → IsTrue (b || lands (slice_get o.list place)) → slice_index (order_places o) place ≤ End
+        by_test true e h = subst (λ k. slice_index (order_places o) k ≤ End) (sym (eqb-true place 0 e)) (order-inside 0 (let z : 0 ≤ length o.list = omega arith in z))
         by_test false e h = by_order (slice_get o.list place) refl h
 
     -- a mark may stand behind all code of the orders
@@ -341,8 +360,8 @@ module _ (o : Orders) where
         by_order place (Some x) e f k =
             let long = code-long in
             let lt = slice_get_within o.list place x f in
-            let at : mark_starts o m ≡ entry_size + size_to 0 o.list place = mark_start o m place e (let z : place ≤ length o.list = omega (arith, lt) in z) in
-            let before = entry-before 0 o.list refl place (subst (λ y. IsTrue (enters y)) (sym f) k) in
+            let at : mark_starts o m ≡ entry_size + size-to (reach_of o) 0 0 o.list place = mark_start o m place e (let z : place ≤ length o.list = omega (arith, lt) in z) in
+            let before = entry-before (reach_of o) 0 0 o.list refl place (subst (λ y. IsTrue (enters y)) (sym f) k) in
             omega (arith, long, at, before)
 
         by_mark : (x : Option ℕ) → slice_get o.marks m ≡ x → IsTrue (enters_at o.list x) → mark_starts o m < Whole

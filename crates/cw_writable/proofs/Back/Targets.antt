@@ -3,6 +3,7 @@ use Rattle.std.proofs.Common.{◌≡◌, ℕ, zero, suc, ◌+◌, ◌-◌, ◌%�
 use Rattle.std.proofs.lemmas.Bool.{ltb-true}
 use Rattle.std.proofs.lemmas.Bool.Decides.{nat_tests}
 use Rattle.std.specs.List.{list_all}
+use Rattle.cw_order.specs.declared.order.Comparator.{Comparator}
 use Rattle.cw_order.specs.declared.order.Order.{Order}
 use Rattle.cw_order.specs.declared.order.Order.TheVariants as order
 use Rattle.cw_order.specs.declared.order.Orders.{Orders}
@@ -37,8 +38,9 @@ use Rattle.cw_tmpl.specs.declared.blocks.Block.{Block}
 use Rattle.cw_tmpl.specs.declared.blocks.Block.TheVariants as block
 use Rattle.cw_tmpl.specs.Blocks.{address_orders, bounds_orders, form_within, entries_within, element_orders, operand_orders, zero_word, block_at, orders_left}
 use Rattle.cw_tmpl.proofs.Shapes.{IsBlock, IsNear, TestNear, OperandIs, shape}
-use Rattle.cw_tmpl.specs.Templates.{template, mark_words, goal_words, landing_pieces, switch_pieces, times_if, times, rescale_if, product_start, product_down, less_bound, plus_word, times_width, based, in_row, element_of_two, block_pieces, block_size, entry_pieces, checked, address_pieces, load_place, store_place, with_operand, product_with, operated, shifted_up, shifted_down, shifted_down_signed, lowest_if, part_taken, operate_place, change_place, index_added, index_loaded, from_lower, indexes_between, top_from_lower, top_below, times_entry, formed, bounded_address, element_tested, element_address, call_stop}
+use Rattle.cw_tmpl.specs.Templates.{is_short, template, template_by, branch_by, pieces_size, mark_words, goal_words, landing_pieces, switch_pieces, times_if, times, rescale_if, product_start, product_down, less_bound, plus_word, times_width, based, in_row, element_of_two, block_pieces, block_size, entry_pieces, checked, address_pieces, load_place, store_place, with_operand, product_with, operated, shifted_up, shifted_down, shifted_down_signed, lowest_if, part_taken, operate_place, change_place, index_added, index_loaded, from_lower, indexes_between, top_from_lower, top_below, times_entry, formed, bounded_address, element_tested, element_address, call_stop}
 use Rattle.cw_tmpl.specs.ReferenceCode.{templates, landings, switches, entry_size, landings_place, switches_place, names_of, pieces_of}
+use Rattle.cw_tmpl.proofs.Sizes.{pieces_by}
 use Rattle.cw_tmpl.specs.Blanks.{FillsBlank, Rise}
 use Rattle.cw_view.specs.ObjectFormat.{is_blank, has_index}
 use Rattle.cw_obj.specs.Writable.{tables}
@@ -215,6 +217,16 @@ module _ (n : ℕ) (fs : List Family) where
   template-sound names place (order.Start line) h = no h
   template-sound names place _ h = refl
 
+  -- with its jump short or near
+  alone-sound : (names : Names) (place : ℕ) (short : Bool) (o : Order) → IsTrue (names_well n fs o) → Sound (template_by short names place o)
+  alone-sound names place false o h = template-sound names place o h
+  alone-sound names place true (order.Jump m) h = refl
+  alone-sound names place true (order.JumpIf c m) h = refl
+  alone-sound names place true (order.LoopWay []) h = template-sound names place (order.LoopWay []) h
+  alone-sound names place true (order.LoopWay (m ∷ [])) h = refl
+  alone-sound names place true (order.LoopWay (m ∷ k ∷ ms)) h = template-sound names place (order.LoopWay (m ∷ k ∷ ms)) h
+  alone-sound names place true o h = template-sound names place o h
+
   -- ---- blocks
 
   -- what the first order of a list names, where it puts the address of a word
@@ -342,17 +354,23 @@ module _ (n : ℕ) (fs : List Family) where
   product-sound (simple.Contents (cell.Word f k)) h = only (is_place fs f k) h
   product-sound (simple.Contents (cell.Frame k)) h = refl
 
-  operated-sound : (names : Names) (place : ℕ) (s : Simple) (u : Use) → SimpleNamed s → Sound (operated names place s u)
-  operated-sound names place s (uses.Add line) h = sound-both (with_operand 0 s) (checked line) (operand-sound 0 s h) refl
-  operated-sound names place s (uses.Subtract line) h = sound-both (with_operand 5 s) (checked line) (operand-sound 5 s h) refl
-  operated-sound names place s (uses.Multiply line) h = sound-both (product_with s) (checked line) (product-sound s h) refl
-  operated-sound names place s uses.Mask h = operand-sound 4 s h
-  operated-sound names place s uses.Union h = operand-sound 1 s h
-  operated-sound names place s uses.Differ h = operand-sound 6 s h
-  operated-sound names place s (uses.Compare c m) h = sound-both (with_operand 7 s) _ (operand-sound 7 s h) refl
+  branch-sound : (short : Bool) (c : Comparator) (place to : ℕ) → Sound (branch_by short c place to)
+  branch-sound true c place to = refl
+  branch-sound false c place to = refl
 
-  first-sound : (names : Names) (place : ℕ) (o : Order) (os : List Order) → IsTrue (names_well n fs o) → Fit n fs os → Sound (block_pieces names place (block_at 0 (o ∷ os)) o)
-  first-sound names place o os h r = cases (block_at 0 (o ∷ os)) (shape (o ∷ os))
+  operated-sound : (names : Names) (place : ℕ) (short : Bool) (s : Simple) (u : Use) → SimpleNamed s → Sound (operated names place short s u)
+  operated-sound names place short s (uses.Add line) h = sound-both (with_operand 0 s) (checked line) (operand-sound 0 s h) refl
+  operated-sound names place short s (uses.Subtract line) h = sound-both (with_operand 5 s) (checked line) (operand-sound 5 s h) refl
+  operated-sound names place short s (uses.Multiply line) h = sound-both (product_with s) (checked line) (product-sound s h) refl
+  operated-sound names place short s uses.Mask h = operand-sound 4 s h
+  operated-sound names place short s uses.Union h = operand-sound 1 s h
+  operated-sound names place short s uses.Differ h = operand-sound 6 s h
+  operated-sound names place short s (uses.Compare c m) h =
+      let behind : ℕ = place + pieces_size (with_operand 7 s) in
+      sound-both (with_operand 7 s) (branch_by short c behind (mark_place names m)) (operand-sound 7 s h) (branch-sound short c behind (mark_place names m))
+
+  first-sound : (names : Names) (place : ℕ) (short : Bool) (o : Order) (os : List Order) → IsTrue (names_well n fs o) → Fit n fs os → Sound (block_pieces names place short (block_at 0 (o ∷ os)) o)
+  first-sound names place short o os h r = cases (block_at 0 (o ∷ os)) (shape (o ∷ os))
     where
       -- what the orders behind a Save name
       behind : (x : Place) (rest : List Order) → o ∷ os ≡ order.Save ∷ (address_orders x ++ rest) → Named x
@@ -395,14 +413,14 @@ module _ (n : ℕ) (fs : List Family) where
       simple-behind (simple.Number w) rest near e = tt
       simple-behind (simple.Contents x) rest near e = behind x (order.Load ∷ rest) (e ∙ ap (λ l. order.Save ∷ l) (append_assoc (address_orders x) (order.Load ∷ []) rest))
 
-      cases : (b : Block) → IsBlock b (o ∷ os) → Sound (block_pieces names place b o)
+      cases : (b : Block) → IsBlock b (o ∷ os) → Sound (block_pieces names place short b o)
       cases (block.Within k) sh = absurd sh
-      cases block.Single sh = template-sound names place o h
+      cases block.Single sh = alone-sound names place short o h
       cases (block.Fetch x) sh = fetch-sound x (named-first x _ (subst Placed sh (placed-first o os h)))
       cases (block.Assign x) sh = assign-sound x (behind x _ sh)
       cases block.Write sh = refl
       cases (block.Divide w line) sh = refl
-      cases (block.Operate s u) sh = operated-sound names place s u (simple-behind s _ sh.1 sh.0)
+      cases (block.Operate s u) sh = operated-sound names place short s u (simple-behind s _ sh.1 sh.0)
       cases (block.FetchPart x t b is_signed) sh = fetch-part-sound x t b is_signed (named-first x _ (subst Placed sh.0 (placed-first o os h)))
       cases (block.AssignPart x t b) sh =
           sound-both (shifted_up b) _ (up-sound b) (change-sound x _ refl (behind x _ sh.0))
@@ -413,22 +431,25 @@ module _ (n : ℕ) (fs : List Family) where
       cases (block.Halve w power places line) sh = signed-sound places
       cases (block.Bounded b) sh = bounded-sound b (named-there (o ∷ os) (next o os h r) 2 b.family b.first (ap (λ l. slice_get l 2) sh.0)) sh.1
 
-  block-sound : (names : Names) (place left : ℕ) (o : Order) (os : List Order) → IsTrue (names_well n fs o) → Fit n fs os → Sound (block_pieces names place (block_at left (o ∷ os)) o)
-  block-sound names place (suc left) o os h r = refl
-  block-sound names place zero o os h r = first-sound names place o os h r
+  block-sound : (names : Names) (place : ℕ) (short : Bool) (left : ℕ) (o : Order) (os : List Order) → IsTrue (names_well n fs o) → Fit n fs os → Sound (block_pieces names place short (block_at left (o ∷ os)) o)
+  block-sound names place short (suc left) o os h r = refl
+  block-sound names place short zero o os h r = first-sound names place short o os h r
 
-  start-sound : (names : Names) (place left line : ℕ) (os : List Order) → Sound (block_pieces names place (block_at left (order.Start line ∷ os)) (order.Start line))
-  start-sound names place (suc left) line os = refl
-  start-sound names place zero line os = refl
+  start-sound : (names : Names) (place number left line : ℕ) (os : List Order) → Sound (pieces_by names place number (block_at left (order.Start line ∷ os)) (order.Start line))
+  start-sound names place number (suc left) line os = refl
+  start-sound names place number zero line os = refl
 
-  templates-sound : (names : Names) (place left : ℕ) (os : List Order) → Fit n fs os → Sound (templates names place left os)
-  templates-sound names place left _ none = refl
-  templates-sound names place left _ (next o os h r) =
+  templates-sound : (names : Names) (place number left : ℕ) (os : List Order) → Fit n fs os → Sound (templates names place number left os)
+  templates-sound names place number left _ none = refl
+  templates-sound names place number left _ (next o os h r) =
       let b = block_at left (o ∷ os) in
-      sound-both (block_pieces names place b o) (templates names (place + block_size b o) (orders_left b) os) (block-sound names place left o os h r) (templates-sound names (place + block_size b o) (orders_left b) os r)
-  templates-sound names place left _ (begun line os h r) =
-      let b = block_at left (order.Start line ∷ os) in
-      sound-both (block_pieces names place b (order.Start line)) (templates names (place + block_size b (order.Start line)) (orders_left b) os) (start-sound names place left line os) (templates-sound names (place + block_size b (order.Start line)) (orders_left b) os r)
+      let short = is_short names.reach number b o in
+      sound-both (block_pieces names place short b o) (templates names (place + block_size short b o) (suc number) (orders_left b) os) (block-sound names place short left o os h r) (templates-sound names (place + block_size short b o) (suc number) (orders_left b) os r)
+  templates-sound names place number left _ (begun line os h r) =
+      let o = order.Start line in
+      let b = block_at left (o ∷ os) in
+      let short = is_short names.reach number b o in
+      sound-both (block_pieces names place short b o) (templates names (place + block_size short b o) (suc number) (orders_left b) os) (start-sound names place number left line os) (templates-sound names (place + block_size short b o) (suc number) (orders_left b) os r)
 
   -- ---- the segment
 
@@ -445,10 +466,10 @@ module _ (n : ℕ) (fs : List Family) where
   pub pieces-sound : (o : Orders) → Fit n fs o.list → IsTrue (list_all (list_all (is_goal n)) o.switches) → Sound (pieces_of o)
   pieces-sound o h k =
       let N = names_of o in
-      let T = templates N entry_size 0 o.list in
+      let T = templates N entry_size 0 0 o.list in
       let L = landings N (landings_place o) o.labels in
       let S = switches N (switches_place o) o.switches in
-      sound-both entry_pieces (T ++ (L ++ S)) refl (sound-both T (L ++ S) (templates-sound N entry_size 0 o.list h) (sound-both L S (landings-sound N (landings_place o) o.labels) (switches-sound N (switches_place o) o.switches k)))
+      sound-both entry_pieces (T ++ (L ++ S)) refl (sound-both T (L ++ S) (templates-sound N entry_size 0 0 o.list h) (sound-both L S (landings-sound N (landings_place o) o.labels) (switches-sound N (switches_place o) o.switches k)))
 
   -- ---- relocations
 

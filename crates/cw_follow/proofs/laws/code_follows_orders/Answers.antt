@@ -88,6 +88,7 @@ returns c =
       jumps_below = c.comparing_below.ensures.jumps;
       passes_above = c.comparing_below.ensures.passes;
       near = c.jumps.ensures.near;
+      short = c.jumps.ensures.short;
       jump_to = c.jumps.ensures.register;
       no_overflow = c.jumps.ensures.no_overflow;
       passes = c.jumps.ensures.passes;

@@ -1,4 +1,4 @@
-use Rattle.cw_tmpl.proofs.Sizes.{size_everywhere, listed, whole, segment_size, stands_at}
+use Rattle.cw_tmpl.proofs.Sizes.{size_everywhere, saves, listed, whole, segment_size, stands_at}
 use Rattle.cw_tmpl.proofs.laws.sizes.Goals as goal
 
 pub returns-clause-each : goal.returns-clause-each
@@ -6,6 +6,9 @@ returns-clause-each c = listed
 
 pub returns-clause-everywhere : goal.returns-clause-everywhere
 returns-clause-everywhere c = size_everywhere
+
+pub returns-clause-saves : goal.returns-clause-saves
+returns-clause-saves c = saves
 
 pub returns-clause-whole : goal.returns-clause-whole
 returns-clause-whole c = whole
