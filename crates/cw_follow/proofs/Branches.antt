@@ -1,10 +1,11 @@
 -- The way on behind a comparison, with a near jump to its mark or a short one.
-use Rattle.std.proofs.Common.{◌≡◌, ℕ, ◌+◌, ◌%◌, Bool, true, false, List, [], ◌∷◌, refl, ap, ◌∙◌, arith}
+use Rattle.std.proofs.Common.{◌≡◌, ℕ, ◌+◌, ◌%◌, ◌<◌, lit<, Bool, true, false, List, [], ◌∷◌, refl, ap, ◌∙◌, arith}
 use Rattle.cw_i86.specs.State.{sign_extended}
 use Rattle.cw_i86.specs.declared.instr.Instr.{Instr}
 use Rattle.cw_i86.specs.declared.instr.Instr.TheVariants as i86
 use Rattle.cw_run86.specs.Views.{condition_of}
 use Rattle.cw_order.specs.declared.order.Comparator.{Comparator}
+use Rattle.cw_order.specs.declared.order.Comparator.TheVariants as comparator
 use Rattle.cw_tmpl.specs.Pieces.{Filling}
 use Rattle.cw_tmpl.specs.Templates.{distance, short_distance, is_close, comparison_of, opposite_of, branch_by}
 use Rattle.cw_tmpl.proofs.Sizes.{jump_arrives}
@@ -44,3 +45,15 @@ branch_arrives base own n to false close =
     let far : (base + (own + n) + 5 + distance (own + n + 5) to) % 65536 ≡ (base + to) % 65536 = jump_arrives base (own + n) 5 to in
     let same : base + own + n + 5 ≡ base + (own + n) + 5 = omega arith in
     ap (λ x. (x + distance (own + n + 5) to) % 65536) same ∙ far
+
+-- numbers of its instructions
+pub comparison_small : (c : Comparator) → condition_of (comparison_of c) < 16
+comparison_small comparator.Less = lit< tt
+comparison_small comparator.LessEqual = lit< tt
+comparison_small comparator.Equal = lit< tt
+comparison_small comparator.GreaterEqual = lit< tt
+comparison_small comparator.Greater = lit< tt
+comparison_small comparator.Unequal = lit< tt
+
+pub short_small : (from to : ℕ) → short_distance from to < 256
+short_small from to = omega arith

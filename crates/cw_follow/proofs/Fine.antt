@@ -23,7 +23,7 @@ use Rattle.cw_tmpl.specs.Pieces.{Filling, bytes_with, size_of, target_of, reloca
 use Rattle.cw_tmpl.specs.Mnemonics.{entry_of_table, change_memory, operate_number, memory, argument, double, jump_to, jump_if_below, set_word, at_bx, at_si, load, store, subtract, both, either, one_of, operate, change, move, add, multiply, shift_up, shift_up_once, shift_down, shift_down_once, shift_down_signed, shift_down_signed_once}
 use Rattle.cw_tmpl.specs.Library.{places_of_entries, entry_place, start_entry, overflow_entry, zero_divisor_entry, address_entry, bounds_entry, switch_entry, enter_entry, read_entry, product_entry, quotient_up_entry, quotient_down_entry, set_variable_entry, add_step_entry, put_variable_entry, exhausted_entry, next_step_entry}
 use Rattle.cw_tmpl.specs.Names.{Names, mark_place, label_start, switch_start, procedure_start}
-use Rattle.cw_tmpl.specs.Templates.{template, call_library, call_stop, unless_overflow, checked, call_at_line, on_both, with_word, times, times_if, shifted, shifted_up, shifted_down, shifted_down_signed, lowest_if, taken, part_taken, load_top, store_part, rescale_if, by_routine, product_start, product_down, product, divisor_tested, quotient, in_area, index_by, less_bound, plus_word, times_width, base_kept, based, element, in_row, element_of_two, entry, top_below, with_both_bounds, in_bounds, branch, distance, jump_near, opposite_of, control_out, return_with, operands_dropped, base_jump, number_compared, mark_words, goal_words, loop_way, loop_ways, place_doubled, doubled_size, step_taken, switch_pieces, address_pieces, load_place, store_place, operate_place, change_place, index_added, index_loaded, from_lower, indexes_between, element_tested, element_address, with_operand, product_with, pieces_size, operated, top_from_lower, times_entry, formed, block_pieces, entry_pieces, comparison_of, template_by, short_distance, branch_by, short_branch}
+use Rattle.cw_tmpl.specs.Templates.{template, call_library, call_stop, unless_overflow, checked, call_at_line, on_both, with_word, times, times_if, shifted, shifted_up, shifted_down, shifted_down_signed, lowest_if, taken, part_taken, load_top, store_part, rescale_if, by_routine, product_start, product_down, product, divisor_tested, quotient, in_area, index_by, less_bound, plus_word, times_width, base_kept, based, element, in_row, element_of_two, entry, top_below, with_both_bounds, in_bounds, branch, distance, jump_near, opposite_of, control_out, return_with, operands_dropped, base_jump, number_compared, mark_words, goal_words, loop_way, loop_ways, place_doubled, doubled_size, step_taken, switch_pieces, address_pieces, load_place, store_place, operate_place, change_place, index_added, index_loaded, from_lower, indexes_between, element_tested, element_address, with_operand, product_with, pieces_size, operated, top_from_lower, times_entry, formed, block_pieces, entry_pieces, template_by, branch_by, short_branch}
 use Rattle.cw_order.specs.declared.order.Place.{Place}
 use Rattle.cw_order.specs.declared.order.Place.TheVariants as cell
 use Rattle.cw_tmpl.specs.declared.blocks.Element.{Element}
@@ -41,6 +41,7 @@ use Rattle.cw_tmpl.specs.Blocks.{address_orders, bounds_orders, element_orders, 
 use Rattle.cw_tmpl.proofs.Shapes.{IsBlock, shape}
 use Rattle.cw_tmpl.specs.ReferenceCode.{names_of}
 use Rattle.cw_follow.specs.Placing.{Fills, base_of, definition_place}
+use Rattle.cw_follow.proofs.Branches.{comparison_small, short_small}
 use Rattle.cw_follow.proofs.Stacks.{start_small}
 use Rattle.cw_tmpl.proofs.Growing.{mask_small}
 use Rattle.cw_tmpl.proofs.Filling.{size_with}
@@ -295,17 +296,6 @@ below w n e = omega arith
 
 distance_small : (from to : ℕ) → distance from to < 65536
 distance_small from to = omega arith
-
-short_small : (from to : ℕ) → short_distance from to < 256
-short_small from to = omega arith
-
-comparison_small : (c : Comparator) → condition_of (comparison_of c) < 16
-comparison_small comparator.Less = lit< tt
-comparison_small comparator.LessEqual = lit< tt
-comparison_small comparator.Equal = lit< tt
-comparison_small comparator.GreaterEqual = lit< tt
-comparison_small comparator.Greater = lit< tt
-comparison_small comparator.Unequal = lit< tt
 
 condition_small : (c : Comparator) → condition_of (opposite_of c) < 16
 condition_small comparator.Less = lit< tt

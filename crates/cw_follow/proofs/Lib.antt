@@ -3,6 +3,7 @@ pub mod Standing
 pub mod WordLaws
 pub mod Halves
 pub mod Sized
+pub mod Branches
 pub mod Fine
 pub mod Placement
 pub mod Fields
@@ -17,7 +18,6 @@ pub mod Facts
 pub mod Shifts
 pub mod Straight
 pub mod Stacks
-pub mod Branches
 pub mod Orders
 pub mod Operands
 pub mod Called

@@ -32,4 +32,4 @@ module _ (u : SourceUnit) where
   unit-begins = both body-begins (procedures-begin 0 u.procs)
 
   pub code-tells : map (λ (s : ℕ × ℕ). s.1) (orders_code (unit_orders u)).statements ≡ unit_lines u
-  code-tells = lines-told 0 (order_places (unit_orders u).list) (unit_orders u).list ∙ unit-begins.at 0 (first_mark u)
+  code-tells = lines-told 0 (order_places (unit_orders u)) (unit_orders u).list ∙ unit-begins.at 0 (first_mark u)
