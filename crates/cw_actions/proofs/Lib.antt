@@ -2,6 +2,7 @@ pub mod Going
 pub mod Executing
 pub mod Resulting
 pub mod Archiving
+pub mod Coding
 pub mod Telling
 pub mod Tracing
 pub mod Making

@@ -2,4 +2,5 @@ pub mod Going
 pub mod Executing
 pub mod Resulting
 pub mod Archiving
+pub mod Coding
 pub mod Tracing

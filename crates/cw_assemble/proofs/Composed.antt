@@ -4,6 +4,7 @@ use Rattle.cw_i86.specs.declared.instr.Instr.{Instr}
 use Rattle.cw_i86.specs.declared.instr.Instr.TheVariants as i86
 use Rattle.cw_unit.specs.declared.unit.Goal.{Goal}
 use Rattle.cw_unit.specs.declared.layout.Reloc.{Reloc}
+use Rattle.cw_order.specs.declared.order.Comparator.{Comparator}
 use Rattle.cw_order.specs.declared.order.LabelMark.{LabelMark}
 use Rattle.cw_order.specs.declared.order.Order.{Order}
 use Rattle.cw_order.specs.declared.order.Orders.{Orders}
@@ -15,20 +16,36 @@ use Rattle.cw_tmpl.specs.declared.pieces.Target.TheVariants as target
 use Rattle.cw_tmpl.specs.declared.pieces.Coded.{Coded}
 use Rattle.cw_tmpl.specs.declared.pieces.Coded.TheVariants as coded
 use Rattle.cw_run86.specs.Views.{with_number}
-use Rattle.cw_tmpl.specs.Mnemonics.{argument, load, double, move, set_word, subtract, jump_if_below, jump_if_not_less, jump_if_at_most}
+use Rattle.cw_tmpl.specs.Mnemonics.{argument, load, double, exchange, move, set_word, subtract, jump_if_below, jump_if_not_less, jump_if_at_most}
 use Rattle.cw_word.specs.Word.{unsigned}
 use Rattle.cw_tmpl.specs.Library.{switch_entry, bounds_entry}
-use Rattle.cw_tmpl.specs.Names.{Names, no_names, own, switch_size}
+use Rattle.cw_tmpl.specs.Names.{Names, no_names, own, has_landing, landing_bytes, switch_bytes}
+use Rattle.cw_tmpl.specs.Named.{is_named_label, is_named_switch}
 use Rattle.cw_tmpl.specs.Blocks.{block_at, orders_left}
 use Rattle.cw_tmpl.specs.Pieces.{blanks, relocations}
 use Rattle.cw_order.specs.declared.order.Order.TheVariants as order
-use Rattle.cw_tmpl.specs.Templates.{Forms, is_short, template, back_jump, distance, number_compared, goal_words, mark_words, loop_way, switch_pieces, with_both_bounds, block_pieces, block_size, entry_pieces}
-use Rattle.cw_tmpl.specs.ReferenceCode.{templates, landings, switches, places_from, entry_size, landings_place, switches_place, names_of, pieces_of}
-use Rattle.cw_tmpl.proofs.Sizes.{size_to, size_everywhere, size_of_switch, size_of_templates, size_of_landings, landings_at}
+use Rattle.cw_tmpl.specs.Templates.{Forms, is_short, template, back_jump, branch_by, checked_by, pieces_size, distance, number_compared, goal_words, mark_words, loop_way, switch_tested, switch_way, switch_pieces, with_both_bounds, block_pieces, block_size, entry_pieces, argument_load_size}
+use Rattle.cw_tmpl.specs.ReferenceCode.{templates, landings, switches, places_from, entry_size, landings_place, switches_place, names_of, pieces_of, landing_where, switch_where}
+use Rattle.cw_tmpl.proofs.Sizes.{size_to, size_everywhere, size_of_templates, landings_at}
+use Rattle.cw_tmpl.proofs.Ways.{landing_long, routine_long, size_of_switch, size_of_landings}
 use Rattle.cw_tmpl.proofs.Growing.{adds_then, Coming, coming_more}
 
 as_pieces : (old new : Assembly) (ps qs : List Coded) → ps ≡ qs → Adds old ps new → Adds old qs new
 as_pieces old new ps qs e h = subst (λ xs. Adds old xs new) e h
+
+-- a comparison, and the jump behind it
+pub branch_added : (old one new : Assembly) (before : List Coded) (short : Bool) (c : Comparator) (to : ℕ) → Adds old before one
+    → Adds one (branch_by short c (length one.bytes) to) new → Adds old (before ++ branch_by short c (length old.bytes + pieces_size before) to) new
+branch_added old one new before short c to a b =
+    let place : length one.bytes ≡ length old.bytes + pieces_size before = ap length a.bytes ∙ length-append old.bytes (blanks before) in
+    adds_then old one new before (branch_by short c (length old.bytes + pieces_size before) to) a (subst (λ n. Adds one (branch_by short c n to) new) place b)
+
+-- an operation, and the check behind it
+pub check_added : (old one new : Assembly) (before : List Coded) (short : Bool) (line to : ℕ) → Adds old before one
+    → Adds one (checked_by short line (length one.bytes) to) new → Adds old (before ++ checked_by short line (length old.bytes + pieces_size before) to) new
+check_added old one new before short line to a b =
+    let place : length one.bytes ≡ length old.bytes + pieces_size before = ap length a.bytes ∙ length-append old.bytes (blanks before) in
+    adds_then old one new before (checked_by short line (length old.bytes + pieces_size before) to) a (subst (λ n. Adds one (checked_by short line n to) new) place b)
 
 -- the first of the items from a place on
 pub item_first : {A : Type 0} (xs : List A) (k : ℕ) (x : A) → k < length xs → x ≡ get_or xs k x → drop k xs ≡ x ∷ drop (k + 1) xs
@@ -62,10 +79,20 @@ loop_added old one two new n w i1 i2 t names marks a en ew e1 e2 et b d =
     adds_then old one new (number_compared (length marks)) _ (as_pieces old one (number_compared n) (number_compared (length marks)) first a)
     (adds_then one two new _ (mark_words names marks) (as_pieces one two _ _ second b) d)
 
+pub way_added : (old one two new : Assembly) (n line : ℕ) (i1 i2 : Instr) (t : Target) (names : Names) (marks : List ℕ) → Adds old (switch_tested n line) one → n ≡ length marks
+    → i1 ≡ exchange → i2 ≡ double 3 → t ≡ own (length old.bytes + 20) → Adds one (coded.Whole i1 ∷ coded.Whole i2 ∷ coded.Way t ∷ []) two
+    → Adds two (mark_words names marks) new → Adds old (switch_way names line (length old.bytes) marks) new
+way_added old one two new n line i1 i2 t names marks a en e1 e2 et b d =
+    let T = own (length old.bytes + 20) in
+    let first : switch_tested n line ≡ switch_tested (length marks) line = ap (λ x. switch_tested x line) en in
+    let second : coded.Whole i1 ∷ coded.Whole i2 ∷ coded.Way t ∷ [] ≡ coded.Whole exchange ∷ coded.Whole (double 3) ∷ coded.Way T ∷ [] = cc in
+    adds_then old one new (switch_tested (length marks) line) _ (as_pieces old one (switch_tested n line) (switch_tested (length marks) line) first a)
+    (adds_then one two new _ (mark_words names marks) (as_pieces one two _ _ second b) d)
+
 -- ---- one item of a list
 
 pub next_block : (old new : Assembly) (names : Names) (list : List Order) (k left next : ℕ) (short : Bool) (b : Block) (o : Order) (bytes : List ℕ) (relocs : List Reloc) → drop k list ≡ o ∷ drop (k + 1) list
-    → b ≡ block_at left (drop k list) → next ≡ orders_left b → short ≡ is_short names.reach k b o → Adds old (block_pieces names (length old.bytes) short b o) new
+    → b ≡ block_at left (drop k list) → next ≡ orders_left b → short ≡ is_short names.reach k b o → Adds old (block_pieces names (length old.bytes) k short b o) new
     → Coming old (templates names (length old.bytes) k left (drop k list)) bytes relocs → Coming new (templates names (length new.bytes) (k + 1) next (drop (k + 1) list)) bytes relocs
 next_block old new names list k left next short b o bytes relocs e is_block is_next is_form added coming =
     let at = length old.bytes in
@@ -73,9 +100,9 @@ next_block old new names list k left next short b o bytes relocs e is_block is_n
     let c = block_at left (o ∷ rest) in
     let s = is_short names.reach k c o in
     let same : b ≡ c = is_block ∙ ap (block_at left) e in
-    let pieces = block_pieces names at s c o in
-    let added' : Adds old pieces new = subst (λ x. Adds old (block_pieces names at (is_short names.reach k x o) x o) new) same (subst (λ t. Adds old (block_pieces names at t b o) new) is_form added) in
-    let long : at + block_size s c o ≡ length new.bytes = omega (arith, ap length added'.bytes, length-append old.bytes (blanks pieces), size_everywhere names at s c o) in
+    let pieces = block_pieces names at k s c o in
+    let added' : Adds old pieces new = subst (λ x. Adds old (block_pieces names at k (is_short names.reach k x o) x o) new) same (subst (λ t. Adds old (block_pieces names at k t b o) new) is_form added) in
+    let long : at + block_size s c o ≡ length new.bytes = omega (arith, ap length added'.bytes, length-append old.bytes (blanks pieces), size_everywhere names at k s c o) in
     let here : Coming old (pieces ++ templates names (at + block_size s c o) (suc k) (orders_left c) rest) bytes relocs = subst (λ xs. Coming old (templates names at k left xs) bytes relocs) e coming in
     let left_is : orders_left c ≡ next = ap orders_left (sym same) ∙ sym is_next in
     let number : suc k ≡ k + 1 = omega arith in
@@ -96,50 +123,70 @@ next_place forms places at left size next list k b o whole e is_block is_next is
     ∙ ap (λ n. places ++ (at ∷ places_from forms (at + block_size (forms k c o) c o) n (orders_left c) rest)) number
     ∙ ap (λ l. places ++ places_from forms at k left l) (sym e) ∙ h
 
-pub next_switch : (old new : Assembly) (names : Names) (list : List (List Goal)) (k : ℕ) (gs : List Goal) (bytes : List ℕ) (relocs : List Reloc) → drop k list ≡ gs ∷ drop (k + 1) list → Adds old (switch_pieces names (length old.bytes) gs) new
-    → Coming old (switches names (length old.bytes) (drop k list)) bytes relocs → Coming new (switches names (length new.bytes) (drop (k + 1) list)) bytes relocs
-next_switch old new names list k gs bytes relocs e added coming =
+pub next_landing : (old new : Assembly) (names : Names) (named : ℕ → Bool) (list : List LabelMark) (k : ℕ) (m : LabelMark) (has : Bool) (bytes : List ℕ) (relocs : List Reloc) → drop k list ≡ m ∷ drop (k + 1) list → has ≡ has_landing named k m
+    → Adds old (landing_where has names (length old.bytes) m) new → Coming old (landings names named (length old.bytes) k (drop k list)) bytes relocs → Coming new (landings names named (length new.bytes) (k + 1) (drop (k + 1) list)) bytes relocs
+next_landing old new names named list k m has bytes relocs e is added coming =
     let at = length old.bytes in
     let rest = drop (k + 1) list in
-    let size = size_of_switch names at gs in
-    let long : at + switch_size gs ≡ length new.bytes = omega (arith, ap length added.bytes, length-append old.bytes (blanks (switch_pieces names at gs)), size) in
-    let here : Coming old (switch_pieces names at gs ++ switches names (at + switch_size gs) rest) bytes relocs = subst (λ xs. Coming old (switches names at xs) bytes relocs) e coming in
-    subst (λ n. Coming new (switches names n rest) bytes relocs) long (coming_more old new (switch_pieces names at gs) (switches names (at + switch_size gs) rest) bytes relocs added here)
+    let own = has_landing named k m in
+    let next : suc k ≡ k + 1 = omega arith in
+    let added' : Adds old (landing_where own names at m) new = subst (λ b. Adds old (landing_where b names at m) new) is added in
+    let long : at + landing_bytes own ≡ length new.bytes = omega (arith, ap length added'.bytes, length-append old.bytes (blanks (landing_where own names at m)), landing_long own names at m) in
+    let here : Coming old (landing_where own names at m ++ landings names named (at + landing_bytes own) (suc k) rest) bytes relocs = subst (λ xs. Coming old (landings names named at k xs) bytes relocs) e coming in
+    subst (λ n. Coming new (landings names named (length new.bytes) n rest) bytes relocs) next
+    (subst (λ n. Coming new (landings names named n (suc k) rest) bytes relocs) long (coming_more old new (landing_where own names at m) (landings names named (at + landing_bytes own) (suc k) rest) bytes relocs added' here))
+
+pub next_switch : (old new : Assembly) (names : Names) (named : ℕ → Bool) (list : List (List Goal)) (k : ℕ) (gs : List Goal) (has : Bool) (bytes : List ℕ) (relocs : List Reloc) → drop k list ≡ gs ∷ drop (k + 1) list → has ≡ named k
+    → Adds old (switch_where has names (length old.bytes) gs) new → Coming old (switches names named (length old.bytes) k (drop k list)) bytes relocs → Coming new (switches names named (length new.bytes) (k + 1) (drop (k + 1) list)) bytes relocs
+next_switch old new names named list k gs has bytes relocs e is added coming =
+    let at = length old.bytes in
+    let rest = drop (k + 1) list in
+    let own = named k in
+    let next : suc k ≡ k + 1 = omega arith in
+    let added' : Adds old (switch_where own names at gs) new = subst (λ b. Adds old (switch_where b names at gs) new) is added in
+    let long : at + switch_bytes own gs ≡ length new.bytes = omega (arith, ap length added'.bytes, length-append old.bytes (blanks (switch_where own names at gs)), routine_long own names at gs) in
+    let here : Coming old (switch_where own names at gs ++ switches names named (at + switch_bytes own gs) (suc k) rest) bytes relocs = subst (λ xs. Coming old (switches names named at k xs) bytes relocs) e coming in
+    subst (λ n. Coming new (switches names named (length new.bytes) n rest) bytes relocs) next
+    (subst (λ n. Coming new (switches names named n (suc k) rest) bytes relocs) long (coming_more old new (switch_where own names at gs) (switches names named (at + switch_bytes own gs) (suc k) rest) bytes relocs added' here))
 
 -- ---- all parts of a segment's code
 
-whole_added : (a b c d : Assembly) (o : Orders) (names : Names) → names ≡ names_of o → Adds (record { bytes = []; relocs = [] }) entry_pieces a → Adds a (templates names (length a.bytes) 0 0 o.list) b → Adds b (landings names (length b.bytes) o.labels) c
-    → Adds c (switches names (length c.bytes) o.switches) d → (d.bytes ≡ blanks (pieces_of o)) × (d.relocs ≡ relocations 0 (pieces_of o))
+whole_added : (a b c d : Assembly) (o : Orders) (names : Names) → names ≡ names_of o → Adds (record { bytes = []; relocs = [] }) entry_pieces a → Adds a (templates names (length a.bytes) 0 0 o.list) b
+    → Adds b (landings names (is_named_label o) (length b.bytes) 0 o.labels) c
+    → Adds c (switches names (is_named_switch o) (length c.bytes) 0 o.switches) d → (d.bytes ≡ blanks (pieces_of o)) × (d.relocs ≡ relocations 0 (pieces_of o))
 whole_added a b c d o names same ha hb hc hd =
     let start : Assembly = record { bytes = []; relocs = [] } in
     let N = names_of o in
+    let L = is_named_label o in
+    let S = is_named_switch o in
     let size_a : length a.bytes ≡ entry_size = ap length ha.bytes in
     let sizes = ap (λ n. size_to (is_short n.reach) 0 0 o.list (length o.list)) same in
     let size_b : length b.bytes ≡ landings_place o = omega (arith, sizes, ap length hb.bytes, length-append a.bytes (blanks (templates names (length a.bytes) 0 0 o.list)), size_of_templates names (length a.bytes) 0 0 o.list, size_a, landings_at o) in
-    let size_c : length c.bytes ≡ switches_place o = omega (arith, ap length hc.bytes, length-append b.bytes (blanks (landings names (length b.bytes) o.labels)), size_of_landings names (length b.bytes) o.labels, size_b) in
+    let size_c : length c.bytes ≡ switches_place o = omega (arith, ap length hc.bytes, length-append b.bytes (blanks (landings names L (length b.bytes) 0 o.labels)), size_of_landings names L (length b.bytes) 0 o.labels, size_b) in
     let hb' : Adds a (templates N entry_size 0 0 o.list) b = as_pieces a b (templates names (length a.bytes) 0 0 o.list) (templates N entry_size 0 0 o.list) (ap (λ n. templates n (length a.bytes) 0 0 o.list) same ∙ ap (λ n. templates N n 0 0 o.list) size_a) hb in
-    let hc' : Adds b (landings N (landings_place o) o.labels) c = as_pieces b c (landings names (length b.bytes) o.labels) (landings N (landings_place o) o.labels) (ap (λ n. landings n (length b.bytes) o.labels) same ∙ ap (λ n. landings N n o.labels) size_b) hc in
-    let hd' : Adds c (switches N (switches_place o) o.switches) d = as_pieces c d (switches names (length c.bytes) o.switches) (switches N (switches_place o) o.switches) (ap (λ n. switches n (length c.bytes) o.switches) same ∙ ap (λ n. switches N n o.switches) size_c) hd in
-    let all = adds_then start a d entry_pieces _ ha (adds_then a b d (templates N entry_size 0 0 o.list) _ hb' (adds_then b c d (landings N (landings_place o) o.labels) (switches N (switches_place o) o.switches) hc' hd')) in
+    let hc' : Adds b (landings N L (landings_place o) 0 o.labels) c =
+    as_pieces b c (landings names L (length b.bytes) 0 o.labels) (landings N L (landings_place o) 0 o.labels) (ap (λ n. landings n L (length b.bytes) 0 o.labels) same ∙ ap (λ n. landings N L n 0 o.labels) size_b) hc in
+    let hd' : Adds c (switches N S (switches_place o) 0 o.switches) d =
+    as_pieces c d (switches names S (length c.bytes) 0 o.switches) (switches N S (switches_place o) 0 o.switches) (ap (λ n. switches n S (length c.bytes) 0 o.switches) same ∙ ap (λ n. switches N S n 0 o.switches) size_c) hd in
+    let all = adds_then start a d entry_pieces _ ha (adds_then a b d (templates N entry_size 0 0 o.list) _ hb' (adds_then b c d (landings N L (landings_place o) 0 o.labels) (switches N S (switches_place o) 0 o.switches) hc' hd')) in
     (all.bytes, all.relocs)
 
-pub whole_from : (a b c d : Assembly) (bytes : List ℕ) (relocs : List Reloc) (o : Orders) (names : Names) (ls : List Order) (ms : List LabelMark) (ss : List (List Goal)) → bytes ≡ [] → relocs ≡ [] → ls ≡ o.list → ms ≡ o.labels → ss ≡ o.switches → names ≡ names_of o
-    → Adds (record { bytes = bytes; relocs = relocs }) entry_pieces a → Adds a (templates names (length a.bytes) 0 0 ls) b → Adds b (landings names (length b.bytes) ms) c
-    → Adds c (switches names (length c.bytes) ss) d → (d.bytes ≡ blanks (pieces_of o)) × (d.relocs ≡ relocations 0 (pieces_of o))
-whole_from a b c d bytes relocs o names ls ms ss eb er el em es same ha hb hc hd =
+pub whole_from : (a b c d : Assembly) (bytes : List ℕ) (relocs : List Reloc) (o : Orders) (names : Names) (ls : List Order) → bytes ≡ [] → relocs ≡ [] → ls ≡ o.list → names ≡ names_of o
+    → Adds (record { bytes = bytes; relocs = relocs }) entry_pieces a → Adds a (templates names (length a.bytes) 0 0 ls) b → Adds b (landings names (is_named_label o) (length b.bytes) 0 o.labels) c
+    → Adds c (switches names (is_named_switch o) (length c.bytes) 0 o.switches) d → (d.bytes ≡ blanks (pieces_of o)) × (d.relocs ≡ relocations 0 (pieces_of o))
+whole_from a b c d bytes relocs o names ls eb er el same ha hb hc hd =
     whole_added a b c d o names same
     (subst (λ xs. Adds (record { bytes = xs; relocs = [] }) entry_pieces a) eb (subst (λ rs. Adds (record { bytes = bytes; relocs = rs }) entry_pieces a) er ha))
-    (subst (λ xs. Adds a (templates names (length a.bytes) 0 0 xs) b) el hb)
-    (subst (λ xs. Adds b (landings names (length b.bytes) xs) c) em hc)
-    (subst (λ xs. Adds c (switches names (length c.bytes) xs) d) es hd)
+    (subst (λ xs. Adds a (templates names (length a.bytes) 0 0 xs) b) el hb) hc hd
 
 -- ---- a call of a procedure parameter
 
-pub special_added : (old one new : Assembly) (k line : ℕ) (i1 i2 : Instr) (t : Target) → Adds old (coded.Whole i1 ∷ coded.Whole i2 ∷ []) one → i1 ≡ set_word 2 line → i2 ≡ load 0 (argument k) → t ≡ own (length old.bytes + 13)
+pub special_added : (old one new : Assembly) (k line : ℕ) (i1 i2 : Instr) (t : Target) → Adds old (coded.Whole i1 ∷ coded.Whole i2 ∷ []) one → i1 ≡ set_word 2 line → i2 ≡ load 0 (argument k) → t ≡ own (length old.bytes + (argument_load_size k + 9))
     → Adds one (back_jump t) new → Adds old (template no_names (length old.bytes) (order.CallSpecial k line)) new
 special_added old one new k line i1 i2 t a e1 e2 et b =
     let first : coded.Whole i1 ∷ coded.Whole i2 ∷ [] ≡ coded.Whole (set_word 2 line) ∷ coded.Whole (load 0 (argument k)) ∷ [] = cc in
-    adds_then old one new (coded.Whole (set_word 2 line) ∷ coded.Whole (load 0 (argument k)) ∷ []) (back_jump (own (length old.bytes + 13))) (as_pieces old one _ _ first a) (as_pieces one new (back_jump t) (back_jump (own (length old.bytes + 13))) (ap back_jump et) b)
+    adds_then old one new (coded.Whole (set_word 2 line) ∷ coded.Whole (load 0 (argument k)) ∷ []) (back_jump (own (length old.bytes + (argument_load_size k + 9)))) (as_pieces old one _ _ first a)
+    (as_pieces one new (back_jump t) (back_jump (own (length old.bytes + (argument_load_size k + 9)))) (ap back_jump et) b)
 
 -- ---- an index between two bounds
 

@@ -11,7 +11,8 @@ use Rattle.cw_tmpl.specs.declared.pieces.Coded.{Coded}
 use Rattle.cw_tmpl.specs.declared.pieces.Coded.TheVariants as coded
 use Rattle.cw_tmpl.specs.Assembling.{Adds}
 use Rattle.cw_tmpl.specs.Library.{overflow_entry, product_entry, quotient_up_entry, quotient_down_entry}
-use Rattle.cw_tmpl.specs.Templates.{times, product, product_up, product_down, product_start, by_routine, divisor_tested, quotient, listed_size, times_size}
+use Rattle.cw_tmpl.specs.Templates.{times, product, product_up, product_down, product_start, by_routine, divisor_tested, quotient}
+use Rattle.cw_tmpl.specs.Sizes.{listed_size, times_size}
 use Rattle.cw_tmpl.proofs.Growing.{adds_then}
 
 -- a product that is scaled up by at least one place

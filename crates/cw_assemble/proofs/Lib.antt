@@ -1,2 +1,3 @@
 pub mod Factors
 pub mod Composed
+pub mod Flags

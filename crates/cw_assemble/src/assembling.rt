@@ -4,18 +4,20 @@ ghost use Rattle.cw_order.specs.HasCode.{HasCode};
 ghost use Rattle.cw_tmpl.specs.Assembling.{Adds};
 ghost use Rattle.cw_tmpl.specs.Pieces.{blanks, relocations};
 ghost use Rattle.cw_tmpl.specs.Templates.{entry_pieces};
-ghost use Rattle.cw_tmpl.specs.ReferenceCode.{templates, landings, switches, names_of, pieces_of, orders_code};
+ghost use Rattle.cw_tmpl.specs.ReferenceCode.{templates, landings, switches, names_of, reach_of, order_places, pieces_of, orders_code};
+ghost use Rattle.cw_tmpl.specs.Named.{is_named_label, is_named_switch};
+ghost use Rattle.cw_assemble.specs.Flags.{AreFlags};
 
 use crate::blocks::put_block;
 use crate::jumping::{put_landing, put_switch};
+use crate::named::{named_labels, named_switches};
 use crate::places::{
-    label_places, longest_places, mark_places, order_places, place_at, procedure_places,
-    statement_places, switch_places, switches_place,
+    calls, has_landing, label_places, landing_places, longest_places, mark_places, order_places,
+    place_at, procedure_places, statement_places, switch_places, switches_place,
 };
-use cw_order::{LabelMark, Order, Orders};
+use cw_order::{Order, Orders};
 use cw_tmpl::library::START;
 use cw_tmpl::{Assembly, Code, Coded, Limit, Names, Reach, Target, block_in, orders_left};
-use cw_unit::unit::Goal;
 use cw_word::{List, NoMemory};
 use std::alloc::Global;
 
@@ -42,35 +44,58 @@ fn put_orders(code: &mut Assembly, list: &[Order], names: &Names) -> Result<(), 
         let order = &list[k];
         let block = block_in(left, list, k);
         let short = names.reach.is_short(k, block, order);
-        put_block(code, short, block, order, names)?;
+        put_block(code, short, block, order, k, names)?;
         left = orders_left(block);
     }
     Ok(())
 }
 
-/// Adds the landings of labels.
-fn put_landings(code: &mut Assembly, labels: &[LabelMark], names: &Names) -> Result<(), NoMemory>
-    ensures { OnOk result (Adds code.old (landings names.now (length code.old.bytes) labels.now) code.new) }
+/// Adds the landings of the labels that have one.
+fn put_landings(
+    code: &mut Assembly,
+    orders: &Orders,
+    named: &[bool],
+    names: &Names,
+) -> Result<(), NoMemory>
+    requires { AreFlags named.now (length orders.now.labels) (is_named_label orders.now) }
+    ensures { OnOk result (Adds code.old (landings names.now (is_named_label orders.now) (length code.old.bytes) 0 orders.now.labels) code.new) }
 {
-    for label in labels {
-        put_landing(code, label, names)?;
+    let labels = orders.labels.as_slice();
+    for number in 0..labels.len() {
+        let has = has_landing(named[number], labels[number]);
+        put_landing(code, has, &labels[number], names)?;
     }
     Ok(())
 }
 
-/// Adds the routines of switches.
-fn put_switches(code: &mut Assembly, list: &[List<Goal>], names: &Names) -> Result<(), NoMemory>
-    ensures { OnOk result (Adds code.old (switches names.now (length code.old.bytes) list.now) code.new) }
+/// Adds the routines of the switches that something names.
+fn put_switches(
+    code: &mut Assembly,
+    orders: &Orders,
+    named: &[bool],
+    names: &Names,
+) -> Result<(), NoMemory>
+    requires { AreFlags named.now (length orders.now.switches) (is_named_switch orders.now) }
+    ensures { OnOk result (Adds code.old (switches names.now (is_named_switch orders.now) (length code.old.bytes) 0 orders.now.switches) code.new) }
 {
-    for goals in list {
-        put_switch(code, goals.as_slice(), names)?;
+    let switches = orders.switches.as_slice();
+    for number in 0..switches.len() {
+        put_switch(code, named[number], &switches[number], names)?;
     }
     Ok(())
 }
 
 /// The bytes and the relocations of the orders' code.
-fn code_of(alloc: Global, orders: &Orders, names: &Names) -> Result<Assembly, NoMemory>
+fn code_of(
+    alloc: Global,
+    orders: &Orders,
+    labels: &[bool],
+    switches: &[bool],
+    names: &Names,
+) -> Result<Assembly, NoMemory>
     requires codes { All HasCode orders.now.list }
+    requires labels { AreFlags labels.now (length orders.now.labels) (is_named_label orders.now) }
+    requires switches { AreFlags switches.now (length orders.now.switches) (is_named_switch orders.now) }
     requires names { names.now ≡ names_of orders.now }
     ensures bytes { IfOk result (λ code. code.bytes ≡ blanks (pieces_of orders.now)) }
     ensures relocs { IfOk result (λ code. code.relocs ≡ relocations 0 (pieces_of orders.now)) }
@@ -81,9 +106,39 @@ fn code_of(alloc: Global, orders: &Orders, names: &Names) -> Result<Assembly, No
     };
     put_entry(&mut code)?;
     put_orders(&mut code, orders.list.as_slice(), names)?;
-    put_landings(&mut code, orders.labels.as_slice(), names)?;
-    put_switches(&mut code, orders.switches.as_slice(), names)?;
+    put_landings(&mut code, orders, labels, names)?;
+    put_switches(&mut code, orders, switches, names)?;
     Ok(code)
+}
+
+/// Where the orders' code stands, and what tells the forms of its blocks: its places where it is longest, and the CALLs that checks jump back to.
+#[derive(Drop)]
+struct Laid {
+    longest: List<u32>,
+    calls: List<u32>,
+    places: List<u32>,
+}
+
+/// Lays out the orders' code.
+fn lay(alloc: Global, orders: &Orders) -> Result<Laid, NoMemory>
+    requires { All HasCode orders.now.list }
+    ensures longest { IfOk result (λ laid. laid.longest ≡ (reach_of orders.now).longest) }
+    ensures calls { IfOk result (λ laid. laid.calls ≡ (reach_of orders.now).calls) }
+    ensures places { IfOk result (λ laid. laid.places ≡ order_places orders.now) }
+{
+    let longest = longest_places(alloc, orders.list.as_slice())?;
+    let calls = calls(alloc, orders.list.as_slice(), longest.as_slice())?;
+    let reach = Reach {
+        marks: orders.marks.as_slice(),
+        longest: longest.as_slice(),
+        calls: calls.as_slice(),
+    };
+    let places = order_places(alloc, orders.list.as_slice(), &reach)?;
+    Ok(Laid {
+        longest,
+        calls,
+        places,
+    })
 }
 
 /// The code of the orders. NoMemory comes for want of memory, where the code would pass 2^32 - 1 bytes, and where a table
@@ -92,24 +147,37 @@ pub fn assemble(alloc: Global, orders: &Orders) -> Result<Code, NoMemory>
     requires { All HasCode orders.now.list }
     ensures { IfOk result (λ code. code ≡ orders_code orders.now) }
 {
-    let longest = longest_places(alloc, orders.list.as_slice())?;
+    let Laid {
+        longest,
+        calls,
+        places,
+    } = lay(alloc, orders)?;
     let reach = Reach {
         marks: orders.marks.as_slice(),
         longest: longest.as_slice(),
+        calls: calls.as_slice(),
     };
-    let places = order_places(alloc, orders.list.as_slice(), &reach)?;
-    let landings = place_at(places.as_slice(), orders.list.as_slice().len());
-    let first = switches_place(landings, orders.labels.as_slice().len())?;
-    let switches = switch_places(alloc, first, orders.switches.as_slice())?;
+    let named_switches = named_switches(alloc, orders)?;
+    let named_labels = named_labels(alloc, orders, named_switches.as_slice())?;
+    let first = place_at(places.as_slice(), orders.list.as_slice().len());
+    let landings = landing_places(alloc, first, orders, named_labels.as_slice())?;
+    let behind = switches_place(first, orders, named_labels.as_slice())?;
+    let switches = switch_places(alloc, behind, orders, named_switches.as_slice())?;
     let names = Names {
         places: places.as_slice(),
         reach,
         labels: orders.labels.as_slice(),
         procedures: orders.procedures.as_slice(),
-        landings,
+        landings: landings.as_slice(),
         switches: switches.as_slice(),
     };
-    let code = code_of(alloc, orders, &names)?;
+    let code = code_of(
+        alloc,
+        orders,
+        named_labels.as_slice(),
+        named_switches.as_slice(),
+        &names,
+    )?;
     let starts = mark_places(alloc, places.as_slice(), orders.marks.as_slice())?;
     let labels = label_places(alloc, orders.labels.as_slice(), &names)?;
     let procedures = procedure_places(alloc, orders.procedures.as_slice(), &names)?;

@@ -10,20 +10,21 @@ ghost use Rattle.cw_tmpl.specs.declared.pieces.Target.TheVariants as target;
 ghost use Rattle.cw_tmpl.specs.declared.pieces.Coded.TheVariants as coded;
 ghost use Rattle.cw_tmpl.specs.declared.blocks.Block.TheVariants as block;
 ghost use Rattle.cw_tmpl.specs.declared.blocks.Simple.TheVariants as simple;
-ghost use Rattle.cw_tmpl.specs.Templates.{address_pieces, load_place, store_place, operate_place, change_place, index_added, index_loaded, from_lower, indexes_between, index_below, address_tested, index_tested, element_address, operation, with_operand, product_with, pieces_size, checked, branch_by, template_by, operated, top_from_lower, times_entry, formed, bounded_address, block_pieces};
+ghost use Rattle.cw_tmpl.specs.Templates.{address_pieces, load_place, store_place, operate_place, change_place, index_added, index_loaded, from_lower, indexes_between, index_below, address_tested, index_tested, element_address, operation, with_operand, product_with, pieces_size, checked_by, branch_by, template_by, operated, word_compared, top_from_lower, times_entry, formed, bounded_address, block_pieces};
 
-use crate::arithmetic::put_checked;
 use crate::calling::frame_field;
+use crate::checks::{put_check, put_count};
 use crate::indexes::{indexes_to, put_top_below};
 use crate::jumping::{condition, distance, opposite, short_distance};
 use crate::orders::{put_order, put_short_order};
 use crate::parts::{put_part_taken, put_shifted_down_signed, put_shifted_up};
+use crate::rows::put_row;
 use crate::words::mask;
 use cw_i86::Instr;
 use cw_order::{Comparator, Order, Place};
 use cw_tmpl::instructions::{
-    AT_SI, AX, BASE, BX, CX, DI, SI, change, compare, copy, decrease, divide_signed, double,
-    increase, jump_if_below, load, multiply, operate, operate_number, set_word, store, with_number,
+    AT_SI, AX, BASE, BX, CX, DI, SI, change, compare, compare_number, copy, divide_signed, double,
+    jump_if_below, load, multiply, operate, operate_number, set_word, store, with_number,
 };
 use cw_tmpl::library::{ADDRESS, BOUNDS};
 use cw_tmpl::{
@@ -135,7 +136,7 @@ fn put_address_tested(code: &mut Assembly, element: Element, zero: u16) -> Resul
 }
 
 /// Adds SI from a place.
-fn put_index_loaded(code: &mut Assembly, index: Place) -> Result<(), NoMemory>
+pub(crate) fn put_index_loaded(code: &mut Assembly, index: Place) -> Result<(), NoMemory>
     ensures { OnOk result (Adds code.old (index_loaded index) code.new) }
 {
     match index {
@@ -151,7 +152,7 @@ fn put_index_loaded(code: &mut Assembly, index: Place) -> Result<(), NoMemory>
 }
 
 /// Adds SI less a lower bound.
-fn put_from_lower(code: &mut Assembly, lower: i16) -> Result<(), NoMemory>
+pub(crate) fn put_from_lower(code: &mut Assembly, lower: i16) -> Result<(), NoMemory>
     ensures { OnOk result (Adds code.old (from_lower lower) code.new) }
 {
     if lower == 0 {
@@ -162,7 +163,7 @@ fn put_from_lower(code: &mut Assembly, lower: i16) -> Result<(), NoMemory>
 }
 
 /// How many indexes are between the bounds of an element.
-fn indexes_between(lower: i16, upper: i16, span: u16) -> u16
+pub(crate) fn indexes_between(lower: i16, upper: i16, span: u16) -> u16
     requires { is_within (upper -ℤ lower) span ≡ true }
     ensures { result ≡ indexes_between (upper -ℤ lower) }
 {
@@ -240,7 +241,7 @@ fn put_fetch_part(
     signed: bool,
 ) -> Result<(), NoMemory>
     requires { t + b ≤ 16 }
-    ensures { OnOk result (Adds code.old (block_pieces no_names 0 false (block.FetchPart place t b signed) order.Save) code.new) }
+    ensures { OnOk result (Adds code.old (block_pieces no_names 0 0 false (block.FetchPart place t b signed) order.Save) code.new) }
 {
     put_address(code, place)?;
     code.put_all(&[load_place(place)])?;
@@ -250,7 +251,7 @@ fn put_fetch_part(
 fn put_assign_part(code: &mut Assembly, place: Place, t: u8, b: u8) -> Result<(), NoMemory>
     requires some { 1 ≤ t }
     requires within { t + b ≤ 16 }
-    ensures { OnOk result (Adds code.old (block_pieces no_names 0 false (block.AssignPart place t b) order.Save) code.new) }
+    ensures { OnOk result (Adds code.old (block_pieces no_names 0 0 false (block.AssignPart place t b) order.Save) code.new) }
 {
     put_shifted_up(code, b)?;
     put_address(code, place)?;
@@ -259,14 +260,6 @@ fn put_assign_part(code: &mut Assembly, place: Place, t: u8, b: u8) -> Result<()
         Coded::Whole(with_number(4, mask(t, b))),
         change_place(6, place),
     ])
-}
-
-/// Adds one more, or less, in AX.
-fn put_count(code: &mut Assembly, down: bool, line: u16) -> Result<(), NoMemory>
-    ensures { OnOk result (Adds code.old (block_pieces no_names 0 false (block.Count down line) order.Save) code.new) }
-{
-    code.put_all(&[Coded::Whole(if down { decrease(AX) } else { increase(AX) })])?;
-    put_checked(code, line)
 }
 
 fn put_fetch(code: &mut Assembly, place: Place) -> Result<(), NoMemory>
@@ -338,21 +331,36 @@ fn put_product_with(code: &mut Assembly, operand: Simple) -> Result<(), NoMemory
     }
 }
 
-fn put_sum(code: &mut Assembly, number: u8, operand: Simple, line: u16) -> Result<(), NoMemory>
+/// Adds a sum or a difference, and its check.
+fn put_sum(
+    code: &mut Assembly,
+    short: bool,
+    number: u8,
+    operand: Simple,
+    line: u16,
+    to: u64,
+) -> Result<(), NoMemory>
     requires number { number < 8 }
     requires within { OperandWithin operand }
-    ensures { OnOk result (Adds code.old (with_operand number operand ++ checked line) code.new) }
+    ensures { OnOk result (Adds code.old (with_operand number operand ++ checked_by short line (length code.old.bytes + pieces_size (with_operand number operand)) to) code.new) }
 {
     put_with_operand(code, number, operand)?;
-    put_checked(code, line)
+    put_check(code, short, line, to)
 }
 
-fn put_product(code: &mut Assembly, operand: Simple, line: u16) -> Result<(), NoMemory>
+/// Adds a product, and its check.
+fn put_product(
+    code: &mut Assembly,
+    short: bool,
+    operand: Simple,
+    line: u16,
+    to: u64,
+) -> Result<(), NoMemory>
     requires { OperandWithin operand }
-    ensures { OnOk result (Adds code.old (product_with operand ++ checked line) code.new) }
+    ensures { OnOk result (Adds code.old (product_with operand ++ checked_by short line (length code.old.bytes + pieces_size (product_with operand)) to) code.new) }
 {
     put_product_with(code, operand)?;
-    put_checked(code, line)
+    put_check(code, short, line, to)
 }
 
 /// Adds a jump behind a comparison, where that holds.
@@ -396,21 +404,23 @@ fn put_comparison(
     put_branch(code, short, comparator, to)
 }
 
-/// Adds the code of a simple operand and an order that uses it, whose jump may be short.
+/// Adds the code of a simple operand and an order that uses it, whose jump may be short, or whose check may jump back.
 fn put_operated(
     code: &mut Assembly,
     short: bool,
     operand: Simple,
     with: Use,
+    number: usize,
     names: &Names,
 ) -> Result<(), NoMemory>
     requires { OperandWithin operand }
-    ensures { OnOk result (Adds code.old (operated names.now (length code.old.bytes) short operand with) code.new) }
+    ensures { OnOk result (Adds code.old (operated names.now (length code.old.bytes) number short operand with) code.new) }
 {
+    let call = u64::from(names.call(number));
     match with {
-        Use::Add(line) => put_sum(code, 0, operand, line),
-        Use::Subtract(line) => put_sum(code, 5, operand, line),
-        Use::Multiply(line) => put_product(code, operand, line),
+        Use::Add(line) => put_sum(code, short, 0, operand, line, call),
+        Use::Subtract(line) => put_sum(code, short, 5, operand, line, call),
+        Use::Multiply(line) => put_product(code, short, operand, line, call),
         Use::Mask => put_with_operand(code, 4, operand),
         Use::Union => put_with_operand(code, 1, operand),
         Use::Differ => put_with_operand(code, 6, operand),
@@ -426,8 +436,45 @@ fn put_operated(
     }
 }
 
+/// Adds a word of the frame compared with a number.
+fn put_word_compared(code: &mut Assembly, offset: u16, with: u16) -> Result<(), NoMemory>
+    ensures { OnOk result (Adds code.old (word_compared offset with) code.new) }
+{
+    code.put_all(&[
+        Coded::Whole(load(BX, BASE)),
+        Coded::Whole(compare_number(frame_field(offset), with)),
+    ])
+}
+
+/// Adds what fetches two words of the frame, the first one first.
+fn put_both(code: &mut Assembly, first: u16, second: u16) -> Result<(), NoMemory>
+    ensures { OnOk result (Adds code.old (block_pieces no_names 0 0 false (block.FetchBoth first second) order.Save) code.new) }
+{
+    code.put_all(&[
+        Coded::Whole(load(BX, BASE)),
+        Coded::Whole(load(AX, frame_field(first))),
+        Coded::Whole(Instr::Push(AX)),
+        Coded::Whole(load(AX, frame_field(second))),
+    ])
+}
+
+/// Adds a jump where a comparison of a word of the frame with a number holds.
+fn put_compare_word(
+    code: &mut Assembly,
+    short: bool,
+    offset: u16,
+    with: u16,
+    comparator: Comparator,
+    to: u64,
+) -> Result<(), NoMemory>
+    ensures { OnOk result (Adds code.old (word_compared offset with ++ branch_by short comparator (length code.old.bytes + pieces_size (word_compared offset with)) to) code.new) }
+{
+    put_word_compared(code, offset, with)?;
+    put_branch(code, short, comparator, to)
+}
+
 /// Adds AX less a lower bound.
-fn put_top_from_lower(code: &mut Assembly, lower: i16) -> Result<(), NoMemory>
+pub(crate) fn put_top_from_lower(code: &mut Assembly, lower: i16) -> Result<(), NoMemory>
     ensures { OnOk result (Adds code.old (top_from_lower lower) code.new) }
 {
     if lower == 0 {
@@ -452,7 +499,7 @@ fn put_times_entry(code: &mut Assembly, width: u16) -> Result<(), NoMemory>
 }
 
 /// Adds the address of a word of the entry whose number is in AX.
-fn put_entry_formed(
+pub(crate) fn put_entry_formed(
     code: &mut Assembly,
     family: u16,
     first: u16,
@@ -525,7 +572,7 @@ fn put_bounded(code: &mut Assembly, bounded: Bounded) -> Result<(), NoMemory>
 
 /// Adds the code of a quotient by a number in the processor's own division.
 fn put_divided_by(code: &mut Assembly, number: u16) -> Result<(), NoMemory>
-    ensures { OnOk result (Adds code.old (block_pieces no_names 0 false (block.Divide number 0) order.Save) code.new) }
+    ensures { OnOk result (Adds code.old (block_pieces no_names 0 0 false (block.Divide number 0) order.Save) code.new) }
 {
     code.put_all(&[
         Coded::Whole(set_word(BX, number)),
@@ -534,43 +581,47 @@ fn put_divided_by(code: &mut Assembly, number: u16) -> Result<(), NoMemory>
     ])
 }
 
-/// Adds the code of an order alone, whose jump may be short.
+/// Adds the code of an order alone, whose jump may be short, or whose check may jump back.
 fn put_single(
     code: &mut Assembly,
     short: bool,
     order: &Order,
+    number: usize,
     names: &Names,
 ) -> Result<(), NoMemory>
     requires { HasCode order.now }
-    ensures { OnOk result (Adds code.old (template_by short names.now (length code.old.bytes) order.now) code.new) }
+    ensures { OnOk result (Adds code.old (template_by short names.now (length code.old.bytes) number order.now) code.new) }
 {
     if short {
-        put_short_order(code, order, names)
+        put_short_order(code, order, number, names)
     } else {
         put_order(code, order, names)
     }
 }
 
-/// Adds the code of a block that begins with an order, and whose jump may be short.
+/// Adds the code of a block that begins with an order of this number, and whose jump may be short, or whose check may jump back.
 pub(crate) fn put_block(
     code: &mut Assembly,
     short: bool,
     block: Block,
     order: &Order,
+    number: usize,
     names: &Names,
 ) -> Result<(), NoMemory>
     requires code { HasCode order.now }
     requires parts { NamesParts block }
-    ensures { OnOk result (Adds code.old (block_pieces names.now (length code.old.bytes) short block order.now) code.new) }
+    ensures { OnOk result (Adds code.old (block_pieces names.now (length code.old.bytes) number short block order.now) code.new) }
 {
     match block {
         Block::Within(_) => code.put_all(&[]),
-        Block::Single => put_single(code, short, order, names),
+        Block::Single => put_single(code, short, order, number, names),
         Block::Fetch(place) => put_fetch(code, place),
         Block::Assign(place) => put_assign(code, place),
         Block::Write => code.put_all(&[Coded::Whole(Instr::Out(0x12))]),
         Block::Divide { by, .. } => put_divided_by(code, by),
-        Block::Operate { operand, with } => put_operated(code, short, operand, with, names),
+        Block::Operate { operand, with } => {
+            put_operated(code, short, operand, with, number, names)
+        }
         Block::FetchPart {
             place,
             t,
@@ -584,8 +635,25 @@ pub(crate) fn put_block(
         Block::AssignElement(element) => {
             put_at_element(code, element, Coded::Whole(store(AT_SI, AX)))
         }
-        Block::Count { down, line } => put_count(code, down, line),
+        Block::Count { down, line } => {
+            put_count(code, short, down, line, u64::from(names.call(number)))
+        }
         Block::Halve { places, .. } => put_shifted_down_signed(code, places),
         Block::Bounded(bounded) => put_bounded(code, bounded),
+        Block::Row(row) => put_row(code, row),
+        Block::FetchBoth { first, second } => put_both(code, first, second),
+        Block::CompareWord {
+            offset,
+            with,
+            comparator,
+            mark,
+        } => put_compare_word(
+            code,
+            short,
+            offset,
+            with,
+            comparator,
+            u64::from(names.mark(mark)),
+        ),
     }
 }

@@ -2,18 +2,21 @@
 ghost use Rattle.std.specs.Prelude.{◌≡◌, ◌*◌, ◌%◌, ◌<◌, length, OnOk};
 ghost use Rattle.cw_order.specs.declared.order.Order.TheVariants as order;
 ghost use Rattle.cw_tmpl.specs.Assembling.{Adds};
+ghost use Rattle.cw_i86.specs.Encoding.{IsRm};
 ghost use Rattle.cw_tmpl.specs.Mnemonics.{field};
 ghost use Rattle.cw_tmpl.specs.Names.{no_names};
-ghost use Rattle.cw_tmpl.specs.Templates.{template, call_near, back_jump, control_out, return_with};
+ghost use Rattle.cw_tmpl.specs.Templates.{template, call_near, back_jump, frame_entered, control_out, return_with};
 
 use crate::jumping::distance;
+use crate::sizes::call_special_size;
 use cw_i86::{Instr, Rm};
 use cw_tmpl::instructions::{
-    AX, BASE, BP, BX, CX, DX, SP, argument, copy, field, jump_to, load, set_word, shift_down_once,
-    store, with_number,
+    AX, BASE, BP, BX, CALLS, CX, DI, DX, REST, SP, argument, copy, decrease, double, field,
+    jump_if_cx_zero, jump_if_not_below, jump_to, load, set_word, shift_down_once, store, subtract,
+    with_number,
 };
-use cw_tmpl::library::{ENTER, READ};
-use cw_tmpl::{Assembly, Coded, Limit, Target, own};
+use cw_tmpl::library::{ENTER, ENTER_STOP, READ};
+use cw_tmpl::{Assembly, Coded, Limit, SEGMENT_WORD, Target, own};
 use cw_word::NoMemory;
 
 /// Adds a call of a procedure of this segment.
@@ -45,7 +48,7 @@ pub(crate) fn put_call_common(
 pub(crate) fn put_call_special(code: &mut Assembly, line: u16, words: u8) -> Result<(), NoMemory>
     ensures { OnOk result (Adds code.old (template no_names (length code.old.bytes) (order.CallSpecial words line)) code.new) }
 {
-    let behind = own(code.bytes.as_slice().len() as u64 + 13);
+    let behind = own(code.bytes.as_slice().len() as u64 + u64::from(call_special_size(words)));
     code.put_all(&[
         Coded::Whole(set_word(DX, line)),
         Coded::Whole(load(AX, argument(u16::from(words)))),
@@ -71,10 +74,38 @@ fn put_back_jump(code: &mut Assembly, behind: Target) -> Result<(), NoMemory>
 pub(crate) fn put_enter(code: &mut Assembly, size: u16) -> Result<(), NoMemory>
     ensures { OnOk result (Adds code.old (template no_names 0 (order.Enter size)) code.new) }
 {
+    if size == 0 {
+        code.put_all(&[
+            Coded::Call(Target::LibraryAhead(ENTER)),
+            Coded::Data(0),
+            Coded::Word(Target::Limit(Limit::Segment)),
+        ])
+    } else {
+        put_frame_entered(code, size)
+    }
+}
+
+/// Adds the beginning of an activation with a frame of so many words.
+fn put_frame_entered(code: &mut Assembly, size: u16) -> Result<(), NoMemory>
+    ensures { OnOk result (Adds code.old (frame_entered size) code.new) }
+{
     code.put_all(&[
-        Coded::Call(Target::LibraryAhead(ENTER)),
-        Coded::Data(size),
-        Coded::Word(Target::Limit(Limit::Segment)),
+        Coded::Whole(load(CX, CALLS)),
+        Coded::Whole(jump_if_cx_zero(14)),
+        Coded::Whole(load(AX, REST)),
+        Coded::Whole(copy(BX, DI)),
+        Coded::Whole(subtract(BX, AX)),
+        Coded::Whole(double(BX)),
+        Coded::Whole(with_number(5, size)),
+        Coded::Whole(jump_if_not_below(3)),
+        Coded::Jump(Target::LibraryAhead(ENTER_STOP)),
+        Coded::Whole(decrease(CX)),
+        Coded::Whole(Instr::Push(BP)),
+        Coded::Whole(copy(BP, SP)),
+        Coded::PushCode(own(SEGMENT_WORD)),
+        Coded::Whole(Instr::Push(CX)),
+        Coded::Whole(Instr::Push(BX)),
+        Coded::Whole(Instr::Push(AX)),
     ])
 }
 
@@ -102,7 +133,8 @@ pub(crate) fn bytes_of_words(words: u16) -> u16
 
 /// A word of the frame, where BX has the bytes of its base.
 pub(crate) fn frame_field(offset: u16) -> Rm
-    ensures { result ≡ field (2 * offset % 65536) }
+    ensures value { result ≡ field (2 * offset % 65536) }
+    ensures operand { IsRm result }
 {
     field(bytes_of_words(offset))
 }

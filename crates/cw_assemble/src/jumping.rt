@@ -4,18 +4,20 @@ ghost use Rattle.cw_run86.specs.Views.{condition_of};
 ghost use Rattle.cw_order.specs.declared.order.Order.TheVariants as order;
 ghost use Rattle.cw_tmpl.specs.Assembling.{Adds};
 ghost use Rattle.cw_tmpl.specs.Names.{no_names};
-ghost use Rattle.cw_tmpl.specs.Templates.{template, past_limit, number_compared, mark_words, goal_words, loop_way, switch_pieces, landing_pieces, base_jump, switch_near, jump_where, short_where, jump_near, jump_short, distance, short_distance, comparison_of, opposite_of};
+ghost use Rattle.cw_tmpl.specs.Templates.{template, past_limit, number_compared, mark_words, goal_words, loop_way, switch_tested, switch_way, switch_pieces, base_jump, switch_near, jump_where, short_where, jump_near, jump_short, distance, short_distance, comparison_of, opposite_of};
+ghost use Rattle.cw_tmpl.specs.ReferenceCode.{landing_where, switch_where};
 
 use cw_i86::Instr;
 use cw_order::{Comparator, LabelMark};
 use cw_tmpl::instructions::{
     AX, BASE_OPERANDS, BASE_RECORD, BP, BX, DX, RECORD_DEPTH, SEGMENT, SI, SP, argument, compare,
-    copy, double, jump_if_below, jump_to, load, set_word, store, subtract, with_number,
+    copy, decrease, double, exchange, jump_if_below, jump_to, load, set_word, store, subtract,
+    with_number,
 };
 use cw_tmpl::library::{EXHAUSTED, SWITCH};
 use cw_tmpl::{Assembly, Coded, Limit, Names, Target, own};
 use cw_unit::unit::Goal;
-use cw_word::NoMemory;
+use cw_word::{List, NoMemory};
 
 /// How far it is from the end of an instruction to a place of the same code, modulo 65,536.
 pub(crate) fn distance(from: usize, to: u64) -> u16
@@ -203,15 +205,20 @@ pub(crate) fn put_go_switch_special(
     ])
 }
 
-/// Adds the landing of a label.
+/// Adds the landing of a label, where it has one.
 pub(crate) fn put_landing(
     code: &mut Assembly,
+    has: bool,
     label: &LabelMark,
     names: &Names,
 ) -> Result<(), NoMemory>
-    ensures { OnOk result (Adds code.old (landing_pieces names.now (length code.old.bytes) label.now) code.new) }
+    ensures { OnOk result (Adds code.old (landing_where has names.now (length code.old.bytes) label.now) code.new) }
 {
-    put_base_jump(code, u64::from(names.mark(label.mark)))
+    if has {
+        put_base_jump(code, u64::from(names.mark(label.mark)))
+    } else {
+        Ok(())
+    }
 }
 
 /// Adds the comparison of a number in AX, counted from 1, which BX then has counted from 0.
@@ -241,15 +248,30 @@ fn put_goal_words(code: &mut Assembly, goals: &[Goal], names: &Names) -> Result<
 {
     for goal in goals {
         match *goal {
-            Goal::Own(label) => code.put(&Coded::Word(own(names.label(label))))?,
+            Goal::Own(label) => code.put(&Coded::Word(own(u64::from(names.label(label)))))?,
             Goal::Common(descriptor) => code.put(&Coded::Word(Target::Definition(descriptor)))?,
         }
     }
     Ok(())
 }
 
-/// Adds the routine of a switch.
-pub(crate) fn put_switch(code: &mut Assembly, goals: &[Goal], names: &Names) -> Result<(), NoMemory>
+/// Adds the routine of a switch, where it has one.
+pub(crate) fn put_switch(
+    code: &mut Assembly,
+    has: bool,
+    goals: &List<Goal>,
+    names: &Names,
+) -> Result<(), NoMemory>
+    ensures { OnOk result (Adds code.old (switch_where has names.now (length code.old.bytes) goals.now) code.new) }
+{
+    if has {
+        put_routine(code, goals.as_slice(), names)
+    } else {
+        Ok(())
+    }
+}
+
+fn put_routine(code: &mut Assembly, goals: &[Goal], names: &Names) -> Result<(), NoMemory>
     ensures { OnOk result (Adds code.old (switch_pieces names.now (length code.old.bytes) goals.now) code.new) }
 {
     let place = code.bytes.as_slice().len() as u64;
@@ -288,6 +310,41 @@ pub(crate) fn put_loop_way(
     code.put_all(&[
         Coded::Whole(jump_if_below(3)),
         Coded::Whole(Instr::Jump(distance(end, past))),
+        Coded::Whole(double(BX)),
+        Coded::Way(own(place + 20)),
+    ])?;
+    put_mark_words(code, marks, names)
+}
+
+/// Adds the test of the index of a switch with so many labels, counted from 1, which AX then has counted from 0.
+fn put_switch_tested(code: &mut Assembly, labels: u16, line: u16) -> Result<(), NoMemory>
+    ensures { OnOk result (Adds code.old (switch_tested labels line) code.new) }
+{
+    code.put_all(&[
+        Coded::Whole(decrease(AX)),
+        Coded::Whole(with_number(7, labels)),
+        Coded::Whole(jump_if_below(6)),
+        Coded::Whole(set_word(DX, line)),
+        Coded::Call(Target::LibraryAhead(SWITCH)),
+    ])
+}
+
+/// Adds the way of a switch whose labels stand in the body at work.
+pub(crate) fn put_switch_way(
+    code: &mut Assembly,
+    line: u16,
+    marks: &[u32],
+    names: &Names,
+) -> Result<(), NoMemory>
+    ensures { OnOk result (Adds code.old (switch_way names.now line (length code.old.bytes) marks.now) code.new) }
+{
+    let place = code.bytes.as_slice().len() as u64;
+    match u16::try_from(marks.len()) {
+        Ok(labels) => put_switch_tested(code, labels, line)?,
+        Err(_) => return Err(NoMemory),
+    }
+    code.put_all(&[
+        Coded::Whole(exchange()),
         Coded::Whole(double(BX)),
         Coded::Way(own(place + 20)),
     ])?;

@@ -5,12 +5,15 @@ mod arithmetic;
 mod assembling;
 mod blocks;
 mod calling;
+mod checks;
 mod indexes;
 mod jumping;
 mod loops;
+mod named;
 mod orders;
 mod parts;
 mod places;
+mod rows;
 mod sizes;
 mod words;
 

@@ -13,12 +13,13 @@ use crate::calling::{
     put_bind, put_bind_frame, put_call, put_call_common, put_call_special, put_control, put_enter,
     put_frame_home, put_read_byte, put_return, put_special_out,
 };
+use crate::checks::{put_add_back, put_mul_back, put_neg_back, put_sub_back};
 use crate::indexes::{
     put_call_at_line, put_element, put_element_of_two, put_entry, put_in_area, put_in_bounds,
 };
 use crate::jumping::{
     put_base_jump, put_go_special, put_go_switch, put_go_switch_common, put_go_switch_special,
-    put_jump, put_jump_if, put_past_limit, put_short_jump, put_short_jump_if,
+    put_jump, put_jump_if, put_past_limit, put_short_jump, put_short_jump_if, put_switch_way,
 };
 use crate::loops::{put_loop_ways, put_next_step, put_short_way};
 use crate::parts::{put_load_part, put_store_part, put_take};
@@ -173,7 +174,8 @@ pub(crate) fn put_order(code: &mut Assembly, order: &Order, names: &Names) -> Re
             put_next_step(code, *looped, *line, u64::from(names.mark(*mark)))
         }
         Order::LoopWay(marks) => put_loop_ways(code, marks.as_slice(), names),
-        Order::LabelOut(label) => put_control(code, own(names.label(*label))),
+        Order::SwitchWay { marks, line } => put_switch_way(code, *line, marks.as_slice(), names),
+        Order::LabelOut(label) => put_control(code, own(u64::from(names.label(*label)))),
         Order::SwitchOut(switch) => put_control(code, own(u64::from(names.switch(*switch)))),
         Order::ProcOut(procedure) => {
             put_control(code, own(u64::from(names.procedure(*procedure))))
@@ -212,16 +214,22 @@ pub(crate) fn put_order(code: &mut Assembly, order: &Order, names: &Names) -> Re
     }
 }
 
-/// The same where the jump of the order is short, if it has one that can be.
+/// The same where the jump of the order is short, if it has one that can be, or where its check jumps back, if that can. The order has this number.
 pub(crate) fn put_short_order(
     code: &mut Assembly,
     order: &Order,
+    number: usize,
     names: &Names,
 ) -> Result<(), NoMemory>
     requires { HasCode order.now }
-    ensures { OnOk result (Adds code.old (short_template names.now (length code.old.bytes) order.now) code.new) }
+    ensures { OnOk result (Adds code.old (short_template names.now (length code.old.bytes) number order.now) code.new) }
 {
+    let call = u64::from(names.call(number));
     match order {
+        Order::Add(line) => put_add_back(code, *line, call),
+        Order::Sub(line) => put_sub_back(code, *line, call),
+        Order::Neg(line) => put_neg_back(code, *line, call),
+        Order::Mul { power: 0, line } => put_mul_back(code, *line, call),
         Order::Jump(mark) => put_short_jump(code, u64::from(names.mark(*mark))),
         Order::JumpIf { comparator, mark } => {
             put_short_jump_if(code, *comparator, u64::from(names.mark(*mark)))

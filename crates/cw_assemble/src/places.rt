@@ -1,13 +1,16 @@
 //! Places in the code of a segment.
-ghost use Rattle.std.specs.Prelude.{◌≡◌, ◌+◌, ◌*◌, map, slice_index, Some, IfOk, All};
+ghost use Rattle.std.specs.Prelude.{◌≡◌, ◌+◌, ◌*◌, map, slice_index, Some, None, IfOk, All, ◌&&◌, not, length};
 ghost use Rattle.cw_order.specs.HasCode.{HasCode};
-ghost use Rattle.cw_tmpl.specs.Names.{mark_place, way_to_label};
+ghost use Rattle.cw_tmpl.specs.Backward.{calls_from};
+ghost use Rattle.cw_tmpl.specs.Names.{mark_place, way_to_label, landing_bytes, switch_bytes, place_of_one};
+ghost use Rattle.cw_tmpl.specs.Named.{is_named_label, is_named_switch};
 ghost use Rattle.cw_tmpl.specs.Templates.{is_short};
-ghost use Rattle.cw_tmpl.specs.ReferenceCode.{longest_places, places_by, switch_places, label_starts, statements_from};
+ghost use Rattle.cw_tmpl.specs.ReferenceCode.{longest_places, places_by, landing_places, landing_sizes, switch_places, label_starts, statements_from};
+ghost use Rattle.cw_assemble.specs.Flags.{AreFlags};
 
 use crate::sizes::{block_size, near_size, sum, table_size};
-use cw_order::{LabelMark, Order};
-use cw_tmpl::{LANDING, Names, Reach, block_in, orders_left};
+use cw_order::{LabelMark, Order, Orders};
+use cw_tmpl::{Call, LANDING, Names, Reach, block_in, call_after, call_for, check_of, orders_left};
 use cw_unit::unit::Goal;
 use cw_word::{List, NoMemory};
 use std::alloc::Global;
@@ -30,7 +33,33 @@ pub(crate) fn longest_places(alloc: Global, orders: &[Order]) -> Result<List<u32
     Ok(list)
 }
 
-/// The same where the jumps are short that reach their marks so.
+/// A number of an order. NoMemory comes where it is no u32.
+fn order_number(number: usize) -> Result<u32, NoMemory>
+    ensures { IfOk result (λ n. n ≡ number) }
+{
+    u32::try_from(number).map_err(|_| NoMemory)
+}
+
+/// Which CALL the check of each block jumps back to: the number of the order behind the first one of the block that has it, or 0 for none.
+pub(crate) fn calls(alloc: Global, orders: &[Order], longest: &[u32]) -> Result<List<u32>, NoMemory>
+    requires { All HasCode orders.now }
+    ensures { IfOk result (λ list. list ≡ calls_from longest.now None 0 0 orders.now) }
+{
+    let mut list = List::new(alloc);
+    let mut last: Option<Call> = None;
+    let mut left = 0;
+    for k in 0..orders.len() {
+        let block = block_in(left, orders, k);
+        let check = check_of(block, &orders[k]);
+        let call = call_for(longest, last, k, check);
+        list.push(call)?;
+        last = call_after(last, order_number(k + 1)?, call, check);
+        left = orders_left(block);
+    }
+    Ok(list)
+}
+
+/// The places of the orders' code, and of the end, where the jumps are short that reach their marks so, and checks jump back.
 pub(crate) fn order_places(
     alloc: Global,
     orders: &[Order],
@@ -53,19 +82,92 @@ pub(crate) fn order_places(
     Ok(list)
 }
 
+/// Whether a label has a landing, where something names it or not.
+pub(crate) fn has_landing(named: bool, label: LabelMark) -> bool
+    ensures { result ≡ (named && not label.in_procedure) }
+{
+    named && !label.in_procedure
+}
+
+/// The place of what there is, and 0 for what there is not.
+fn place_of_one(has: bool, place: u32) -> u32
+    ensures { result ≡ place_of_one has place }
+{
+    if has { place } else { 0 }
+}
+
+fn landing_bytes(has: bool) -> u32
+    ensures { result ≡ landing_bytes has }
+{
+    if has { LANDING } else { 0 }
+}
+
+fn switch_bytes(has: bool, goals: &[Goal]) -> Result<u32, NoMemory>
+    ensures { IfOk result (λ n. n ≡ switch_bytes has goals.now) }
+{
+    if has {
+        table_size(29, goals.len())
+    } else {
+        Ok(0)
+    }
+}
+
+/// The places of the landings of labels, the first one given.
+pub(crate) fn landing_places(
+    alloc: Global,
+    first: u32,
+    orders: &Orders,
+    named: &[bool],
+) -> Result<List<u32>, NoMemory>
+    requires { AreFlags named.now (length orders.now.labels) (is_named_label orders.now) }
+    ensures { IfOk result (λ list. list ≡ landing_places (is_named_label orders.now) first 0 orders.now.labels) }
+{
+    let labels = orders.labels.as_slice();
+    let mut list = List::new(alloc);
+    let mut at = first;
+    for number in 0..labels.len() {
+        let has = has_landing(named[number], labels[number]);
+        list.push(place_of_one(has, at))?;
+        at = sum(at, landing_bytes(has))?;
+    }
+    Ok(list)
+}
+
+/// Where the routines of switches start: behind the landings.
+pub(crate) fn switches_place(
+    landings: u32,
+    orders: &Orders,
+    named: &[bool],
+) -> Result<u32, NoMemory>
+    requires { AreFlags named.now (length orders.now.labels) (is_named_label orders.now) }
+    ensures { IfOk result (λ n. n ≡ landings + landing_sizes (is_named_label orders.now) 0 orders.now.labels) }
+{
+    let labels = orders.labels.as_slice();
+    let mut at = landings;
+    for number in 0..labels.len() {
+        let has = has_landing(named[number], labels[number]);
+        at = sum(at, landing_bytes(has))?;
+    }
+    Ok(at)
+}
+
 /// The places of the routines of switches, the first one given.
 pub(crate) fn switch_places(
     alloc: Global,
     first: u32,
-    switches: &[List<Goal>],
+    orders: &Orders,
+    named: &[bool],
 ) -> Result<List<u32>, NoMemory>
-    ensures { IfOk result (λ list. list ≡ switch_places first switches.now) }
+    requires { AreFlags named.now (length orders.now.switches) (is_named_switch orders.now) }
+    ensures { IfOk result (λ list. list ≡ switch_places (is_named_switch orders.now) first 0 orders.now.switches) }
 {
+    let switches = orders.switches.as_slice();
     let mut list = List::new(alloc);
     let mut at = first;
-    for goals in switches {
-        list.push(at)?;
-        at = sum(at, table_size(29, goals.as_slice().len())?)?;
+    for number in 0..switches.len() {
+        let has = named[number];
+        list.push(place_of_one(has, at))?;
+        at = sum(at, switch_bytes(has, switches[number].as_slice())?)?;
     }
     Ok(list)
 }
@@ -92,33 +194,14 @@ pub(crate) fn place_at(places: &[u32], order: usize) -> u32
     places.get(order).copied().unwrap_or(0)
 }
 
-/// Where the routines of switches start: behind the landings.
-pub(crate) fn switches_place(landings: u32, labels: usize) -> Result<u32, NoMemory>
-    ensures { IfOk result (λ n. n ≡ landings + 15 * labels) }
-{
-    match u32::try_from(labels) {
-        Ok(labels) => match labels.checked_mul(15) {
-            Some(bytes) => sum(landings, bytes),
-            None => Err(NoMemory),
-        },
-        Err(_) => Err(NoMemory),
-    }
-}
-
-/// Where a label of this number is reached. NoMemory comes where the place is no u32.
-fn label_place(names: &Names, number: u64, label: LabelMark) -> Result<u32, NoMemory>
-    ensures { IfOk result (λ n. n ≡ way_to_label names.now number (Some label)) }
+/// Where a label of this number is reached.
+fn label_place(names: &Names, number: usize, label: LabelMark) -> u32
+    ensures { result ≡ way_to_label names.now number (Some label) }
 {
     if label.in_procedure {
-        Ok(names.mark(label.mark))
+        names.mark(label.mark)
     } else {
-        match number.checked_mul(LANDING) {
-            Some(offset) => match offset.checked_add(u64::from(names.landings)) {
-                Some(place) => u32::try_from(place).map_err(|_| NoMemory),
-                None => Err(NoMemory),
-            },
-            None => Err(NoMemory),
-        }
+        place_at(names.landings, number)
     }
 }
 
@@ -132,7 +215,7 @@ pub(crate) fn label_places(
 {
     let mut list = List::new(alloc);
     for (number, label) in labels.iter().enumerate() {
-        list.push(label_place(names, number as u64, *label)?)?;
+        list.push(label_place(names, number, *label))?;
     }
     Ok(list)
 }

@@ -5,12 +5,15 @@ ghost use Rattle.cw_order.specs.declared.order.Order.TheVariants as order;
 ghost use Rattle.cw_tmpl.specs.Blocks.{NamesParts};
 ghost use Rattle.cw_tmpl.specs.declared.blocks.Block.TheVariants as block;
 ghost use Rattle.cw_tmpl.specs.declared.blocks.Simple.TheVariants as simple;
-ghost use Rattle.cw_tmpl.specs.Templates.{address_pieces, load_place, pieces_size, index_size, lower_size, element_size, used_size, shift_size, part_size, times_size, width_size, bound_size, word_size, bounds_size, top_lower_size, formed_size, doubled_size, loop_ways_size, listed_size, order_size, saved, block_size};
+ghost use Rattle.cw_order.specs.declared.order.Place.TheVariants as cell;
+ghost use Rattle.cw_tmpl.specs.Templates.{address_pieces, load_place, store_place, pieces_size, field_size, frame_size, word_compared, doubled_size, loop_ways_size, order_size, saved, block_size, argument_load_size};
+ghost use Rattle.cw_tmpl.specs.Sizes.{index_size, lower_size, element_size, used_size, shift_size, part_size, times_size, width_size, bound_size, word_size, bounds_size, top_lower_size, formed_size, listed_size, column_size};
 
+use crate::calling::bytes_of_words;
 use crate::words::power;
-use cw_order::{Order, Place};
+use cw_order::{Comparator, Order, Place};
 use cw_tmpl::laws::sizes;
-use cw_tmpl::{Block, Bounded, Element, Form, Simple, Test, Use};
+use cw_tmpl::{Block, Bounded, Column, Element, Form, Row, Simple, Test, Use};
 use cw_word::NoMemory;
 
 /// How many bytes a multiplication by a number has.
@@ -26,6 +29,31 @@ fn width_size(width: u16) -> u32
     ensures small { result ≤ 14 }
 {
     if width == 1 { 0 } else { times_size(width) }
+}
+
+/// How many bytes an instruction has that loads a register from an argument.
+fn argument_load_size(words: u16) -> u32
+    requires { words ≤ 256 }
+    ensures is { result ≡ argument_load_size words }
+    ensures small { result ≤ 4 }
+{
+    if 4 + 2 * words < 128 { 3 } else { 4 }
+}
+
+/// How many bytes the call of a procedure parameter has.
+pub(crate) fn call_special_size(words: u8) -> u32
+    ensures is { result ≡ argument_load_size words + 9 }
+    ensures small { result ≤ 13 }
+{
+    argument_load_size(u16::from(words)) + 9
+}
+
+/// How many bytes two such instructions have, for the words of a control parameter.
+fn control_load_size(words: u8) -> u32
+    ensures is { result ≡ argument_load_size (words + 1) + argument_load_size words }
+    ensures small { result ≤ 8 }
+{
+    argument_load_size(u16::from(words) + 1) + argument_load_size(u16::from(words))
 }
 
 /// How many bytes the code of an index less its lower bound has.
@@ -118,13 +146,36 @@ fn part_size(t: u8, b: u8, signed: bool) -> u32
     }
 }
 
+/// How many bytes the displacement of a word so many bytes behind BX has.
+fn field_size(by: u16) -> u32
+    ensures is { result ≡ field_size by }
+    ensures small { result ≤ 2 }
+{
+    if by == 0 {
+        0
+    } else if by < 128 {
+        1
+    } else {
+        2
+    }
+}
+
+/// The same of a word of the frame.
+fn frame_size(offset: u16) -> u32
+    ensures is { result ≡ frame_size offset }
+    ensures small { result ≤ 2 }
+{
+    field_size(bytes_of_words(offset))
+}
+
 /// How many bytes the code has that adds an index at a place to the address of a word.
 fn index_size(index: Place) -> u32
-    ensures { result ≡ index_size index }
+    ensures is { result ≡ index_size index }
+    ensures small { result ≤ 10 }
 {
     match index {
         Place::Word { .. } => 7,
-        Place::Frame(_) => 10,
+        Place::Frame(offset) => frame_size(offset) + 8,
     }
 }
 
@@ -178,6 +229,35 @@ fn bounded_size(bounded: Bounded) -> u32
     ensures { result ≡ block_size false (block.Bounded bounded) order.Save }
 {
     top_lower_size(bounded.bounds.lower) + 10 + formed_size(bounded.form)
+}
+
+/// How many bytes a second index has, in SI.
+fn column_size(column: Column) -> u32
+    ensures is { result ≡ column_size column }
+    ensures small { result ≤ 7 }
+{
+    match column {
+        Column::Number(_) => 3,
+        Column::Contents(Place::Word { .. }) => 4,
+        Column::Contents(Place::Frame(offset)) => frame_size(offset) + 5,
+    }
+}
+
+/// How many bytes the code of two indexes has that are compared with their bounds, and of the address that is made of them.
+fn row_size(row: Row) -> u32
+    ensures { result ≡ block_size false (block.Row row) order.Save }
+{
+    let made = Form::Entry {
+        width: row.width,
+        word: 0,
+        span: row.span,
+        line: row.line,
+    };
+    top_lower_size(row.rows.lower)
+        + column_size(row.column)
+        + lower_size(row.columns.lower)
+        + formed_size(made)
+        + 23
 }
 
 /// How many bytes an order has behind it that uses the element.
@@ -246,20 +326,25 @@ fn order_size(order: &Order) -> Result<u32, NoMemory>
         Order::Exhausted(_) | Order::Return { .. } => 6,
         Order::SetVariable(_) | Order::AddStep(_) | Order::PutVariable(_) => 6,
         Order::CallProc { .. } | Order::CallCommon { .. } => 6,
-        Order::Store | Order::Bind { .. } | Order::Enter(_) => 7,
+        Order::Bind { argument, .. } => argument_load_size(u16::from(*argument)) + 3,
+        Order::Store | Order::Enter(0) => 7,
         Order::JumpIf { .. } | Order::GoSwitch { .. } | Order::GoSwitchCommon { .. } => 8,
         Order::FrameHome(_) => 8,
         Order::Neg(_) | Order::InArea(_) => 9,
-        Order::Add(_) | Order::SpecialOut(_) => 10,
+        Order::Add(_) => 10,
+        Order::SpecialOut(place) => control_load_size(*place) + 2,
         Order::Take { t, b } => part_size(*t, *b, false),
-        Order::BindFrame { .. } => 11,
+        Order::BindFrame { argument, offset } => argument_load_size(u16::from(*argument))
+            + (frame_size(*offset) + 5),
         Order::Sub(_) | Order::IndexLess { .. } => 12,
-        Order::GoSwitchSpecial { .. } | Order::CallSpecial { .. } => 13,
+        Order::GoSwitchSpecial { place, .. } => control_load_size(*place) + 5,
+        Order::CallSpecial { place, .. } => call_special_size(*place),
         Order::GoMain(_) => 15,
         Order::LoadPart { t, b, signed } => part_size(*t, *b, *signed) + 5,
-        Order::GoSpecial(_) => 17,
+        Order::GoSpecial(place) => control_load_size(*place) + 9,
         Order::InBounds { lower, .. } => bounds_size(*lower),
         Order::Div { .. } => 25,
+        Order::Enter(_) => 34,
         Order::StorePart { b, .. } => shift_size(*b) + 12,
         Order::Rescale { from, to, .. } => rescale_size(*from, *to),
         Order::Mul { power, .. } => product_size(*power),
@@ -273,8 +358,16 @@ fn order_size(order: &Order) -> Result<u32, NoMemory>
         Order::Entry { width, word, .. } => width_size(*width) + word_size(*word) + 21,
         Order::NextStep { looped, .. } => doubled_size(*looped) + 10,
         Order::LoopWay(marks) => return loop_ways_size(marks.as_slice()),
+        Order::SwitchWay { marks, .. } => return table_size(20, marks.as_slice().len()),
     };
     Ok(size)
+}
+
+/// How many bytes the code of a word of the frame and an order that uses it has.
+fn frame_used_size(offset: u16, with: Use) -> u32
+    ensures { result ≡ block_size false (block.Operate (simple.Contents (cell.Frame offset)) with) order.Save }
+{
+    frame_size(offset) + 3 + used_size(with)
 }
 
 /// How many bytes the code of a simple operand and an order that uses it has.
@@ -290,30 +383,74 @@ fn operated_size(operand: Simple, with: Use) -> u32
         (Simple::Contents(Place::Word { .. }), Use::Multiply(_)) => 14,
         (Simple::Contents(Place::Word { .. }), Use::Mask | Use::Union | Use::Differ) => 4,
         (Simple::Contents(Place::Word { .. }), Use::Compare { .. }) => 9,
-        (Simple::Contents(Place::Frame(_)), Use::Add(_) | Use::Subtract(_)) => 14,
-        (Simple::Contents(Place::Frame(_)), Use::Multiply(_)) => 18,
-        (Simple::Contents(Place::Frame(_)), Use::Mask | Use::Union | Use::Differ) => 7,
-        (Simple::Contents(Place::Frame(_)), Use::Compare { .. }) => 12,
+        (Simple::Contents(Place::Frame(offset)), _) => frame_used_size(offset, with),
         (Simple::Element(element), _) => element_used_size(element, with),
     }
 }
 
-/// How many bytes the code has that loads AX from a place, or stores it there.
+/// How many bytes the code has that loads AX from a word of the frame, or stores it there.
+fn frame_moved_size(offset: u16) -> u32
+    ensures fetched { result ≡ pieces_size (address_pieces (cell.Frame offset) ++ load_place (cell.Frame offset) ∷ []) }
+    ensures assigned { result ≡ pieces_size (address_pieces (cell.Frame offset) ++ store_place (cell.Frame offset) ∷ []) }
+{
+    frame_size(offset) + 5
+}
+
+/// The same of a place.
 fn place_size(place: Place) -> u32
-    ensures { result ≡ pieces_size (address_pieces place ++ load_place place ∷ []) }
+    ensures fetched { result ≡ pieces_size (address_pieces place ++ load_place place ∷ []) }
+    ensures assigned { result ≡ pieces_size (address_pieces place ++ store_place place ∷ []) }
 {
     match place {
         Place::Word { .. } => 3,
-        Place::Frame(_) => 7,
+        Place::Frame(offset) => frame_moved_size(offset),
     }
 }
 
-/// How many bytes a short jump of a block saves.
+/// How many bytes the code has that takes a part of a word of the frame.
+fn frame_part_size(offset: u16, t: u8, b: u8, signed: bool) -> u32
+    requires { t + b ≤ 16 }
+    ensures { result ≡ block_size false (block.FetchPart (cell.Frame offset) t b signed) order.Save }
+{
+    frame_size(offset) + 5 + part_size(t, b, signed)
+}
+
+/// How many bytes the code has that stores AX in a part of a word of the frame.
+fn frame_part_stored_size(offset: u16, t: u8, b: u8) -> u32
+    ensures { result ≡ block_size false (block.AssignPart (cell.Frame offset) t b) order.Save }
+{
+    shift_size(b) + (2 * frame_size(offset) + 10)
+}
+
+/// How many bytes the code of two words of the frame has.
+fn both_size(first: u16, second: u16) -> u32
+    ensures { result ≡ block_size false (block.FetchBoth first second) order.Save }
+{
+    frame_size(first) + (frame_size(second) + 8)
+}
+
+/// How many bytes the comparison of a word of the frame with a number has.
+fn word_compared_size(offset: u16, with: u16) -> u32
+    ensures { result ≡ pieces_size (word_compared offset with) }
+{
+    frame_size(offset) + 7
+}
+
+/// The same with a near jump behind it.
+fn compare_word_size(offset: u16, with: u16, comparator: Comparator, mark: u32) -> u32
+    ensures { result ≡ block_size false (block.CompareWord offset with comparator mark) order.Save }
+{
+    word_compared_size(offset, with) + 5
+}
+
+/// How many bytes the short form of a block saves.
 fn saved(block: Block, order: &Order) -> u32
     ensures { result ≡ saved block order.now }
 {
     match block {
         Block::Single => match order {
+            Order::Add(_) | Order::Sub(_) | Order::Neg(_) => 5,
+            Order::Mul { power: 0, .. } => 5,
             Order::Jump(_) => 1,
             Order::JumpIf { .. } => 3,
             Order::LoopWay(marks) => match marks.as_slice() {
@@ -322,15 +459,18 @@ fn saved(block: Block, order: &Order) -> u32
             },
             _ => 0,
         },
-        Block::Operate {
-            with: Use::Compare { .. },
-            ..
-        } => 3,
+        Block::Operate { with, .. } => match with {
+            Use::Add(_) | Use::Subtract(_) | Use::Multiply(_) => 5,
+            Use::Compare { .. } => 3,
+            Use::Mask | Use::Union | Use::Differ => 0,
+        },
+        Block::Count { .. } => 5,
+        Block::CompareWord { .. } => 3,
         _ => 0,
     }
 }
 
-/// How many bytes the code of a block has that begins with an order, and whose jump may be short.
+/// How many bytes the code of a block has that begins with an order, and whose jump may be short, or whose check may jump back.
 pub(crate) fn block_size(short: bool, block: Block, order: &Order) -> Result<u32, NoMemory>
     requires code { HasCode order.now }
     requires parts { NamesParts block }
@@ -359,27 +499,41 @@ pub(crate) fn near_size(block: Block, order: &Order) -> Result<u32, NoMemory>
         Block::Divide { .. } => 6,
         Block::Operate { operand, with } => operated_size(operand, with),
         Block::FetchPart {
-            place,
+            place: Place::Word { .. },
             t,
             b,
             signed,
-        } => place_size(place) + part_size(t, b, signed),
+        } => part_size(t, b, signed) + 3,
+        Block::FetchPart {
+            place: Place::Frame(offset),
+            t,
+            b,
+            signed,
+        } => frame_part_size(offset, t, b, signed),
         Block::AssignPart {
             place: Place::Word { .. },
             b,
             ..
         } => shift_size(b) + 11,
         Block::AssignPart {
-            place: Place::Frame(_),
+            place: Place::Frame(offset),
+            t,
             b,
-            ..
-        } => shift_size(b) + 14,
+        } => frame_part_stored_size(offset, t, b),
         Block::FetchElement(element) | Block::AssignElement(element) => {
             element_moved_size(element)
         }
         Block::Count { .. } => 8,
         Block::Halve { places, .. } => shift_size(places),
         Block::Bounded(bounded) => bounded_size(bounded),
+        Block::Row(row) => row_size(row),
+        Block::FetchBoth { first, second } => both_size(first, second),
+        Block::CompareWord {
+            offset,
+            with,
+            comparator,
+            mark,
+        } => compare_word_size(offset, with, comparator, mark),
     };
     Ok(size)
 }

@@ -9,5 +9,6 @@ pub mod NamesAgreeing
 pub mod OrderCodes
 pub mod Layouts
 pub mod Programs
+pub mod Sharing
 pub mod Units
 pub mod ItemNames

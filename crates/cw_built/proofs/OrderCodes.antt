@@ -71,6 +71,7 @@ coded-order (order.SpecialOut k) h = ltb-true k 256 h
 coded-order (order.GoSpecial k) h = ltb-true k 256 h
 coded-order (order.GoSwitchSpecial k line) h = ltb-true k 256 h
 coded-order (order.LoopWay marks) h = ltb-true (length marks) 32768 h
+coded-order (order.SwitchWay marks line) h = ltb-true (length marks) 32768 h
 coded-order (order.Exhausted m) h = tt
 coded-order (order.SetVariable line) h = tt
 coded-order (order.AddStep line) h = tt

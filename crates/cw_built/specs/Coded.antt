@@ -39,6 +39,7 @@ has_numbers (order.SpecialOut k) = nat_lt k 256
 has_numbers (order.GoSpecial k) = nat_lt k 256
 has_numbers (order.GoSwitchSpecial k line) = nat_lt k 256
 has_numbers (order.LoopWay marks) = nat_lt (length marks) 32768
+has_numbers (order.SwitchWay marks line) = nat_lt (length marks) 32768
 has_numbers _ = true
 
 -- and its line is a word

@@ -15,6 +15,7 @@ ghost use Rattle.cw_order.specs.HasCode.{HasCode};
 ghost use Rattle.cw_order.specs.FittingWords.{LinesFit};
 ghost use Rattle.cw_order.specs.NamesAgree.{NamesAgree};
 ghost use Rattle.cw_order.specs.Activations.{Callable};
+ghost use Rattle.cw_order.specs.Sharing.{DefinitionsShared};
 ghost use Rattle.cw_order.specs.OrderProgram.{Tables, order_at, place_of};
 ghost use Rattle.cw_gen_expr.specs.UnitTables.{tables_of};
 ghost use Rattle.cw_gen_unit.specs.ReferenceUnits.{unit_orders, orders_program};
@@ -38,7 +39,7 @@ pub fn coded()
 {}
 
 /// What code needs of the program of the orders of such units, where these have code: each order has code, lines are words, switches
-/// have few goals, a mark stands at the first order or at one where a jump may land, and calls are in order.
+/// have few goals, a mark stands at the first order or at one where a jump may land, calls are in order, and what descriptors stand for is shared.
 pub fn programs()
     ensures codes { (us : List SourceUnit) (m : Map) (limits : Limits) (room g place : ℕ) (o : Order) → All (λ u. IsTrue (have_code (unit_orders u))) us → order_at (orders_program us m limits room) g place ≡ Some o → HasCode o }
     ensures lines { (us : List SourceUnit) (m : Map) (limits : Limits) (room : ℕ) → All (λ u. IsTrue (have_code (unit_orders u))) us → LinesFit (orders_program us m limits room) }
@@ -46,6 +47,7 @@ pub fn programs()
     ensures switches { (us : List SourceUnit) (m : Map) (limits : Limits) (room g n : ℕ) (o : Orders) (gs : List Goal) → All (λ u. IsTrue (have_code (unit_orders u))) us → slice_get (orders_program us m limits room).units g ≡ Some o → slice_get o.switches n ≡ Some gs → length gs < 32768 }
     ensures marks { (us : List SourceUnit) (m : Map) (limits : Limits) (room g mark place : ℕ) → All (λ u. IsTrue (have_code (unit_orders u))) us → place_of (orders_program us m limits room) g mark ≡ Some place → (place ≡ 0) ⊎ ((o : Order) × (order_at (orders_program us m limits room) g place ≡ Some o) × IsTrue (is_landing o)) }
     ensures callable { (us : List SourceUnit) (m : Map) (limits : Limits) (room : ℕ) → All (λ u. IsTrue (is_built u)) us → All (λ u. IsTrue (have_code (unit_orders u))) us → limits.frames ≤ limits.area → Callable (orders_program us m limits room) }
+    ensures shared { (us : List SourceUnit) (m : Map) (limits : Limits) (room : ℕ) → DefinitionsShared (orders_program us m limits room) }
 {}
 
 /// The lists of a unit's orders tell the same of its labels, procedures and switches as its tables.

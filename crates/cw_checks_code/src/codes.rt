@@ -64,7 +64,9 @@ fn has_numbers(order: &Order) -> bool
         | Order::SpecialOut(place)
         | Order::GoSpecial(place)
         | Order::GoSwitchSpecial { place, .. } => is_byte(*place),
-        Order::LoopWay(marks) => marks.as_slice().len() < 32_768,
+        Order::LoopWay(marks) | Order::SwitchWay { marks, .. } => {
+            marks.as_slice().len() < 32_768
+        }
         _ => true,
     }
 }

@@ -271,8 +271,8 @@ const COUNTED: [(&str, usize, u64); 6] = [
     ("W(7)", 21, 17),
     // Number and store 6 and 2; load, sum with a number and store 16 and 4; load and byte 5 and 2.
     ("INTEGER X; X := 3; X := X + 4; W(X)", 43, 23),
-    // Number, its save and the call 10 and 4; the entry and the argument 14 and 21; load and byte 5 and 2; 0 and the return 8 and 4.
-    ("PROCEDURE P(VALUE INTEGER N); W(N); P(5)", 53, 46),
+    // Number, its save and the call 10 and 4; the entry and the argument 13 and 21; load and byte 5 and 2; 0 and the return 8 and 4.
+    ("PROCEDURE P(VALUE INTEGER N); W(N); P(5)", 52, 46),
     // The call 6 and 2, the byte 2 and 1; the entry 7 and 19; number and the return 9 and 4, and no other return.
     ("INTEGER PROCEDURE F; ANSWER 5; W(F)", 40, 41),
     // Load, comparison and the jump past the statement 8 and 3; number and byte 5 and 2, and no other jump.

@@ -55,6 +55,7 @@ depth n?0|depth none A.F~|
 depth h?0|depth 2~A.G~A.P~|
 depth t1 t2?3||link: K1 Differs T 1 2~
 depth r?3||link: K2 Undefined R~
+code r?3||link: K2 Undefined R~
 depth e missing?6||no file: missing~
 trace A:3:A.X w?4||00000 00001 A.X WORD~12288 04096 FRAMES~A 3 A.X=32767~stopped: Overflow A 3~
 trace a:2:a.i v?0|\u{1}\u{2}\u{3}|00000 00001 A.I WORD~00001 00004 A.FOR@1 LOOP~12288 04096 FRAMES~A 2 A.I=1~A 2 A.I=2~A 2 A.I=3~

@@ -160,12 +160,12 @@ fn limits(rt: HostRuntime) -> Result<(), Fail> {
         "|"
     );
     let before = "SEGMENT A BEGIN INTEGER X; ";
-    let text = repeated(alloc, before, "X := X + 1; ", 4650, "END FINISH")?;
+    let text = repeated(alloc, before, "X := X + 1; ", 6851, "END FINISH")?;
     assert_eq!(rt;
         within(alloc, &text, RUN_STEPS)?.as_str(),
-        "3||link: P4 CodeTooBig 65546\n"
+        "3||link: P4 CodeTooBig 65543\n"
     );
-    let text = repeated(alloc, before, "X := X + 1; ", 4649, "END FINISH")?;
+    let text = repeated(alloc, before, "X := X + 1; ", 6850, "END FINISH")?;
     assert_eq!(rt; bytes_and_end(alloc, &text, RUN_STEPS)?.as_str(), "|");
     let levels = |count: u32| -> Result<Vec<u8>, AllocError> {
         let inner = repeated(alloc, "SEGMENT A ", "BEGIN ", count, "")?;

@@ -15,6 +15,7 @@ exec a?exec 16384 4096 256 200000000 0 a
 list a?list 16384 4096 256 200000000 0 a
 map a b?map 16384 4096 256 200000000 0 a b
 depth a b?depth 16384 4096 256 200000000 0 a b
+code a b?code 16384 4096 256 200000000 0 a b
 migrate a?migrate 16384 4096 256 200000000 0 a
 hex a?hex 16384 4096 256 200000000 0 a
 lib a b?lib 16384 4096 256 200000000 0 a b
@@ -120,6 +121,7 @@ fn name(action: Action) -> &'static str {
         Action::Lib => "lib",
         Action::Depth => "depth",
         Action::Trace => "trace",
+        Action::Code => "code",
     }
 }
 
@@ -214,7 +216,7 @@ fn are_taken(alloc: Global, action: &str, number: usize) -> Result<bool, AllocEr
 #[test]
 fn numbers_of_words(rt: HostRuntime) -> Result<(), Fail> {
     let alloc = rt.alloc();
-    for action in ["go", "link", "map"] {
+    for action in ["go", "link", "map", "code"] {
         assert_eq!(rt; are_taken(alloc, action, 200)?, true);
         assert_eq!(rt; are_taken(alloc, action, 201)?, false);
     }

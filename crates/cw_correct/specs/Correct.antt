@@ -7,14 +7,14 @@ use Rattle.cw_words.specs.Parts.{Parts, parts_of, copies_in}
 use Rattle.cw_stop.specs.declared.stopping.Stop.{Stop}
 use Rattle.cw_stop.specs.Stopping.{stop_in}
 use Rattle.cw_words.specs.declared.action.Action.{Action}
-use Rattle.cw_words.specs.declared.action.Action.TheVariants.{Go, Compile, Link, Exec, List as Show, Map, Migrate, Big, Hex, Lib, Depth, Trace}
+use Rattle.cw_words.specs.declared.action.Action.TheVariants.{Go, Compile, Link, Exec, List as Show, Map, Migrate, Big, Hex, Lib, Depth, Trace, Code}
 use Rattle.cw_correct.specs.Calls.{Surroundings, Call, call_of, told_files, first_name, over_others, NoFault, IsUntouched, IsUnwritten}
 use Rattle.cw_correct.specs.Saying.{SaysLast}
 use Rattle.cw_correct.specs.Going.{GoesRight}
 use Rattle.cw_correct.specs.Making.{MakesRight}
 use Rattle.cw_correct.specs.Tracing.{TracesRight}
 use Rattle.cw_correct.specs.Executing.{ExecutesRight}
-use Rattle.cw_correct.specs.Results.{MapsRight, DepthsRight, ShowsRight, CompilesRight, LibsRight, LinksRight, MigratesRight, HexesRight}
+use Rattle.cw_correct.specs.Results.{MapsRight, DepthsRight, CodesRight, ShowsRight, CompilesRight, LibsRight, LinksRight, MigratesRight, HexesRight}
 use Rattle.cw_say.specs.declared.status.Status.{Status}
 use Rattle.cw_say.specs.declared.status.Status.TheVariants.{Usage, NoMemory, TooLong}
 use Rattle.cw_say.specs.declared.status.Long.TheVariants as long
@@ -40,6 +40,7 @@ CorrectAs Exec c input status = ExecutesRight c input status
 CorrectAs Show c input status = ShowsRight c status
 CorrectAs Map c input status = MapsRight c status
 CorrectAs Depth c input status = DepthsRight c status
+CorrectAs Code c input status = CodesRight c status
 CorrectAs Migrate c input status = MigratesRight c status
 CorrectAs Hex c input status = HexesRight c status
 CorrectAs Big c input status = (copies : ℕ) × (copies_in (first_name c) ≡ Some copies) × MakesRight copies c input status

@@ -1,4 +1,4 @@
--- What the actions promise that run nothing: `map`, `depth` and `list` write their result to `out`; `compile`, `lib`, `link`, `migrate` and `hex` write it to a file.
+-- What the actions promise that run nothing: `map`, `depth`, `code` and `list` write their result to `out`; `compile`, `lib`, `link`, `migrate` and `hex` write it to a file.
 use Rattle.std.specs.Prelude.{◌≡◌, ◌≢◌, ◌⊎◌, ℕ, ◌<◌, ◌≤◌, List, [], ◌∷◌, ◌++◌, length, map, take, codes}
 use Rattle.cw_io.specs.Bytes.{after_told}
 use Rattle.cw_io.specs.Count.{Rose}
@@ -13,8 +13,9 @@ use Rattle.cw_image.specs.declared.image.Image.{Image}
 use Rattle.cw_hex.specs.HexText.{hex_text}
 use Rattle.cw_object.specs.ObjectContents.{contents_in}
 use Rattle.cw_obj.specs.Migration.{IsMigrated}
-use Rattle.cw_build.specs.Compiled.{object_of}
-use Rattle.cw_build.specs.Linking.{AreLinked, IsFault, Links, IsLinkFault, map_text}
+use Rattle.cw_build.specs.Compiled.{object_of, code_of}
+use Rattle.cw_build.specs.Linking.{AreLinked, IsFault, Links, IsLinkFault, image_of, map_text}
+use Rattle.cw_listing.specs.CodeListing.{IsCodeListing}
 use Rattle.cw_link_files.specs.files.Texts.{HasUnit, HasObject, HasImage, object_limit}
 use Rattle.cw_lib.specs.LibraryFormat.{library_bytes}
 use Rattle.cw_link_files.specs.Parts.{Part, HasPart, IsLinkList}
@@ -74,15 +75,15 @@ IsWritten Is text Ended = Is text
 IsWritten Is text (Outside Out) = Is text
 IsWritten Is text status = Unit {0}
 
--- what is told of the files' units, by a relation between these and a text
-pub record TellsOfUnits (IsText : List SourceUnit → Limits → List ℕ → Type 0) (c : Call) (status : Status) : Type 0 where
+-- what is told of the files' units, by a relation between the files' texts, these, the limits and what is written
+pub record TellsOfUnits (IsText : (texts : List (List ℕ)) → List SourceUnit → Limits → List ℕ → Type 0) (c : Call) (status : Status) : Type 0 where
   pub texts : List (List ℕ)
   pub units : List SourceUnit
   pub text : List ℕ
   pub have_texts : HaveBytes text_limit (told_files c) texts
   pub have_units : HaveValues HasUnit texts units
   pub comes : MapComes c texts units status
-  pub is_text : IsWritten (IsText units c.limits) text status
+  pub is_text : IsWritten (IsText texts units c.limits) text status
   pub says : SaysLast c.before c.after c.names [] status
   pub writes : WritesOut c text status
   pub untouched : IsUntouched c.before c.after
@@ -94,7 +95,7 @@ abbrev pub IsMap : List SourceUnit → Limits → (text : List ℕ) → Type 0
 IsMap us limits text = text ≡ map_text us limits
 
 abbrev pub MapsRight : Call → Status → Type 0
-MapsRight c status = TellsOfUnits IsMap c status
+MapsRight c status = TellsOfUnits (λ texts. IsMap) c status
 
 -- ---- depth
 
@@ -110,7 +111,16 @@ abbrev pub IsDepth : List SourceUnit → Limits → (text : List ℕ) → Type 0
 IsDepth us limits text = (report : Report) × IsReport us report × BoundsRuns us report × (text ≡ depth_text us report)
 
 abbrev pub DepthsRight : Call → Status → Type 0
-DepthsRight c status = TellsOfUnits IsDepth c status
+DepthsRight c status = TellsOfUnits (λ texts. IsDepth) c status
+
+-- ---- code
+
+-- the listing of the image's code, beside the texts that were compiled
+abbrev pub IsCode : (texts : List (List ℕ)) → List SourceUnit → Limits → (text : List ℕ) → Type 0
+IsCode texts us limits text = IsCodeListing (image_of us limits).code us (map code_of us) texts text
+
+abbrev pub CodesRight : Call → Status → Type 0
+CodesRight c status = TellsOfUnits IsCode c status
 
 -- ---- list
 

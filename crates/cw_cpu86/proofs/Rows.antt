@@ -1,12 +1,11 @@
 -- The instructions that compiled code is made of, known by their bytes.
 use Rattle.std.proofs.Common.{◌≡◌, ◌≢◌, ℕ, ◌+◌, ◌*◌, ◌/◌, ◌%◌, ◌^◌, ◌<◌, ◌≤◌, List, [], ◌∷◌, ◌++◌, refl, sym, ap, ◌∙◌, arith, lit<}
-use Rattle.std.proofs.lemmas.List.{set-get_or}
-use Rattle.std.specs.Prelude.{Some, Bool, true, false, if◌then◌else◌, slice_index, slice_set}
+use Rattle.std.specs.Prelude.{Some, Bool, true, false, if◌then◌else◌}
 use Rattle.cw_i86.specs.Encoding.{BeginsWith, with_rm, mod_reg_rm, word}
 use Rattle.cw_i86.specs.State.{State, window, past, register, with_register, with_sized_register, sized_register, operand, with_operand, push, data_segment, word_at, value_at, with_value_at, segment_of, default_segment, offset_of, form_base, sign_extended}
 use Rattle.cw_i86.specs.Effect.{executed, exchanged, pop_to, counted, holds, jumped_if, returned, called, moved, moved_acc, operated, shifted}
 use Rattle.cw_i86.specs.MachineRun.{GoesOn, Silent, Steps, code_at}
-use Rattle.cw_i86.specs.declared.instr.Instr.TheVariants.{AluRm, AluAcc, Inc, Dec, Push, Pop, XchgAx, Mov, MovImm, MovRm, MovAcc, Shift, Jump, JumpIf, Call, Ret, RetAdd}
+use Rattle.cw_i86.specs.declared.instr.Instr.TheVariants.{AluRm, AluAcc, Inc, Dec, Push, Pop, XchgAx, Mov, MovImm, MovRm, MovAcc, Shift, Jump, JumpShort, JumpIf, Call, Ret, RetAdd}
 use Rattle.cw_i86.specs.declared.instr.Imm.TheVariants.{Word}
 use Rattle.cw_i86.specs.declared.instr.Place.{Place}
 use Rattle.cw_i86.specs.declared.instr.Place.TheVariants.{Direct, Plain, Near, Far}
@@ -244,6 +243,10 @@ pub jump_steps : (s t u : State) (by : ℕ) → opcode_at s ≡ 0xE9 → by < 2 
 jump_steps s t u by first small by_is past_is after =
     plain_steps s t u (Jump by) 3 (λ p e. cc) (λ p e. cc) (λ e. cc) small (byte_and_word s 0xE9 by first by_is) refl past_is (sym (ap Some after))
 
+pub jump_short_steps : (s t u : State) (by : ℕ) → opcode_at s ≡ 0xEB → by < 2 ^ 8 → by ≡ byte_behind s 1 → t ≡ past s 2 → u ≡ past t (sign_extended by) → Steps s (GoesOn u Silent)
+jump_short_steps s t u by first small by_is past_is after =
+    plain_steps s t u (JumpShort by) 2 (λ p e. cc) (λ p e. cc) (λ e. cc) small (two_bytes s 0xEB by first by_is) refl past_is (sym (ap Some after))
+
 pub call_steps : (s t u : State) (by place : ℕ) → opcode_at s ≡ 0xE8 → by < 2 ^ 16 → IsWordBehind s 1 by → t ≡ past s 3 → place ≡ (t.instruction_pointer + by) % 65536 → u ≡ called t place
     → Steps s (GoesOn u Silent)
 call_steps s t u by place first small by_is past_is place_is after =
@@ -257,16 +260,5 @@ pub return_past_steps : (s t u : State) (n : ℕ) → opcode_at s ≡ 0xC2 → n
 return_past_steps s t u n first small is past_is after =
     plain_steps s t u (RetAdd n) 3 (λ p e. cc) (λ p e. cc) (λ e. cc) small (byte_and_word s 0xC2 n first is) refl past_is (sym (ap Some after))
 
-set_again : (rs : List ℕ) → slice_set (slice_set rs 0 (slice_index rs 0)) 0 (slice_index rs 0) ≡ rs
-set_again rs = ap (λ l. slice_set l 0 (slice_index rs 0)) (set-get_or rs 0 0) ∙ set-get_or rs 0 0
-
--- AX and AX change places
-exchanged_same : (t : State) → t ≡ exchanged t true 0 (rms.Reg 0)
-unfolding exchanged operand with_operand sized_register with_sized_register
-exchanged_same t = ap (λ rs. record t { registers = rs }) (sym (set_again t.registers))
-
 pub exchange_steps : (s t u : State) → opcode_at s ≡ 0x93 → t ≡ past s 1 → u ≡ exchanged t true 0 (rms.Reg 3) → Steps s (GoesOn u Silent)
 exchange_steps s t u first past_is set = plain_steps s t u (XchgAx 3) 1 (λ p e. cc) (λ p e. cc) (λ e. cc) (lit< tt) (first_byte s 0x93 first) refl past_is (sym (ap Some set))
-
-pub nothing_steps : (s u : State) → opcode_at s ≡ 0x90 → u ≡ past s 1 → Steps s (GoesOn u Silent)
-nothing_steps s u first past_is = plain_steps s u u (XchgAx 0) 1 (λ p e. cc) (λ p e. cc) (λ e. cc) (lit< tt) (first_byte s 0x90 first) refl past_is (sym (ap Some (exchanged_same u)))

@@ -93,17 +93,16 @@ impl Cpu {
             }
             // SHL by 1
             0xD1 => self.double_register(),
-            // NOP, with which a statement begins
-            0x90 => {
-                self.do_nothing();
-                true
-            }
             // XCHG of AX and BX
             0x93 => {
                 self.exchange_with_bx();
                 true
             }
             // JMP, CALL and RET
+            0xEB => {
+                self.jump_short();
+                true
+            }
             0xE9 => {
                 self.jump_near();
                 true
@@ -464,6 +463,16 @@ impl Cpu {
     }
 
     #[inline(always)]
+    fn jump_short(&mut self)
+        requires { opcode_at self.old ≡ 0xEB }
+        ensures { Steps self.old (GoesOn self.new Silent) }
+    {
+        let by = self.byte_behind(1);
+        self.advance(2);
+        self.advance(sign_extended(by));
+    }
+
+    #[inline(always)]
     fn call_near(&mut self)
         requires { opcode_at self.old ≡ 0xE8 }
         ensures { Steps self.old (GoesOn self.new Silent) }
@@ -502,14 +511,5 @@ impl Cpu {
     {
         self.advance(1);
         self.exchange_ax(3);
-    }
-
-    // XCHG of AX and AX.
-    #[inline(always)]
-    fn do_nothing(&mut self)
-        requires { opcode_at self.old ≡ 0x90 }
-        ensures { Steps self.old (GoesOn self.new Silent) }
-    {
-        self.advance(1);
     }
 }

@@ -1,5 +1,5 @@
 -- What an activation does: its way back, the words of its frame and of its arguments, its control parameters.
-use Rattle.std.proofs.Common.{◌≡◌, inl, ℕ, ◌+◌, ◌%◌, ◌<◌, Bool, true, false, List, [], ◌∷◌, Option, Some, None, refl, sym, ap, ◌∙◌, subst, arith, lit≤}
+use Rattle.std.proofs.Common.{◌≡◌, inl, ℕ, ◌+◌, ◌%◌, ◌<◌, Bool, true, false, List, [], ◌∷◌, length, Option, Some, None, refl, sym, ap, ◌∙◌, subst, arith, lit≤}
 use Rattle.std.specs.Prelude.{slice_get, nat_eq, nat_lt, if◌then◌else◌}
 use borrow.Author.Tests.{eqb-true, ltb-true}
 use Rattle.cw_i86.specs.declared.instr.Instr.TheVariants as i86
@@ -15,7 +15,10 @@ use Rattle.cw_order.specs.OrderState.{OrderActivation, OrderState, at, operand_w
 use Rattle.cw_order.specs.OrderActions.{home_word}
 use Rattle.cw_order.specs.OrderMachine.{after, unrefused, return_with, call, step}
 use Rattle.cw_follow.specs.Placing.{base_of}
-use Rattle.cw_tmpl.proofs.Sizes.{own_place}
+use Rattle.cw_i86.specs.Encoding.{bytes_of}
+use Rattle.cw_tmpl.specs.Mnemonics.{argument, load}
+use Rattle.cw_tmpl.specs.Templates.{argument_load_size}
+use Rattle.cw_tmpl.proofs.Sizes.{listed, own_place}
 use Rattle.cw_follow.proofs.Watched.{Watched}
 use Rattle.cw_follow.proofs.Standing.{order_place, HasAt}
 use Rattle.cw_follow.proofs.Stacks.{code_place}
@@ -84,16 +87,16 @@ module _ (known : Given) where
     binds_static k family offset e =
         let o = order.Bind k family offset in
         let home = home_word p.addresses g family offset in
-        let word = (all.stands g s.orders s.unit).value 2 family offset (here + 4 + 3) in
+        let word = (all.stands g s.orders s.unit).value 2 family offset (here + length (bytes_of (load 0 (argument k))) + 3) in
         does known s false 0 (unrefused (bind p.limits.area (argument_behind k a.arguments) (Some home) w)) 2 (begins_next known s by_itself o e) (step_is known s (Some o) e) (cheap known s o 2 (lit≤ tt) e)
-        (binds rows p image g next k home word 0 a acts (argument_behind k a.arguments) w low refl (behind known s by_itself o e)
-        ((all.stands g s.orders s.unit).fills.bytes family offset (here + 4 + 3)) (code known s by_itself o e) by_itself.landed)
+        (binds rows p image g next k home word 0 a acts (argument_behind k a.arguments) w low refl (omega (arith, behind known s by_itself o e, listed o))
+        ((all.stands g s.orders s.unit).fills.bytes family offset (here + length (bytes_of (load 0 (argument k))) + 3)) (code known s by_itself o e) by_itself.landed)
 
     pub binds_in_frame : (k offset : ℕ) → slice_get s.orders.list place ≡ Some (order.BindFrame k offset) → Follow known (at g place false (a ∷ acts) w Running) q
     binds_in_frame k offset e =
         let o = order.BindFrame k offset in
         does known s false 0 (unrefused (bind p.limits.area (argument_behind k a.arguments) (frame_word p.limits.area (a ∷ acts) offset) w)) 3 (begins_next known s by_itself o e) (step_is known s (Some o) e) (cheap known s o 3 (lit≤ tt) e)
-        (binds_frame rows p image g next k offset 0 a acts (argument_behind k a.arguments) w low refl (behind known s by_itself o e) (code known s by_itself o e) by_itself.landed)
+        (binds_frame rows p image g next k offset 0 a acts (argument_behind k a.arguments) w low refl (omega (arith, behind known s by_itself o e, listed o)) (code known s by_itself o e) by_itself.landed)
 
     -- ---- control parameters
 
@@ -110,7 +113,7 @@ module _ (known : Given) where
         cases (Some (Word z)) is = absurd (stuck_here known s (held_as (Some (Word z)) is))
         cases (Some (Held c)) is =
             holds_control known s by_itself (order.SpecialOut k) e c 4 (held_as (Some (Held c)) is) (cheap known s (order.SpecialOut k) 4 (lit≤ tt) e) (λ room.
-            hands_on rows p image g next k a acts c w room (behind known s by_itself (order.SpecialOut k) e) is (argument_stands p a.segment acts k a.arguments c s.working.3 is) (code known s by_itself (order.SpecialOut k) e) (landed_here known s by_itself))
+            hands_on rows p image g next k a acts c w room (omega (arith, behind known s by_itself (order.SpecialOut k) e, listed (order.SpecialOut k))) is (argument_stands p a.segment acts k a.arguments c s.working.3 is) (code known s by_itself (order.SpecialOut k) e) (landed_here known s by_itself))
 
     -- one that is called
     pub calls_parameter : (k line : ℕ) → slice_get s.orders.list place ≡ Some (order.CallSpecial k line) → (x : Option Operand) → argument_behind k a.arguments ≡ x
@@ -129,15 +132,17 @@ module _ (known : Given) where
             let o = order.CallSpecial k line in
             let own = own_place s.orders place in
             let st = all.stands g s.orders s.unit in
-            let return = st.value 3 0 ((own + 13) % 65536) (here + 3 + 4 + 3) in
-            let filled : return ≡ (base_of p g + (own + 13) % 65536) % 65536 = st.fills.places ((own + 13) % 65536) (here + 3 + 4 + 3) in
-            let sum : return ≡ (here + 13) % 65536 = omega arith in
+            let far : ℕ = argument_load_size k + 9 in
+            let end = here + 3 + length (bytes_of (load 0 (argument k))) + 3 in
+            let return = st.value 3 0 ((own + far) % 65536) end in
+            let filled : return ≡ (base_of p g + (own + far) % 65536) % 65536 = st.fills.places ((own + far) % 65536) end in
+            let sum : return ≡ (here + far) % 65536 = omega arith in
             let i = code known s by_itself o e in
             calls_procedure known s by_itself o e to n line 16 (called_as (Some (Held (ProcedureControl to n))) is) (weight_is known s o e) (λ c eg ep el same room.
             let fits = line_fits known s o e in
             let small : c.line < 65536 = omega arith in
             let line_there : HasAt (begins_here known s) image here (i86.MovImm 2 (imm.Word c.line)) = subst (λ n. HasAt (begins_here known s) image here (i86.MovImm 2 (imm.Word n))) (sym el) i.0 in
-            calls_special rows p image k return a acts c (ProcedureControl to n) w room small is same (sum ∙ back_is known s by_itself c 13 o e refl eg ep) (line_there, i.1) (landed_as known s by_itself c eg))
+            calls_special rows p image k return a acts c (ProcedureControl to n) w room small is same (sum ∙ back_is known s by_itself c far o e (listed o) eg ep) (line_there, i.1) (landed_as known s by_itself c eg))
 
   -- ---- the way back with an answer
 

@@ -4,6 +4,7 @@ use Rattle.std.proofs.lemmas.Bool.{cases_lt}
 use Rattle.std.proofs.lemmas.Bool.Decides.{nat_tests}
 use Rattle.std.specs.Prelude.{slice_get}
 use Rattle.std.proofs.lemmas.Bool.{le-leb}
+use Rattle.cw_tmpl.proofs.Sizes.{fetched_long, stored_long}
 use Rattle.cw_follow.proofs.Watched.{Watched}
 use Rattle.cw_word.specs.Word.{signed}
 use Rattle.cw_unit.specs.Stop.{Running}
@@ -177,7 +178,7 @@ module _ (known : Given) where
         let before = modes false true true (order.FrameHome n) 0 (order.Load ∷ rest) is_done e refl refl refl in
         let paid : 2 ≤ weight p (at g place loaded acts w Running) = let x = weight_is known s order.Load here in omega arith in
         last_does known s true 0 (λ v. unrefused (perform p.limits.area (Fetch None) v)) 2 1 _ is_done e ends.begins (step_in true order.Load before.now here) paid
-        (fetches_word rows p image g code_end n acts s.before low ends.behind (block_code known s (block.Fetch (cell.Frame n)) (order.FrameHome n) (order.Load ∷ rest) e is) (over_landed (begins_block known s) before.landed))
+        (fetches_word rows p image g code_end n acts s.before low (omega (arith, ends.behind, fetched_long n)) (block_code known s (block.Fetch (cell.Frame n)) (order.FrameHome n) (order.Load ∷ rest) e is) (over_landed (begins_block known s) before.landed))
 
     pub fetch_follows : (x : Place) (rest : List Order) → drop s.from s.orders.list ≡ address_orders x ++ order.Load ∷ rest → block_at 0 (drop s.from s.orders.list) ≡ block.Fetch x
         → FollowFrom known (begun_block known s) (at g place loaded acts w Running) q
@@ -206,7 +207,7 @@ module _ (known : Given) where
         let before = saved true 1 os is_done e refl in
         let paid : 2 ≤ weight p (at g place loaded acts w Running) = let x = weight_is known s order.Store here in omega arith in
         last_does known s false 0 (λ v. unrefused (perform p.limits.area (Store None) v)) 2 2 _ is_done e ends.begins (step_in true order.Store before.now here) paid
-        (assigns_word rows p image g code_end n acts s.before low ends.behind (block_code known s (block.Assign (cell.Frame n)) order.Save os e is) before.landed)
+        (assigns_word rows p image g code_end n acts s.before low (omega (arith, ends.behind, stored_long n)) (block_code known s (block.Assign (cell.Frame n)) order.Save os e is) before.landed)
 
     pub assign_follows : (x : Place) (rest : List Order) → drop s.from s.orders.list ≡ order.Save ∷ (address_orders x ++ order.Store ∷ rest) → block_at 0 (drop s.from s.orders.list) ≡ block.Assign x
         → Follow known (at g place loaded acts w Running) q

@@ -17,11 +17,11 @@ use Rattle.cw_order.specs.FittingWords.{ActivationFits}
 use Rattle.cw_tmpl.specs.Blocks.{left_at}
 use Rattle.cw_tmpl.specs.Library.{start_entry, start_place}
 use Rattle.cw_tmpl.specs.Pieces.{Filling}
-use Rattle.cw_tmpl.specs.Templates.{entry_pieces}
+use Rattle.cw_tmpl.specs.Templates.{entry_pieces, segment_word}
 use Rattle.cw_routines.specs.Results.{Stands}
 use Rattle.cw_follow.specs.Placing.{Fills, base_of}
 use Rattle.cw_follow.proofs.Watched.{Watched}
-use Rattle.cw_follow.proofs.Standing.{HasPieces, order_place, HasWord, Image}
+use Rattle.cw_follow.proofs.Standing.{HasPieces, order_place, HasWord, Image, number_there}
 use Rattle.cw_follow.proofs.Rows.{Rows}
 use Rattle.cw_follow.proofs.Chains.{Is, Leads, view, seen, to_place, number, call, jump_to, more}
 use Rattle.cw_follow.proofs.Routines.{Stacked, quiet_in, quiet_library, flags_of, arrives, returned, lifted, ends, leads_on, put_at}
@@ -89,13 +89,12 @@ enters rows {image} {q} p g next_place value base ax cx dx bx bp si di n overflo
     let area_is = fills.area (base + 3 + 2) in
     let frames_is = fills.frames (base + 3 + 2 + 2) in
     let depth_is = fills.depth (base + 3 + 2 + 2 + 2) in
-    let number_is = fills.number (base + 3 + 2 + 2 + 2 + 2) in
     let area : value 8 0 0 (base + 3 + 2) ≡ p.limits.area = omega arith in
     let frames : value 8 1 0 (base + 3 + 2 + 2) ≡ p.limits.frames = omega arith in
     let depth : value 8 2 0 (base + 3 + 2 + 2 + 2) ≡ p.limits.depth = omega arith in
-    let segment : value 8 3 0 (base + 3 + 2 + 2 + 2 + 2) ≡ suc g = omega arith in
     let four : base + 3 + 2 + 2 ≡ base + 3 + 4 = omega arith in
-    let six : base + 3 + 2 + 2 + 2 ≡ base + 3 + 6 = omega arith in
+    let nine : segment_word ≡ 9 = refl in
+    let six : base + segment_word ≡ base + 3 + 6 = omega arith in
     let few' : suc g < 256 = omega arith in
     more rows {to = start_place} {w = view ax cx dx bx (2 * n) bp si di overflow cells (put_word stack n (base + 3)) input told} s refl (to_place arrives_there (call rows by n (base + 3) lt top behind h.0 s)) (λ q t.
     lifted rows {n = 10} t.overlooks t.silent
@@ -104,7 +103,7 @@ enters rows {image} {q} p g next_place value base ax cx dx bx bp si di n overflo
     (subst (HasWord image (base + 3)) area h.1.0)
     (subst (HasWord image (base + 3 + 2)) frames h.1.1.0)
     (subst (λ m. HasWord image m p.limits.depth) four (subst (HasWord image (base + 3 + 2 + 2)) depth h.1.1.1.0))
-    (subst (λ m. HasWord image m (suc g)) six (subst (HasWord image (base + 3 + 2 + 2 + 2)) segment h.1.1.1.1.0))
+    (subst (λ m. HasWord image m (suc g)) six (number_there fills h few))
     (arrives t))
     (λ r b. record {
       stack = b.stack;

@@ -42,7 +42,8 @@ use Rattle.cw_tmpl.specs.Blocks.{orders_to_form, form_order, form_within, entrie
 use Rattle.cw_tmpl.specs.Library.{bounds_entry}
 use Rattle.cw_tmpl.specs.Mnemonics.{set_word, multiply}
 use Rattle.cw_tmpl.specs.Pieces.{Filling, blanks}
-use Rattle.cw_tmpl.specs.Templates.{indexes_between, top_below, top_from_lower, formed, top_lower_size, formed_size, block_size}
+use Rattle.cw_tmpl.specs.Templates.{indexes_between, top_below, top_from_lower, formed, block_size}
+use Rattle.cw_tmpl.specs.Sizes.{top_lower_size, formed_size}
 use Rattle.cw_tmpl.proofs.Sizes.{bounded_long}
 use Rattle.cw_follow.proofs.Watched.{Watched, watched_step}
 use Rattle.cw_follow.proofs.Chains.{Is, Leads, view, last, done, subtract_number}
@@ -67,12 +68,12 @@ use Rattle.cw_follow.proofs.BlockOrders.{code_end, room_in, within_block, inner_
 -- ---- arithmetic
 
 -- how many words an address is past the first one, for the number of an index from the lower bound on
-abbrev words_past : Form → ℕ → ℕ
+abbrev pub words_past : Form → ℕ → ℕ
 words_past (form.Element span line) n = n
 words_past (form.Entry width word span line) n = n * width + word
 
 -- what is known of the numbers of a form
-abbrev FormNumbers : ℤ → Form → Type 0
+abbrev pub FormNumbers : ℤ → Form → Type 0
 FormNumbers lower (form.Element span line) = Unit {0}
 FormNumbers lower (form.Entry width word span line) = (lower ≡ pos 0) × (width ≤ 32768)
 
@@ -81,7 +82,7 @@ line_in (form.Element span line) = line
 line_in (form.Entry width word span line) = line
 
 -- the word that the address is counted from
-abbrev first_of : (first : ℕ) → Form → ℕ
+abbrev pub first_of : (first : ℕ) → Form → ℕ
 first_of first (form.Element span line) = first
 first_of first (form.Entry width word span line) = first + word
 
@@ -150,17 +151,17 @@ formed_entry area b n width word v low within =
     same = omega (arith, ints)
 
 -- the bytes of the code
-lower_long : (l : ℤ) → length (blanks (top_from_lower l)) ≡ top_lower_size l
+pub lower_long : (l : ℤ) → length (blanks (top_from_lower l)) ≡ top_lower_size l
 lower_long (pos zero) = refl
 lower_long (pos (suc n)) = refl
 lower_long (negsuc n) = refl
 
 -- and its instructions
-abbrev formed_steps : Form → ℕ
+abbrev pub formed_steps : Form → ℕ
 formed_steps (form.Element span line) = 1
 formed_steps (form.Entry width word span line) = if width == 1 then 1 else 3
 
-few_formed : (f : Form) → formed_steps f ≤ 3
+pub few_formed : (f : Form) → formed_steps f ≤ 3
 few_formed (form.Element span line) = lit≤ tt
 few_formed (form.Entry width word span line) = cases (width == 1)
   where
@@ -172,7 +173,7 @@ few_formed (form.Entry width word span line) = cases (width == 1)
 
 module _ (c : Setting) (memory : List ℤ) (input output : List ℕ) (value : Filling) where
   -- a word in AX, and all else of use as it was
-  record InTop (at word si top : ℕ) (cells stack : ℕ → ℕ) (left : List ℕ) (told : Told) (q : Watched) : Type 0 where
+  pub record InTop (at word si top : ℕ) (cells stack : ℕ → ℕ) (left : List ℕ) (told : Told) (q : Watched) : Type 0 where
     pub cx : ℕ
     pub dx : ℕ
     pub bx : ℕ
@@ -184,7 +185,7 @@ module _ (c : Setting) (memory : List ℤ) (input output : List ℕ) (value : Fi
     takes_lower : (n : ℕ) → Has c.image at (with_number 5 n) → Leads output 1 p (InTop (at + 3) (word_difference word n) si top cells stack left told)
     takes_lower n h = last c.rows s.is kept.wrote (record { cx = s.cx; dx = s.dx; bx = s.bx; overflow = _; is = subtract_number c.rows n h s.is })
 
-    less_lower : (lower : ℤ) (rest : List Coded) → HasPieces c.image value at (top_from_lower lower ++ rest) → Leads output (lower_steps lower) p (InTop (at + top_lower_size lower) (word_difference word (unsigned lower)) si top cells stack left told)
+    pub less_lower : (lower : ℤ) (rest : List Coded) → HasPieces c.image value at (top_from_lower lower ++ rest) → Leads output (lower_steps lower) p (InTop (at + top_lower_size lower) (word_difference word (unsigned lower)) si top cells stack left told)
     less_lower (pos zero) rest h =
         let same : word ≡ word_difference word 0 = omega (arith, small) in
         let here : at ≡ at + 0 = omega arith in
@@ -208,7 +209,7 @@ module _ (c : Setting) (memory : List ℤ) (input output : List ℕ) (value : Fi
 
   -- the number of an index from the lower bound on, and the address that is formed of it
   module _ {si : ℕ} {cells stack : ℕ → ℕ} {left : List ℕ} {told : Told} (top : ℕ) (kept : Kept c.program c.g c.acts memory input output cells stack left told) where
-    forms : {p : Watched} {at : ℕ} (family first base n : ℕ) (lower : ℤ) (f : Form) → FormNumbers lower f → n < 32768 → base + words_past f n < 32768
+    pub forms : {p : Watched} {at : ℕ} (family first base n : ℕ) (lower : ℤ) (f : Form) → FormNumbers lower f → n < 32768 → base + words_past f n < 32768
         → ((after : ℕ) → value 1 family (first_of first f) after ≡ base + (words_past f 0)) → HasPieces c.image value at (formed family first f) → InTop at n si top cells stack left told p
         → Leads output (formed_steps f) p (InTop (at + formed_size f) (base + words_past f n) si top cells stack left told)
     forms {p} {at} family first base n lower (form.Element span line) numbers few low named h s =
@@ -236,6 +237,10 @@ module _ (c : Setting) (memory : List ℤ) (input output : List ℕ) (value : Fi
             (adds_word top (omega arith) kept t family (first + word) (base + (0 * width + word)) (base + (n * width + word)) (named (at + 3 + 2 + 4)) (omega arith) h.1.1))
 
 -- ---- the orders
+
+-- a mode that is known, and its other name
+pub same_mode : (before now mode : Bool) → Some before ≡ Some now → before ≡ mode → now ≡ mode
+same_mode before now mode same is = cc
 
 module _ (known : Given) where
   open known use {rows, p, image, all, coded, few, low}
@@ -338,13 +343,13 @@ module _ (known : Given) where
 
     -- the stop, where the index is not between the bounds
     bounds_stop : (b : Bounds) (family first : ℕ) (f : Form) (z : Known b family first f) (x : ℤ) (rest : List Operand) (l : Top x rest) → FitsWord x → Parts b family first f → is_between b x ≡ false → (to : ℕ) (m : Bool)
-        → DoesHere (setting known s) s.before.memory s.before.input s.before.output 20 to m b.line q (Refused IndexRange)
+        → DoesHere (setting known s) s.before.memory s.before.input s.before.output 22 to m b.line q (Refused IndexRange)
     bounds_stop b family first f z x rest l fx h fails to m =
         let count = count_is b family first f z in
         let past = past_bounds b.lower b.upper x z.last z.lower_fits z.upper_fits fx z.last_is fails in
         let few_first = few_lower b.lower in
         let stop = test_at b + 3 + 2 + 3 in
-        later p image 15 to g m b.line acts (lower_steps b.lower) 20 (Refused IndexRange) (omega arith) (numbered b family first f x rest l fx h)
+        later p image 15 to g m b.line acts (lower_steps b.lower) 22 (Refused IndexRange) (omega arith) (numbered b family first f x rest l fx h)
         (λ t u.
         count_stops (setting known s) s.before.memory s.before.input s.before.output (λ k. HasPieces image value_of k (formed family first f)) (by known s bounds_entry stop) b.line l.top (indexes_between (b.upper -ℤ b.lower)) l.kept h.tests u.is
         to m z.small l.low (calls known s bounds_entry stop (lit< tt)) (omega arith))
@@ -467,22 +472,22 @@ module _ (known : Given) where
         before_is = let same : Changed s.before ≡ Changed w = did_as known s 0 _ is_done list in cc
 
         tested : (x : ℤ) (under : List Operand) → s.before.operands ≡ Word x ∷ under → Landed p image (start_place known s) g true acts s.before q → (t : Bool) → is_between b.bounds x ≡ t → (m : Bool) (kind : StopKind)
-            → put_if t IndexRange x (with_operands s.before under) ≡ Refused kind → Does p image 20 0 g m b.bounds.line acts s.before.output q (Refused kind)
+            → put_if t IndexRange x (with_operands s.before under) ≡ Refused kind → Does p image 22 0 g m b.bounds.line acts s.before.output q (Refused kind)
         tested x under same l true holds m kind refused = absurd (cc)
         tested x under same l false fails m kind refused =
             let kind_is : IndexRange ≡ kind = cc in
-            subst (λ k. Does p image 20 0 g m b.bounds.line acts s.before.output q (Refused k)) kind_is
+            subst (λ k. Does p image 22 0 g m b.bounds.line acts s.before.output q (Refused k)) kind_is
             (bounds_stop b.bounds b.family b.first b.form z x under (top_there x under same l) (top_fits x under same) h fails 0 m)
 
         stops : (ops : List Operand) → s.before.operands ≡ ops → Landed p image (start_place known s) g true acts s.before q → (m : Bool) (kind : StopKind)
-            → on_one (λ i v. put_if (int_le b.bounds.lower i && int_le i b.bounds.upper) IndexRange i v) ops s.before ≡ Refused kind → Does p image 20 0 g m b.bounds.line acts s.before.output q (Refused kind)
+            → on_one (λ i v. put_if (int_le b.bounds.lower i && int_le i b.bounds.upper) IndexRange i v) ops s.before ≡ Refused kind → Does p image 22 0 g m b.bounds.line acts s.before.output q (Refused kind)
         stops [] same l m kind refused = absurd (cc)
         stops (Held c ∷ under) same l m kind refused = absurd (cc)
         stops (Word x ∷ under) same l m kind refused = tested x under same l (is_between b.bounds x) refl m kind refused
 
         cases : (m : Bool) → s.loaded_before ≡ m → Follow known (at_order g place loaded acts w Running) q
         cases false free =
-            let now : loaded ≡ false = cc in
+            let now : loaded ≡ false = same_mode s.loaded_before loaded false mode free in
             absurd (wrong_way known s o here (ap (loaded_after o) now))
         cases true full =
             let l : Landed p image (start_place known s) g true acts s.before q = subst (λ m. Landed p image (start_place known s) g m acts s.before q) full s.landed in

@@ -13,15 +13,16 @@ use Rattle.cw_order.specs.OrderProgram.{OrderProgram}
 use Rattle.cw_tmpl.specs.declared.pieces.Coded.{Coded}
 use Rattle.cw_tmpl.specs.declared.pieces.Coded.TheVariants as coded
 use Rattle.cw_tmpl.specs.Pieces.{Filling, bytes_with, size_of, target_of, word_before, blanks}
-use Rattle.cw_tmpl.specs.Mnemonics.{entry_of_table, change_memory, operate_number, load, memory}
-use Rattle.cw_tmpl.specs.Names.{landing_start, switch_start}
+use Rattle.cw_tmpl.specs.Mnemonics.{entry_of_table, change_memory, operate_number, load, memory, code_at}
+use Rattle.cw_tmpl.specs.Names.{landing_start, switch_start, has_landing}
+use Rattle.cw_tmpl.specs.Named.{is_named_label, is_named_switch}
 use Rattle.cw_tmpl.specs.Library.{entry_place}
 use Rattle.cw_routines.specs.Ways.{HasWord}
 use Rattle.cw_routines.specs.Results.{Stands as LibraryStands}
 use Rattle.cw_tmpl.specs.Templates.{entry_pieces, landing_pieces, switch_pieces}
 use Rattle.cw_tmpl.proofs.Growing.{blanks-append}
 use Rattle.cw_tmpl.specs.Blocks.{block_at, left_at}
-use Rattle.cw_tmpl.specs.ReferenceCode.{names_of, pieces_of, switches_place}
+use Rattle.cw_tmpl.specs.ReferenceCode.{names_of, pieces_of, landings_place, switches_place}
 use Rattle.cw_follow.specs.Placing.{Fills, base_of}
 use Rattle.cw_tmpl.proofs.Sizes.{own_place, pieces_by}
 
@@ -33,6 +34,7 @@ HasPiece code w place (coded.Sum reg t) = Has code place (operate_number 0 reg w
 HasPiece code w place (coded.Fetch reg t) = Has code place (load reg (memory (places.Direct w)))
 HasPiece code w place (coded.Load t) = Has code place (i86.MovAcc false true false w)
 HasPiece code w place (coded.Store t) = Has code place (i86.MovAcc false true true w)
+HasPiece code w place (coded.PushCode t) = Has code place (i86.PushRm (code_at w))
 HasPiece code w place (coded.Operate op reg t) = Has code place (with_memory op reg w)
 HasPiece code w place (coded.Change op reg t) = Has code place (change_memory op w reg)
 HasPiece code w place (coded.Call t) = Has code place (i86.Call w)
@@ -65,17 +67,20 @@ order_place base o k = base + own_place o k
 abbrev pub pieces_at : Orders → (place : ℕ) → Order → List Coded
 pieces_at o k order = pieces_by (names_of o) (own_place o k) k (block_at (left_at 0 o.list k) (drop k o.list)) order
 
--- a segment's code in an image: its filled words, its entry, each order's pieces, the landings of labels and the routines of switches
+-- a segment's code in an image: its filled words, its entry, each order's pieces, the landings of the labels that have one and the routines of
+-- the switches that something names
 pub record Stands (p : OrderProgram) (image : List ℕ) (g : ℕ) (o : Orders) : Type 0 where
   pub value : Filling
   pub next_place : ℕ
   pub fills : Fills p g next_place value
   pub entry : HasPieces image value (base_of p g) entry_pieces
   pub orders : (k : ℕ) (order : Order) → slice_get o.list k ≡ Some order → HasPieces image value (order_place (base_of p g) o k) (pieces_at o k order)
-  pub landings : (l : ℕ) (m : LabelMark) → slice_get o.labels l ≡ Some m → HasPieces image value (base_of p g + landing_start (names_of o) l) (landing_pieces (names_of o) (landing_start (names_of o) l) m)
-  pub landings_within : (l : ℕ) (m : LabelMark) → slice_get o.labels l ≡ Some m → landing_start (names_of o) l + length (blanks (landing_pieces (names_of o) (landing_start (names_of o) l) m)) ≤ length (blanks (pieces_of o))
-  pub switches_within : (n : ℕ) (gs : List Goal) → slice_get o.switches n ≡ Some gs → (switches_place o ≤ switch_start (names_of o) n) × (switch_start (names_of o) n + length (blanks (switch_pieces (names_of o) (switch_start (names_of o) n) gs)) ≤ length (blanks (pieces_of o)))
-  pub switches : (n : ℕ) (gs : List Goal) → slice_get o.switches n ≡ Some gs → HasPieces image value (base_of p g + switch_start (names_of o) n) (switch_pieces (names_of o) (switch_start (names_of o) n) gs)
+  pub landings : (l : ℕ) (m : LabelMark) → slice_get o.labels l ≡ Some m → has_landing (is_named_label o) l m ≡ true → HasPieces image value (base_of p g + landing_start (names_of o) l) (landing_pieces (names_of o) (landing_start (names_of o) l) m)
+  pub landings_within : (l : ℕ) (m : LabelMark) → slice_get o.labels l ≡ Some m → has_landing (is_named_label o) l m ≡ true
+      → (landings_place o ≤ landing_start (names_of o) l) × (landing_start (names_of o) l + length (blanks (landing_pieces (names_of o) (landing_start (names_of o) l) m)) ≤ length (blanks (pieces_of o)))
+  pub switches_within : (n : ℕ) (gs : List Goal) → slice_get o.switches n ≡ Some gs → is_named_switch o n ≡ true
+      → (switches_place o ≤ switch_start (names_of o) n) × (switch_start (names_of o) n + length (blanks (switch_pieces (names_of o) (switch_start (names_of o) n) gs)) ≤ length (blanks (pieces_of o)))
+  pub switches : (n : ℕ) (gs : List Goal) → slice_get o.switches n ≡ Some gs → is_named_switch o n ≡ true → HasPieces image value (base_of p g + switch_start (names_of o) n) (switch_pieces (names_of o) (switch_start (names_of o) n) gs)
 
 -- all segments' codes, and the library
 pub record AllStand (p : OrderProgram) (image : List ℕ) : Type 0 where

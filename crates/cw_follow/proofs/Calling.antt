@@ -26,6 +26,7 @@ use Rattle.cw_tmpl.proofs.Sizes.{own_place, mark_start, jump_arrives, size_by}
 use Rattle.cw_follow.proofs.Watched.{Watched}
 use Rattle.cw_follow.proofs.Standing.{order_place, HasFrom}
 use Rattle.cw_follow.proofs.Chains.{to_place}
+use Rattle.cw_follow.proofs.Named.{shared_label_named, shared_switch_named}
 use Rattle.cw_follow.proofs.Stacks.{record_of, code_place, control_place, OwnerIs}
 use Rattle.cw_follow.proofs.Orders.{Landed, Leading, CalledAt, LandedAt}
 use Rattle.cw_follow.proofs.States.{Given, ComesBack, Sound, Arrived, has_unit, not_stuck, went_on, stand_below, come_back_below}
@@ -281,7 +282,7 @@ module _ (known : Given) where
 
         cases : (x : Option (ℕ × Def)) → defined_at p g d ≡ x → FollowFrom known (begun_here known s) F q
         cases (Some (to, def.Label l)) is =
-            controls_common (LabelControl to l (length acts)) (order.LabelCommon d) d e (held_as (Some (to, def.Label l)) is) (lit≤ tt) refl (ap (definition_place p) is) (owned s by_itself) (code known s by_itself (order.LabelCommon d) e)
+            controls_common (LabelControl to l (length acts)) (order.LabelCommon d) d e (held_as (Some (to, def.Label l)) is) (lit≤ tt) refl (ap (definition_place p) is) (owned s by_itself, λ o unit. shared_label_named o l (coded.shared g d to (def.Label l) o is unit)) (code known s by_itself (order.LabelCommon d) e)
         cases (Some (to, def.Proc n)) is = absurd (stuck_here known s (step_is known s (Some (order.LabelCommon d)) e ∙ held_as (Some (to, def.Proc n)) is))
         cases (Some (to, def.Switch n)) is = absurd (stuck_here known s (step_is known s (Some (order.LabelCommon d)) e ∙ held_as (Some (to, def.Switch n)) is))
         cases None is = absurd (stuck_here known s (step_is known s (Some (order.LabelCommon d)) e ∙ held_as None is))
@@ -295,7 +296,7 @@ module _ (known : Given) where
 
         cases : (x : Option (ℕ × Def)) → defined_at p g d ≡ x → FollowFrom known (begun_here known s) F q
         cases (Some (to, def.Switch n)) is =
-            controls_common (SwitchControl to n (length acts)) (order.SwitchCommon d) d e (held_as (Some (to, def.Switch n)) is) (lit≤ tt) refl (ap (definition_place p) is) (owned s by_itself) (code known s by_itself (order.SwitchCommon d) e)
+            controls_common (SwitchControl to n (length acts)) (order.SwitchCommon d) d e (held_as (Some (to, def.Switch n)) is) (lit≤ tt) refl (ap (definition_place p) is) (owned s by_itself, λ o unit. shared_switch_named o n (coded.shared g d to (def.Switch n) o is unit)) (code known s by_itself (order.SwitchCommon d) e)
         cases (Some (to, def.Proc n)) is = absurd (stuck_here known s (step_is known s (Some (order.SwitchCommon d)) e ∙ held_as (Some (to, def.Proc n)) is))
         cases (Some (to, def.Label l)) is = absurd (stuck_here known s (step_is known s (Some (order.SwitchCommon d)) e ∙ held_as (Some (to, def.Label l)) is))
         cases None is = absurd (stuck_here known s (step_is known s (Some (order.SwitchCommon d)) e ∙ held_as None is))

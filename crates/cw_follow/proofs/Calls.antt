@@ -11,16 +11,16 @@ use Rattle.cw_unit.specs.Stop.{FramesFull, DepthReached, Stopped}
 use Rattle.cw_unit.specs.Words.{Words}
 use Rattle.cw_order.specs.OrderProgram.{OrderProgram}
 use Rattle.cw_order.specs.OrderState.{OrderActivation, operand_words, stack_words, frame_end}
-use Rattle.cw_tmpl.specs.Library.{enter_place}
+use Rattle.cw_tmpl.specs.Library.{enter_place, enter_stop_place}
 use Rattle.cw_routines.specs.Results as results
-use Rattle.cw_routines.specs.Results.{Begins}
+use Rattle.cw_routines.specs.Results.{Begins, begin}
 use Rattle.cw_follow.proofs.Watched.{Watched, watched_machine, fresh}
 use Rattle.cw_follow.proofs.Rows.{Rows}
 use Rattle.cw_follow.proofs.Chains.{Is, Leads, view, seen, to_place, number, call, more, last, IsAt}
-use Rattle.cw_follow.proofs.Routines.{Over, quiet_in, quiet_library, flags_of, arrives, returned, lifted, over, put_at}
+use Rattle.cw_follow.proofs.Routines.{Over, quiet_in, quiet_library, quiet_all, there_all, flags_of, arrives, returned, lifted, over, put_at}
 use Rattle.cw_follow.proofs.Stacks.{level, record_of, code_place, base_word, words_behind, StackIs, Piled, words_split, words_append, top_is, SameFrom, same_put, same_above, stack_same, piled_same}
 use Rattle.cw_follow.proofs.Orders.{Kept, kept_under, kept_same, Landed, Leading, CalledAt, further, LandedAt}
-use Rattle.cw_follow.proofs.Standing.{Has, HasWord, Image, Ignores, HasFrom}
+use Rattle.cw_follow.proofs.Standing.{Has, HasAll, HasWord, Image, Ignores, HasFrom}
 
 -- no more than so many instructions
 pub record Few (output : List ℕ) (limit : ℕ) (p : Watched) (Target : Watched → Type 0) : Type 0 where
@@ -183,6 +183,28 @@ module _ (rows : Rows) (prog : OrderProgram) (image : Image) where
       ends {q} T u true false to output e begins d = subst (λ o. Over (record { output = o; end = Stopped FramesFull (a.segment + 1) a.line }) (fresh u.places u.area q)) e (over u d)
       ends T u true true to output e begins d = begins d
 
+      -- the caller's record
+      caller_is : {cells stack : ℕ → ℕ} {input : List ℕ} {told : Told} → level acts < 32765 → Kept prog a.segment acts w.memory w.input w.output cells stack input told
+          → results.RecordIs stack (record_of acts) (level acts) (a.segment + 1) (prog.limits.depth - length acts) (base_word prog acts) (words_behind prog acts)
+      caller_is low k = record {
+        there = (let e : record_of acts ≡ 2 * (level acts + 4) % 65536 = omega arith in e);
+        low = low;
+        number = k.piled.0.number_is;
+        few = (let f = k.piled.0.few in omega arith);
+        left = k.piled.0.left_is;
+        base_is = k.piled.0.base_is;
+        rest_is = k.piled.0.rest_is;
+      }
+
+      -- by the tests of the machine of orders
+      tested : (q : Processor) (u : Watched) (to : ℕ) → EntersTo (nat_lt 0 (prog.limits.depth - length acts)) (nat_le size (words_behind prog acts)) to (fresh u.places u.area q)
+          → EntersTo (nat_lt (length acts) prog.limits.depth) (nat_le (a.frame_base + size) prog.limits.area) to (fresh u.places u.area q)
+      tested q u to h =
+          let area = prog.limits.area in
+          let fit_is : nat_le size (words_behind prog acts) ≡ nat_le (a.frame_base + size) area = ap (λ n. nat_le size (area - n)) (sym base_is) ∙ frame_tests a.frame_base size area base_low in
+          subst (λ b. EntersTo b (nat_le (a.frame_base + size) area) to (fresh u.places u.area q)) (left_tests (length acts) prog.limits.depth)
+          (subst (λ b. EntersTo (nat_lt 0 (prog.limits.depth - length acts)) b to (fresh u.places u.area q)) fit_is h)
+
       -- the routine, with the place of its words on the stack
       routine : {u : Watched} {cells stack : ℕ → ℕ} {input : List ℕ} {told : Told} (at to ax cx bx si : ℕ) (overflow : Bool) → results.Stands image.bytes → prog.limits.area ≤ 32768
           → size < 65536 → prog.limits.depth < 65536 → a.line < 65536
@@ -199,16 +221,7 @@ module _ (rows : Rows) (prog : OrderProgram) (image : Image) where
           let calls_left = prog.limits.depth - length acts in
           let rest = words_behind prog acts in
           let t = top_is prog acts stack (r + 6) (a.arguments ++ a.operands) h in
-          let caller : results.RecordIs stack bp l (a.segment + 1) calls_left (base_word prog acts) rest = record {
-            there = (let e : bp ≡ 2 * (l + 4) % 65536 = omega arith in e);
-            low = omega arith;
-            number = k.piled.0.number_is;
-            few = (let f = k.piled.0.few in omega arith);
-            left = k.piled.0.left_is;
-            base_is = k.piled.0.base_is;
-            rest_is = k.piled.0.rest_is;
-          } in
-          let fit_is : nat_le size rest ≡ nat_le (a.frame_base + size) area = ap (λ n. nat_le size (area - n)) (sym base_is) ∙ frame_tests a.frame_base size area base_low in
+          let caller = caller_is (omega arith) k in
           let law = rows.routines.enter (quiet_in u.places) image.bytes library (quiet_library s.ignores) r at a.line l (a.segment + 1) calls_left (base_word prog acts) rest
           (g + 1) size ax cx bx bp si area (flags_of u) cells stack input told u.processor
           (omega arith) at_is size_there number_there line_small (omega arith) (omega arith) small (omega arith) low caller (arrives s) in
@@ -217,17 +230,16 @@ module _ (rows : Rows) (prog : OrderProgram) (image : Image) where
             within = law.within;
             leads = subst (λ o. Leads o law.spent u (EntersTo (nat_lt (length acts) prog.limits.depth) (nat_le (a.frame_base + size) area) to)) k.wrote
                 (lifted rows {n = law.spent} {U = EntersTo (nat_lt (length acts) prog.limits.depth) (nat_le (a.frame_base + size) area) to} s.overlooks s.silent law.leads (λ t d.
-                subst (λ b. EntersTo b (nat_le (a.frame_base + size) area) to (fresh u.places u.area t)) (left_tests (length acts) prog.limits.depth)
-                (subst (λ b. EntersTo (nat_lt 0 calls_left) b to (fresh u.places u.area t)) fit_is
+                tested t u to
                 (ends (results.Entered image.bytes (at + 4) r bp (g + 1) (calls_left - 1) (2 * (area - rest) % 65536) (rest - size) area cells stack input told) u (nat_lt 0 calls_left) (nat_le size rest) to told.output k.wrote
-                (entered u (at + 4) to there s.ignores return h k) d))));
+                (entered u (at + 4) to there s.ignores return h k) d)));
           }
 
       -- the code of Enter, in the called procedure
       pub begins : {q : Watched} (at by segment : ℕ) → results.Stands image.bytes → prog.limits.area ≤ 32768 → size < 65536 → prog.limits.depth < 65536 → segment ≡ g + 1
           → (at + 3 + by) % 65536 ≡ enter_place % 65536
           → Has image at (i86.Call by) → HasWord image (at + 3) size → HasWord image (at + 3 + 2) segment → CalledAt prog image at a acts w q
-          → Leading w.output 19 q (EntersTo (nat_lt (length acts) prog.limits.depth) (nat_le (a.frame_base + size) prog.limits.area) (at + 7))
+          → Leading w.output 21 q (EntersTo (nat_lt (length acts) prog.limits.depth) (nat_le (a.frame_base + size) prog.limits.area) (at + 7))
       begins {q} at by segment library low small depth_low number_is arrives_at i size_there number_there c =
           let r = level (begun ∷ acts) in
           let xs = a.arguments ++ a.operands in
@@ -253,7 +265,48 @@ module _ (rows : Rows) (prog : OrderProgram) (image : Image) where
           let past : (at + 3 + 4) % 65536 ≡ (at + 7) % 65536 = omega arith in
           let start : Is image at (view c.ax c.cx a.line c.bx (2 * suc (r + 4)) bp c.si area c.overflow c.cells c.stack c.input c.told) q =
           seen refl (ap (λ n. view c.ax c.cx a.line c.bx (2 * n) bp c.si area c.overflow c.cells c.stack c.input c.told) top_at) c.is in
-          and_few {T = Is image enter_place (view c.ax c.cx a.line c.bx (2 * (r + 4)) bp c.si area c.overflow c.cells stack c.input c.told)} 1 18 19 (lit< tt) (lit≤ tt)
+          and_few {T = Is image enter_place (view c.ax c.cx a.line c.bx (2 * (r + 4)) bp c.si area c.overflow c.cells stack c.input c.told)} 1 18 21 (lit< tt) (lit≤ tt)
           (last rows start c.kept.wrote (to_place arrives_at (call rows by (r + 4) (at + 3) below sp_top behind i start)))
           (λ q u.
           routine (at + 3) (at + 7) c.ax c.cx c.bx c.si c.overflow library low small depth_low c.small (put_at c.stack (r + 4) (at + 3)) size_there (subst (HasWord image (at + 3 + 2)) number_is number_there) past return h k u)
+
+      -- the code of Enter where the frame has words
+      pub begins_framed : {q : Watched} (at place by : ℕ) → results.Stands image.bytes → prog.limits.area ≤ 32768 → size < 65536 → prog.limits.depth < 65536
+          → (at + 22 + by) % 65536 ≡ enter_stop_place → HasWord image place (g + 1) → HasAll image at (begin size place by) → CalledAt prog image at a acts w q
+          → Leading w.output 21 q (EntersTo (nat_lt (length acts) prog.limits.depth) (nat_le (a.frame_base + size) prog.limits.area) (at + 34))
+      begins_framed {q} at place by library low small depth_low arrives_at named i c =
+          let r = level (begun ∷ acts) in
+          let xs = a.arguments ++ a.operands in
+          let l = level acts in
+          let bp = record_of acts in
+          let area = prog.limits.area in
+          let calls_left = prog.limits.depth - length acts in
+          let rest = words_behind prog acts in
+          let shallow = nat_lt (length acts) prog.limits.depth in
+          let fits = nat_le (a.frame_base + size) area in
+          let t = top_is prog acts c.stack (suc c.top) xs c.operands in
+          let ws = words_append a.arguments a.operands in
+          let sp = words_split a.operands acts in
+          let top_at : c.top ≡ suc (r + 4) = omega arith in
+          let five : r + 5 ≡ c.top = omega arith in
+          let six : suc c.top ≡ r + 6 = omega arith in
+          let h : StackIs prog acts c.stack (r + 6) xs = subst (λ n. StackIs prog acts c.stack n xs) six c.operands in
+          let return : c.stack (r + 5) ≡ code_place prog a.segment a.place = ap c.stack five ∙ c.back in
+          let start : Is image at (view c.ax c.cx a.line c.bx (2 * suc (r + 4)) bp c.si area c.overflow c.cells c.stack c.input c.told) q =
+          seen refl (ap (λ n. view c.ax c.cx a.line c.bx (2 * n) bp c.si area c.overflow c.cells c.stack c.input c.told) top_at) c.is in
+          let law = rows.routines.beginning (quiet_in q.places) image.bytes library (quiet_library start.ignores) at size place (g + 1) by arrives_at named
+          (quiet_all start.ignores at (begin size place by) i) (there_all image at (begin size place by) i) r a.line l (a.segment + 1) calls_left (base_word prog acts) rest
+          c.ax c.cx c.bx bp c.si area (flags_of q) c.cells c.stack c.input c.told q.processor
+          (omega arith) c.small (omega arith) (omega arith) small (omega arith) low (caller_is (omega arith) c.kept) (arrives start) in
+          subst (λ o. Leading o 21 q (EntersTo shallow fits (at + 34))) c.kept.wrote
+          (and_few {T = λ u. Few c.told.output 20 u (EntersTo shallow fits (at + 34))} 1 20 21 (lit< tt) (lit≤ tt)
+          (lifted rows {n = 1} {U = λ u. Few c.told.output 20 u (EntersTo shallow fits (at + 34))} start.overlooks start.silent law (λ t d.
+          record {
+            spent = d.spent;
+            within = d.within;
+            leads = lifted rows {n = d.spent} {p = fresh q.places q.area t} {U = EntersTo shallow fits (at + 34)} refl refl d.leads (λ v e.
+                tested v q (at + 34)
+                (ends (results.Entered image.bytes (at + 34) r bp (g + 1) (calls_left - 1) (2 * (area - rest) % 65536) (rest - size) area c.cells c.stack c.input c.told) q (nat_lt 0 calls_left) (nat_le size rest) (at + 34) c.told.output c.kept.wrote
+                (entered q (at + 34) (at + 34) refl start.ignores return h c.kept) e));
+          }))
+          (λ u f. f))

@@ -20,7 +20,7 @@ use Rattle.cw_unit.specs.Begun.{Begun}
 use Rattle.cw_unit.specs.Behaviour.{Observation}
 use Rattle.cw_image.specs.Begun.{lines_at}
 use Rattle.std.specs.Prelude.{slice_index}
-use Rattle.cw_tmpl.specs.Mnemonics.{slot, at_bx, argument, entry_of_table}
+use Rattle.cw_tmpl.specs.Mnemonics.{slot, at_bx, entry_of_table}
 use Rattle.cw_follow.specs.Showing.{shown_as}
 use Rattle.cw_follow.proofs.Rows.{Rows}
 
@@ -324,6 +324,17 @@ module _ (rows : Rows) where
       let here = has i (omega arith) h s in
       moved at i v here s (rows.passes_if image.bytes (placed at v) condition by p.processor here.there s.sees is).0
 
+  -- jumps where the overflow flag is set
+  overflow_holds : {image : Image} {at : ℕ} {v : View} {p : Watched} {first : Bool} → IsAt first image at v p → holds p.processor.state.flags 0 ≡ v.overflow
+  unfolding holds
+  overflow_holds s = s.sees.overflow
+
+  pub jump_overflow : {image : Image} {at : ℕ} {v : View} {p : Watched} {first : Bool} (by : ℕ) → v.overflow ≡ true → HasAt first image at (i86.JumpIf 0 by) → IsAt first image at v p → Is image (at + 2 + sign_extended by) v (watched_step p)
+  jump_overflow by on h s = jump_if 0 by (overflow_holds s ∙ on) h s
+
+  pub pass_overflow : {image : Image} {at : ℕ} {v : View} {p : Watched} {first : Bool} (by : ℕ) → v.overflow ≡ false → HasAt first image at (i86.JumpIf 0 by) → IsAt first image at v p → Is image (at + 2) v (watched_step p)
+  pass_overflow by off h s = pass_if 0 by (overflow_holds s ∙ off) h s
+
   pub jumps_below : {image : Image} {at : ℕ} {v : View} {p : Watched} {first : Bool} (r q by : ℕ) → register v r < register v q
       → HasAt first image at (compare_of r q) → Has image (at + 2) (i86.JumpIf 2 by) → IsAt first image at v p → Is image (at + 2 + 2 + sign_extended by) (with_overflow (difference_overflows (register v r) (register v q)) v) (watched_step (watched_step p))
   jumps_below r q by lt h j s = jump_below by lt j (compare r q h s)
@@ -362,12 +373,6 @@ module _ (rows : Rows) where
       let i = i86.JumpRm (entry_of_table by) in
       let here = has i (omega arith) h s in
       went i here s (rows.through_table image.bytes (placed at v) by entry (to % 65536) here.there e within word p.processor s.sees)
-
-  pub load_argument : {image : Image} {at : ℕ} {v : View} {p : Watched} {first : Bool} (r n k : ℕ) → k < 32768 → (register v 5 + (4 + 2 * n)) % 65536 ≡ 2 * k → HasAt first image at (i86.Mov true true r (argument n)) → IsAt first image at v p → Is image (at + 4) (with_register r (v.stack k) v) (watched_step p)
-  load_argument {image} {at} {v} {p} r n k lt e h s =
-      let i = i86.Mov true true r (argument n) in
-      let here = has i (omega arith) h s in
-      moved at i (with_register r (v.stack k) v) here s (rows.load_argument image.bytes (placed at v) r (4 + 2 * n) k here.there lt e p.processor s.sees)
 
   pub store_slot : {image : Image} {at : ℕ} {v : View} {p : Watched} {first : Bool} (r by k : ℕ) → k < 32768 → (register v 5 + sign_extended by) % 65536 ≡ 2 * k → HasAt first image at (i86.Mov true false r (slot by)) → IsAt first image at v p → Is image (at + 3) (with_stack k (register v r) v) (watched_step p)
   store_slot {image} {at} {v} {p} r by k lt e h s =

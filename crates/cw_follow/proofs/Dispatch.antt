@@ -53,6 +53,7 @@ use Rattle.cw_follow.proofs.States.{Given, Sound, Starting, LastStarts, length_i
 use Rattle.cw_follow.proofs.Steps.{FollowFrom, Follow, waits, passes_on, moves, Arrives, is_codeless, order_is, step_is, weight_is, stuck_here, wrong_way, sound_at, start, chosen, Alone, alone, code, behind, begins_next, begins_here, begins_block, begun_block, landed_here, silent, two_roomy, reaches_alone, short_alone}
 use Rattle.cw_follow.proofs.Bodies.{ends_or_not}
 use Rattle.cw_follow.proofs.Beginning.{begins_activation}
+use Rattle.cw_follow.proofs.SwitchWays.{way_follows}
 use Rattle.cw_follow.proofs.Loops.{set_follows, step_follows, put_follows, limit_follows, loop_follows, turn_follows}
 use Rattle.cw_follow.proofs.Calling.{calls_own, calls_common, controls_own, owned, labels_common, switches_common, procedures_common, goes_to_main}
 use Rattle.cw_follow.proofs.Jumping.{goes_common}
@@ -64,10 +65,13 @@ use Rattle.cw_follow.proofs.BlockOrders.{fetch_follows, assign_follows, divide_n
 use Rattle.cw_follow.proofs.UseBlocks.{operand_follows}
 use Rattle.cw_follow.proofs.ElementBlocks.{fetch_element_follows, assign_element_follows, operate_element_follows}
 use Rattle.cw_follow.proofs.BoundedBlocks.{bounded_follows}
+use Rattle.cw_follow.proofs.RowBlocks.{row_follows}
 use Rattle.cw_follow.proofs.PartBlocks.{fetch_part_follows, assign_part_follows}
 use Rattle.cw_follow.proofs.NumberBlocks.{count_follows, halve_follows}
-use Rattle.cw_follow.proofs.Naming.{some_same}
-use Rattle.cw_follow.proofs.Opening.{single_opens, fetch_opens, part_opens, element_opens}
+use Rattle.cw_follow.proofs.Naming.{some_same, own_label, own_switch}
+use Rattle.cw_follow.proofs.ComparedWords.{compare_word_follows}
+use Rattle.cw_follow.proofs.BothWords.{fetch_both_follows}
+use Rattle.cw_follow.proofs.Opening.{fetch_both_opens, compare_word_opens, single_opens, fetch_opens, part_opens, element_opens}
 use Rattle.cw_follow.proofs.Owed.{block_goes}
 use Rattle.cw_follow.proofs.Routines.{Over}
 use Rattle.cw_follow.proofs.StatementPlaces.{statement_here}
@@ -161,7 +165,7 @@ inside_left list k n begins lt = subst (λ m. 0 < m) (sym (left_split 0 list k (
 code_short : (known : Given) (o : Orders) (g k : ℕ) (a : Order) → slice_get known.p.units g ≡ Some o → slice_get o.list k ≡ Some a → 0 < size_at o k a → length known.image.bytes ≤ 65536 → order_place (base_of known.p g) o k < 65536
 code_short known o g k a unit e some fits =
     let st = known.all.stands g o unit in
-    let long = size_everywhere (names_of o) (own_place o k) (is_short (reach_of o) k (block_at (left_at 0 o.list k) (drop k o.list)) a) (block_at (left_at 0 o.list k) (drop k o.list)) a in
+    let long = size_everywhere (names_of o) (own_place o k) k (is_short (reach_of o) k (block_at (left_at 0 o.list k) (drop k o.list)) a) (block_at (left_at 0 o.list k) (drop k o.list)) a in
     let below = pieces_below _ known.image st.value (order_place (base_of known.p g) o k) (pieces_at o k a) (let l : 0 < length (blanks (pieces_at o k a)) = omega arith in l) (st.orders k a e) in
     omega arith
 
@@ -195,7 +199,7 @@ module _ (known : Given) where
     -- jumps to a mark, near and short
     jump_by : (loaded : Bool) (s : Sound p image g place loaded acts w (watch q)) (a : Alone p image g place loaded acts w (watch q) s.orders) (m : ℕ) → slice_get s.orders.list place ≡ Some (order.Jump m)
         → (short : Bool) → (short ≡ true → is_close (own_place s.orders place + 2) (mark_starts s.orders m) ≡ true)
-        → HasPiecesFrom (first_of (order.Jump m) (behind_start s.orders.list place)) image (all.stands g s.orders s.unit).value (order_place (base_of p g) s.orders place) (template_by short (names_of s.orders) (own_place s.orders place) (order.Jump m))
+        → HasPiecesFrom (first_of (order.Jump m) (behind_start s.orders.list place)) image (all.stands g s.orders s.unit).value (order_place (base_of p g) s.orders place) (template_by short (names_of s.orders) (own_place s.orders place) place (order.Jump m))
         → FollowFrom known (over (first_of (order.Jump m) (begins_here known s)) (watch q)) (at g place loaded acts w Running) (watch q)
     jump_by loaded s a m e short close i = cases short close i
       where
@@ -206,7 +210,7 @@ module _ (known : Given) where
         to = mark_starts s.orders m
 
         cases : (short : Bool) → (short ≡ true → is_close (own + 2) to ≡ true)
-            → HasPiecesFrom (first_of (order.Jump m) (behind_start s.orders.list place)) image (all.stands g s.orders s.unit).value (order_place (base_of p g) s.orders place) (template_by short (names_of s.orders) own (order.Jump m))
+            → HasPiecesFrom (first_of (order.Jump m) (behind_start s.orders.list place)) image (all.stands g s.orders s.unit).value (order_place (base_of p g) s.orders place) (template_by short (names_of s.orders) own place (order.Jump m))
             → FollowFrom known (over (first_of (order.Jump m) (begins_here known s)) (watch q)) (at g place loaded acts w Running) (watch q)
         cases true close i =
             chosen known s loaded 0 (ToMark m w) 1 (begins_next known s a (order.Jump m) e) s.room (step_is known s (Some (order.Jump m)) e) (weight_is known s (order.Jump m) e)
@@ -218,7 +222,7 @@ module _ (known : Given) where
     jump_if_by : (s : Sound p image g place true acts w (watch q)) (a : Alone p image g place true acts w (watch q) s.orders) (c : Comparator) (m : ℕ) → slice_get s.orders.list place ≡ Some (order.JumpIf c m)
         → (short : Bool) → (short ≡ true → is_close (own_place s.orders place + 5) (mark_starts s.orders m) ≡ true)
         → order_place (base_of p g) s.orders place + block_size short block.Single (order.JumpIf c m) ≡ order_place (base_of p g) s.orders (place + 1)
-        → HasPieces image (all.stands g s.orders s.unit).value (order_place (base_of p g) s.orders place) (template_by short (names_of s.orders) (own_place s.orders place) (order.JumpIf c m))
+        → HasPieces image (all.stands g s.orders s.unit).value (order_place (base_of p g) s.orders place) (template_by short (names_of s.orders) (own_place s.orders place) place (order.JumpIf c m))
         → FollowFrom known (over (first_of (order.JumpIf c m) (begins_here known s)) (watch q)) (at g place true acts w Running) (watch q)
     jump_if_by s a c m e short close ends i = cases short close ends i
       where
@@ -229,7 +233,7 @@ module _ (known : Given) where
         to = mark_starts s.orders m
 
         cases : (short : Bool) → (short ≡ true → is_close (own + 5) to ≡ true) → order_place (base_of p g) s.orders place + block_size short block.Single (order.JumpIf c m) ≡ order_place (base_of p g) s.orders (place + 1)
-            → HasPieces image (all.stands g s.orders s.unit).value (order_place (base_of p g) s.orders place) (template_by short (names_of s.orders) own (order.JumpIf c m)) → FollowFrom known (over (first_of (order.JumpIf c m) (begins_here known s)) (watch q)) (at g place true acts w Running) (watch q)
+            → HasPieces image (all.stands g s.orders s.unit).value (order_place (base_of p g) s.orders place) (template_by short (names_of s.orders) own place (order.JumpIf c m)) → FollowFrom known (over (first_of (order.JumpIf c m) (begins_here known s)) (watch q)) (at g place true acts w Running) (watch q)
         cases true close ends i =
             let paid : 4 ≤ weight p (at g place true acts w Running) = let x = weight_is known s (order.JumpIf c m) e in omega arith in
             chosen known s false 0 (way_of_two (λ x y v. to_mark_if (holds (comparison c) x y) m v) w) 4 (begins_next known s a (order.JumpIf c m) e) (two_roomy acts p.room m c w.operands w s.room) (step_is known s (Some (order.JumpIf c m)) e) paid
@@ -321,6 +325,8 @@ module _ (known : Given) where
     follow_order true s a (order.NextStep x line m) e = absurd (wrong_way known s (order.NextStep x line m) e refl)
     follow_order true s a (order.LoopWay marks) e = loop_follows known s a marks e
     follow_order false s a (order.LoopWay marks) e = absurd (wrong_way known s (order.LoopWay marks) e refl)
+    follow_order true s a (order.SwitchWay marks line) e = way_follows known s a marks line e
+    follow_order false s a (order.SwitchWay marks line) e = absurd (wrong_way known s (order.SwitchWay marks line) e refl)
     follow_order false s a order.NextBody e = ends_or_not known s a e acts refl
     follow_order true s a order.NextBody e = absurd (wrong_way known s order.NextBody e refl)
     follow_order false s a (order.CallProc n line) e = calls_own known s a n line e
@@ -335,11 +341,11 @@ module _ (known : Given) where
     follow_order true s a (order.Bind k family offset) e = absurd (wrong_way known s (order.Bind k family offset) e refl)
     follow_order false s a (order.BindFrame k offset) e = bind_frame known acts s a k offset e
     follow_order true s a (order.BindFrame k offset) e = absurd (wrong_way known s (order.BindFrame k offset) e refl)
-    follow_order false s a (order.LabelOut l) e = controls_own known s a (LabelControl g l (length acts)) (order.LabelOut l) (λ o. label_start (names_of o) l) e refl (lit≤ tt) refl refl (owned known s a) (code known s a (order.LabelOut l) e)
+    follow_order false s a (order.LabelOut l) e = controls_own known s a (LabelControl g l (length acts)) (order.LabelOut l) (λ o. label_start (names_of o) l) e refl (lit≤ tt) refl refl (owned known s a, λ o unit. own_label known s l (order.LabelOut l) e refl o unit) (code known s a (order.LabelOut l) e)
     follow_order true s a (order.LabelOut l) e = absurd (wrong_way known s (order.LabelOut l) e refl)
     follow_order false s a (order.LabelCommon d) e = labels_common known s a d e (defined_at p g d) refl
     follow_order true s a (order.LabelCommon d) e = absurd (wrong_way known s (order.LabelCommon d) e refl)
-    follow_order false s a (order.SwitchOut n) e = controls_own known s a (SwitchControl g n (length acts)) (order.SwitchOut n) (λ o. switch_start (names_of o) n) e refl (lit≤ tt) refl refl (owned known s a) (code known s a (order.SwitchOut n) e)
+    follow_order false s a (order.SwitchOut n) e = controls_own known s a (SwitchControl g n (length acts)) (order.SwitchOut n) (λ o. switch_start (names_of o) n) e refl (lit≤ tt) refl refl (owned known s a, λ o unit. own_switch known s n (order.SwitchOut n) e refl o unit) (code known s a (order.SwitchOut n) e)
     follow_order true s a (order.SwitchOut n) e = absurd (wrong_way known s (order.SwitchOut n) e refl)
     follow_order false s a (order.SwitchCommon d) e = switches_common known s a d e (defined_at p g d) refl
     follow_order true s a (order.SwitchCommon d) e = absurd (wrong_way known s (order.SwitchCommon d) e refl)
@@ -422,7 +428,10 @@ module _ (known : Given) where
     follow_block (block.AssignElement x) o e is sh = other order.Save _ refl sh.0 (assign_element_follows known s x _ sh.0 sh.1 is)
     follow_block (block.Count down line) o e is sh = other order.Save _ refl sh (count_follows known s down line _ sh is)
     follow_block (block.Halve x power places line) o e is sh = other order.Save _ refl sh.0 (halve_follows known s x power places line _ sh.0 sh.1 is)
+    follow_block (block.FetchBoth n m) o e is sh = address (cell.Frame n) _ sh (fetch_both_opens known s n m _ sh is) (fetch_both_follows known s n m _ sh is)
+    follow_block (block.CompareWord n x c m) o e is sh = address (cell.Frame n) _ sh (compare_word_opens known s n x c m _ sh is) (compare_word_follows known s n x c m _ sh is)
     follow_block (block.Bounded x) o e is sh = other (order.InBounds x.bounds.lower x.bounds.upper x.bounds.line) _ refl sh.0 (bounded_follows known s x _ sh.0 sh.1 is)
+    follow_block (block.Row x) o e is sh = other (order.InBounds x.rows.lower x.rows.upper x.rows.line) _ refl sh.0 (row_follows known s x _ sh.0 sh.1 is)
 
   -- ---- what is owed where the processor has come
 

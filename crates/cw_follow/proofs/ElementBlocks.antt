@@ -30,9 +30,10 @@ use Rattle.cw_tmpl.specs.declared.pieces.Coded.TheVariants as pieces
 use Rattle.cw_tmpl.specs.declared.blocks.Block.{Block}
 use Rattle.cw_tmpl.specs.declared.blocks.Block.TheVariants as block
 use Rattle.cw_tmpl.specs.Blocks.{element_orders, operand_orders, order_of, block_at, orders_left, left_at}
-use Rattle.cw_tmpl.specs.Library.{overflow_entry}
 use Rattle.cw_tmpl.specs.Mnemonics.{at_si, load, store, multiply}
-use Rattle.cw_tmpl.specs.Templates.{checked, element_tested, element_address, element_size, block_size, is_short}
+use Rattle.cw_tmpl.specs.Names.{call_place}
+use Rattle.cw_tmpl.specs.Templates.{checked_by, product_with, pieces_size, element_tested, element_address, block_size, is_short}
+use Rattle.cw_tmpl.specs.Sizes.{element_size}
 use Rattle.cw_tmpl.specs.ReferenceCode.{names_of, reach_of}
 use Rattle.cw_tmpl.proofs.Shapes.{TestNear, IsNear}
 use Rattle.cw_tmpl.proofs.Sizes.{element_long_as, size_to, own_place, pieces_by}
@@ -50,9 +51,11 @@ use Rattle.cw_follow.proofs.Stacks.{level, record_of, StackIs, OperandsAre}
 use Rattle.cw_follow.proofs.Routines.{leads_on}
 use Rattle.cw_follow.proofs.Operating.{word_named}
 use Rattle.cw_follow.proofs.Orders.{Landed, Does, Chooses, later, further, landed, kept_stored}
+use Rattle.cw_follow.proofs.OperandCode.{OneOperation}
 use Rattle.cw_follow.proofs.UseBlocks as UseBlocks
 use Rattle.cw_follow.proofs.States.{Given, Sound}
-use Rattle.cw_follow.proofs.Steps.{Follow, setting, calls, order_here, weight_is, line_fits, start_place, block_code, block_ends, did_as, does, chosen, start, two_roomy, FollowFrom, begins_block, begun_block, reaches_mark}
+use Rattle.cw_follow.proofs.CheckedBlocks.{checked_block}
+use Rattle.cw_follow.proofs.Steps.{Follow, setting, order_here, weight_is, line_fits, start_place, block_code, block_ends, did_as, does, chosen, start, two_roomy, FollowFrom, begins_block, begun_block, reaches_mark}
 use Rattle.cw_follow.proofs.BlockOrders.{code_end, room_in, within_block, inner_follows, modes, saved, step_in}
 use Rattle.cw_follow.proofs.InBlocks.{loaded_then, loaded_silently, silently}
 use Rattle.cw_follow.proofs.Indexed.{element_steps, few_element}
@@ -281,9 +284,14 @@ module _ (known : Given) where
     with_tail e ps qs h =
         record { at = start_place known s; comes = comes_at_once known s e (ps ++ qs) (subst (HasPieces image (all.stands g s.orders s.unit).value (start_place known s)) (append_assoc (element_address e) ps qs) h) }
 
+    -- the check of a product with an element
+    abbrev check_pieces : Element → (line : ℕ) → List Coded
+    check_pieces e line =
+        checked_by (is_short (reach_of s.orders) s.from (block.Operate (simple.Element e) (uses.Multiply line)) order.Save) line (own_place s.orders s.from + pieces_size (product_with (simple.Element e))) (call_place (names_of s.orders) s.from)
+
     begun_at : (e : Element) (u : Use) → UseBlocks.Code known s (simple.Element e) u → Begun e
-    begun_at e (uses.Add line) h = with_tail e _ (checked line) h
-    begun_at e (uses.Subtract line) h = with_tail e _ (checked line) h
+    begun_at e (uses.Add line) h = with_tail e _ _ h
+    begun_at e (uses.Subtract line) h = with_tail e _ _ h
     begun_at e (uses.Multiply line) h =
         let r = start_room known s in
         let a = at_start known s s.landed r in
@@ -299,8 +307,8 @@ module _ (known : Given) where
             few_steps = lit≤ tt;
             first = false;
             comes = last rows a.is s.landed.kept.wrote (record { dx = a.dx; bx = a.bx; si = a.si; overflow = a.overflow; is = moved_to rows 1 0 h.0 a.is });
-            tail = last_pieces ++ checked line;
-            stands = subst (HasPieces image (all.stands g s.orders s.unit).value (start_place known s + 2)) (append_assoc (element_address e) last_pieces (checked line)) h.1;
+            tail = last_pieces ++ check_pieces e line;
+            stands = subst (HasPieces image (all.stands g s.orders s.unit).value (start_place known s + 2)) (append_assoc (element_address e) last_pieces (check_pieces e line)) h.1;
           };
         }
     begun_at e uses.Mask h = record { at = start_place known s; comes = comes_at_once known s e _ h }
@@ -324,10 +332,10 @@ module _ (known : Given) where
     memory_fits : (at : ℕ) → at < p.limits.area → FitsWord (word_at s.before.memory at)
     memory_fits at within = let long = s.landed.kept.long in s.fits_before.memory at (pos 0) (omega arith)
 
-    product_size : (e : Element) (line : ℕ) → block_size false (block.Operate (simple.Element e) (uses.Multiply line)) order.Save ≡ element_size e e.test + 13
-    product_size e line =
+    product_size : (e : Element) → pieces_size (product_with (simple.Element e)) ≡ element_size e e.test + 6
+    product_size e =
         let last_pieces : List Coded = pieces.Whole (load 0 at_si) ∷ pieces.Whole (multiply 1) ∷ [] in
-        omega (arith, appended_long (element_address e ++ last_pieces) (checked line), appended_long (element_address e) last_pieces, element_long_as e)
+        omega (arith, appended_long (element_address e) last_pieces, element_long_as e)
 
     -- both factors are in registers
     record AtProduct {m : Bool} (l : Before known s m) (at ax cx top : ℕ) (t : Watched) : Type 0 where
@@ -339,7 +347,7 @@ module _ (known : Given) where
 
     -- the product with it
     element_multiplies : (e : Element) (l : Before known s true) (at : ℕ) → at < p.limits.area → LeadsTo known s e e.test at → UseBlocks.Multiplies known s (simple.Element e) (word_at s.before.memory at)
-    element_multiplies e l at within leads line small h ends = cases s.before.operands refl
+    element_multiplies e l at within leads line small h checks ends = cases s.before.operands refl
       where
         y : ℤ
         y = word_at s.before.memory at
@@ -359,23 +367,23 @@ module _ (known : Given) where
             let fy : FitsWord y = memory_fits at within in
             let room : operand_words (Word x ∷ rest) < level acts = subst (λ xs. operand_words xs < level acts) same (room_in known s) in
             let last_pieces : List Coded = pieces.Whole (load 0 at_si) ∷ pieces.Whole (multiply 1) ∷ [] in
-            let parts = stand_both image st.value (start + 2) (element_address e) (last_pieces ++ checked line) (subst (HasPieces image st.value (start + 2)) (append_assoc (element_address e) last_pieces (checked line)) h.1) in
+            let parts = stand_both image st.value (start + 2) (element_address e) (last_pieces ++ check_pieces e line) (subst (HasPieces image st.value (start + 2)) (append_assoc (element_address e) last_pieces (check_pieces e line)) h.1) in
             let behind : ℕ = start + 2 + element_size e e.test in
-            let rest_there : HasPieces image st.value behind (last_pieces ++ checked line) = subst (λ n. HasPieces image st.value (start + 2 + n) (last_pieces ++ checked line)) (element_long_as e) parts.1 in
+            let rest_there : HasPieces image st.value behind (last_pieces ++ check_pieces e line) = subst (λ n. HasPieces image st.value (start + 2 + n) (last_pieces ++ check_pieces e line)) (element_long_as e) parts.1 in
             let moved : AtAddress known s l (start + 2) r.above l.stacked.ax l.stacked.ax (watched_step q) = record { dx = a.dx; bx = a.bx; si = a.si; overflow = a.overflow; is = moved_to rows 1 0 h.0 a.is } in
-            let tail_there = subst (HasPieces image st.value (start + 2)) (append_assoc (element_address e) last_pieces (checked line)) h.1 in
-            let size = product_size e line in
-            let end : behind + 2 + 2 + 7 ≡ UseBlocks.block_end known s = omega arith in
+            let tail_there = subst (HasPieces image st.value (start + 2)) (append_assoc (element_address e) last_pieces (check_pieces e line)) h.1 in
+            let size = product_size e in
+            let check = UseBlocks.product_checked known s (simple.Element e) line (behind + 2 + 2) checks ends (omega arith) rest_there.1.1 in
             later p image 15 (UseBlocks.block_end known s) g true line acts (1 + (element_steps e e.test + 1)) 24 (put_value (scaled_product x y (pos 0)) (words rest s.before.memory s.before.input s.before.output)) (omega arith)
             (leads_then (last rows a.is l.kept.wrote moved) (λ t b.
-            leads_then (leads false true l (last_pieces ++ checked line) (start + 2) r.above l.stacked.ax l.stacked.ax t b tail_there) (λ u d.
+            leads_then (leads false true l (last_pieces ++ check_pieces e line) (start + 2) r.above l.stacked.ax l.stacked.ax t b tail_there) (λ u d.
             last rows {Target = AtProduct l (behind + 2) (l.cells at) l.stacked.ax r.above} d.is l.kept.wrote (record { dx = b.dx; bx = d.bx; si = 2 * at; overflow = d.overflow; is = (act rows (Into 0 at_si (InData at) (l.cells at)) (lit< tt) rest_there.0 ((refl, refl, half, refl), refl) d.is).is }))))
             (λ t d.
-            UseBlocks.other_multiplies (setting known s) s.before.memory s.before.input s.before.output x rest fx room k (UseBlocks.block_end known s) (UseBlocks.call_of known s (behind + 2 + 2)) line small y fy
+            UseBlocks.other_multiplies (setting known s) s.before.memory s.before.input s.before.output x rest fx room k (UseBlocks.block_end known s) line small y fy
             (subst (λ n. Is image (behind + 2) (view n (unsigned x) d.dx d.bx (2 * l.top) (record_of acts) d.si p.limits.area d.overflow l.cells l.stack l.input l.told) t) (l.kept.words at within)
             (subst (λ n. Is image (behind + 2) (view (l.cells at) n d.dx d.bx (2 * l.top) (record_of acts) d.si p.limits.area d.overflow l.cells l.stack l.input l.told) t) k.operands.0
             (subst (λ n. Is image (behind + 2) (view (l.cells at) l.stacked.ax d.dx d.bx (2 * n) (record_of acts) d.si p.limits.area d.overflow l.cells l.stack l.input l.told) t) (sym r.is) d.is)))
-            rest_there.1.0 end (calls known s overflow_entry (behind + 2 + 2 + 2 + 3) (lit< tt)) rest_there.1.1)
+            rest_there.1.0 check)
 
     -- the code of the address, where an operation on AX is behind it
     record AddressThere (e : Element) : Type 0 where
@@ -385,9 +393,9 @@ module _ (known : Given) where
     tail_there : (e : Element) (ps qs : List Coded) → HasPieces image (all.stands g s.orders s.unit).value (start_place known s) ((element_address e ++ ps) ++ qs) → AddressThere e
     tail_there e ps qs h = record { tail = ps ++ qs; stands = subst (HasPieces image (all.stands g s.orders s.unit).value (start_place known s)) (append_assoc (element_address e) ps qs) h }
 
-    address_there : (e : Element) (u : Use) → UseBlocks.OneOperation u → UseBlocks.Code known s (simple.Element e) u → AddressThere e
-    address_there e (uses.Add line) one h = tail_there e _ (checked line) h
-    address_there e (uses.Subtract line) one h = tail_there e _ (checked line) h
+    address_there : (e : Element) (u : Use) → OneOperation u → UseBlocks.Code known s (simple.Element e) u → AddressThere e
+    address_there e (uses.Add line) one h = tail_there e _ _ h
+    address_there e (uses.Subtract line) one h = tail_there e _ _ h
     address_there e (uses.Multiply line) one h = absurd one
     address_there e uses.Mask one h = record { tail = _; stands = h }
     address_there e uses.Union one h = record { tail = _; stands = h }
@@ -413,6 +421,7 @@ module _ (known : Given) where
         let code = block_code known s b order.Save os list is in
         let y = word_at s.before.memory made.at in
         let d = UseBlocks.used_law known s (simple.Element e) u y h (memory_fits made.at made.within) (line_fits known s (order_of u) here) ends.behind code
+        (λ line before test to short checks form size there over i. checked_block known s b order.Save os line before test to short list is checks form size there over i)
         (λ one. let t = address_there e u one code in word_from_element e t.tail before.landed made.at made.within made.leads t.stands)
         (element_multiplies e before.landed made.at made.within made.leads) in
         does known s true (line_of (order_of u)) (UseBlocks.outcome p.limits.area u w) (UseBlocks.bound known s u) ends.begins (step_in known s true (order_of u) before.now here ∙ UseBlocks.step_goes known s u h) paid

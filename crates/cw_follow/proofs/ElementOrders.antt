@@ -23,7 +23,8 @@ use Rattle.cw_tmpl.specs.declared.blocks.Test.TheVariants as test
 use Rattle.cw_tmpl.specs.declared.pieces.Coded.{Coded}
 use Rattle.cw_tmpl.specs.declared.blocks.Block.{Block}
 use Rattle.cw_tmpl.specs.Blocks.{block_at, orders_left}
-use Rattle.cw_tmpl.specs.Templates.{element_tested, element_address, element_size}
+use Rattle.cw_tmpl.specs.Templates.{element_tested, element_address}
+use Rattle.cw_tmpl.specs.Sizes.{element_size}
 use Rattle.cw_follow.proofs.Watched.{Watched}
 use Rattle.cw_follow.proofs.Chains.{Is, Leads, view, done, over_is}
 use Rattle.cw_follow.proofs.Standing.{HasPieces, HasPiecesFrom}
@@ -180,14 +181,14 @@ module _ (known : Given) where
         compares : puts_word p g acts o w ≡ put_if (is_between known s e upper f.read) IndexRange i s.before
         compares = ap (perform p.limits.area (InBounds e.lower upper)) f.is
 
-        between : (m : Bool) (kind : StopKind) → puts_word p g acts o w ≡ Refused kind → (t : Bool) → is_between known s e upper f.read ≡ t → Does p image 20 0 g m line acts s.before.output start (Refused kind)
+        between : (m : Bool) (kind : StopKind) → puts_word p g acts o w ≡ Refused kind → (t : Bool) → is_between known s e upper f.read ≡ t → Does p image 22 0 g m line acts s.before.output start (Refused kind)
         between m kind refused true is = let none : Changed (put i s.before) ≡ Refused kind = ap (λ t. put_if t IndexRange i s.before) (sym is) ∙ sym compares ∙ refused in absurd (cc)
         between m kind refused false is =
             let same : Refused IndexRange ≡ Refused kind = ap (λ t. put_if t IndexRange i s.before) (sym is) ∙ sym compares ∙ refused in
             let kind_is : IndexRange ≡ kind = cc in
             let few_steps = c.few_steps in
-            subst (λ x. Does p image 20 0 g m line acts s.before.output start (Refused x)) kind_is
-            (later p image 18 0 g m line acts c.steps 20 (Refused IndexRange) (omega arith) c.comes
+            subst (λ x. Does p image 22 0 g m line acts s.before.output start (Refused x)) kind_is
+            (later p image 18 0 g m line acts c.steps 22 (Refused IndexRange) (omega arith) c.comes
             (λ t a. bounds_stop known s s.landed e upper line c.tail z f.read at c.top c.ax c.cx 0 m t a c.stands (line_fits known s o here) c.low is))
 
     -- and the one that makes the address behind it, which never stops

@@ -25,11 +25,14 @@ use Rattle.cw_tmpl.specs.declared.pieces.Coded.{Coded}
 use Rattle.cw_tmpl.specs.declared.pieces.Coded.TheVariants as pieces
 use Rattle.cw_tmpl.specs.Blocks.{address_orders, bounds_orders, is_within, element_orders, left_at}
 use Rattle.cw_tmpl.specs.Library.{address_entry, bounds_entry}
-use Rattle.cw_tmpl.specs.Mnemonics.{si as si_register, di, compare, double, jump_if_below, operate_number}
+use Rattle.cw_tmpl.specs.Mnemonics.{load, operate, field, si as si_register, di, compare, double, jump_if_below, operate_number}
 use Rattle.cw_tmpl.specs.Pieces.{Filling}
-use Rattle.cw_tmpl.specs.Templates.{call_stop, index_added, index_loaded, from_lower, indexes_between, address_tested, index_tested, index_size, lower_size, Forms}
+use Rattle.cw_tmpl.specs.Templates.{frame_size, call_stop, index_added, index_loaded, from_lower, indexes_between, address_tested, index_tested, Forms}
+use Rattle.cw_tmpl.specs.Sizes.{index_size, lower_size}
 use Rattle.cw_tmpl.proofs.Shapes.{TestNear}
+use Rattle.cw_tmpl.proofs.Lengths.{field_loaded, field_operated}
 use Rattle.cw_tmpl.proofs.Sizes.{index_long, size_to}
+use Rattle.cw_i86.specs.Encoding.{bytes_of}
 use Rattle.cw_follow.specs.Placing.{base_of}
 use Rattle.cw_follow.proofs.Watched.{Watched}
 use Rattle.cw_follow.proofs.Chains.{Leads, view, IsAt}
@@ -171,7 +174,7 @@ module _ (known : Given) where
     abbrev index_of : Place → Words → Outcome
     index_of x v = chain (put_address (place_address p g acts x) v) (λ u. unrefused (perform p.limits.area (Fetch None) u))
 
-    index_first : (x : Place) (n : ℕ) (os : List Order) (v : Words) → silently p g acts (suc (suc n)) (address_order x ∷ order.Load ∷ os) v ≡ chain (index_of x v) (silently p g acts n os)
+    pub index_first : (x : Place) (n : ℕ) (os : List Order) (v : Words) → silently p g acts (suc (suc n)) (address_order x ∷ order.Load ∷ os) v ≡ chain (index_of x v) (silently p g acts n os)
     index_first x n os v = ap (λ o. chain o (silently p g acts (suc n) (order.Load ∷ os))) (address_puts x v) ∙ sym (chain_chain (put_address (place_address p g acts x) v) (λ u. unrefused (perform p.limits.area (Fetch None) u)) (silently p g acts n os))
 
     place_small : (x : Place) (a : ℕ) → place_address p g acts x ≡ Some a → a < 65536
@@ -188,7 +191,7 @@ module _ (known : Given) where
       pub stands : place_address p g acts x ≡ Some at
       pub is : index_of x v ≡ Changed (put (word_at v.memory at) v)
 
-    index_read : (x : Place) (v : Words) → (index_of x v ≡ Impossible) ⊎ IndexRead x v
+    pub index_read : (x : Place) (v : Words) → (index_of x v ≡ Impossible) ⊎ IndexRead x v
     index_read x v = cases (place_address p g acts x) refl
       where
         within : (a : ℕ) (b : Bool) → place_address p g acts x ≡ Some a → is_below (signed a) p.limits.area ≡ b → (index_of x v ≡ Impossible) ⊎ IndexRead x v
@@ -448,12 +451,12 @@ module _ (known : Given) where
             l.kept a.is f n (λ after. st.fills.bytes f n after ∙ twice) h)
         cases (cell.Frame n) stands h = of_frame acts refl stands
           where
-            of_frame : (xs : List OrderActivation) → acts ≡ xs → frame_word p.limits.area xs n ≡ Some r.at → Leads s.before.output 3 q' (SummedAt l (at + 10) top ax cx a.dx (word_sum (zero_at e origin) (unsigned (word_at s.before.memory r.at))))
+            of_frame : (xs : List OrderActivation) → acts ≡ xs → frame_word p.limits.area xs n ≡ Some r.at → Leads s.before.output 3 q' (SummedAt l (at + (frame_size n + 8)) top ax cx a.dx (word_sum (zero_at e origin) (unsigned (word_at s.before.memory r.at))))
             of_frame [] are stands = absurd (cc)
             of_frame (b ∷ under) are stands =
                 let st = all.stands g s.orders s.unit in
                 let index = (frame_word_inside p.limits.area b under n r.at stands).0 in
-                let there : at + 3 + 3 + 4 ≡ at + 10 = omega arith in
+                let there : at + 3 + 3 + length (bytes_of (operate 0 si_register (field (2 * n % 65536)))) ≡ at + (frame_size n + 8) = omega (arith, field_operated 0 si_register (2 * n % 65536)) in
                 subst (λ k. Leads s.before.output 3 q' (SummedAt l k top ax cx a.dx (word_sum (zero_at e origin) (unsigned (word_at s.before.memory r.at))))) there
                 (sum_by_frame (setting known s) s.before.memory s.before.input s.before.output st.value e.family origin rest top (zero_at e origin) r.at (word_at s.before.memory r.at) (λ after. st.fills.homes e.family origin after) half (l.kept.words r.at r.within)
                 l.kept a.is n b under are index h)
@@ -520,12 +523,12 @@ module _ (known : Given) where
             index_by_word (setting known s) s.before.memory s.before.input s.before.output st.value rest top r.at (word_at s.before.memory r.at) half (l.kept.words r.at r.within) l.kept a.is f n (λ after. st.fills.bytes f n after ∙ twice) h
         cases (cell.Frame n) stands h = of_frame acts refl stands
           where
-            of_frame : (xs : List OrderActivation) → acts ≡ xs → frame_word p.limits.area xs n ≡ Some r.at → Leads s.before.output 2 q' (SummedAt l (at + 7) top ax cx a.dx (unsigned (word_at s.before.memory r.at)))
+            of_frame : (xs : List OrderActivation) → acts ≡ xs → frame_word p.limits.area xs n ≡ Some r.at → Leads s.before.output 2 q' (SummedAt l (at + (frame_size n + 5)) top ax cx a.dx (unsigned (word_at s.before.memory r.at)))
             of_frame [] are stands = absurd (cc)
             of_frame (b ∷ under) are stands =
                 let st = all.stands g s.orders s.unit in
                 let index = (frame_word_inside p.limits.area b under n r.at stands).0 in
-                let there : at + 3 + 4 ≡ at + 7 = omega arith in
+                let there : at + 3 + length (bytes_of (load si_register (field (2 * n % 65536)))) ≡ at + (frame_size n + 5) = omega (arith, field_loaded si_register (2 * n % 65536)) in
                 subst (λ k. Leads s.before.output 2 q' (SummedAt l k top ax cx a.dx (unsigned (word_at s.before.memory r.at)))) there
                 (index_by_frame (setting known s) s.before.memory s.before.input s.before.output st.value rest top r.at (word_at s.before.memory r.at) half (l.kept.words r.at r.within) l.kept a.is n b under are index h)
 

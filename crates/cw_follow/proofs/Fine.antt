@@ -1,8 +1,8 @@
 -- The pieces of each template are instructions with the numbers of their rows, and stand where their bytes do.
-use Rattle.std.proofs.Common.{◌≡◌, ◌≢◌, ℕ, zero, suc, ◌+◌, ◌-◌, ◌/◌, ◌%◌, ◌<◌, ◌≤◌, List, [], ◌∷◌, ◌++◌, length, drop, get_or, sym, ap, ◌∙◌, subst, arith, lit<, append_assoc, length-append, Option, Some, None, Bool, true, false, ℤ, pos, negsuc, ◌*◌, ◌^◌, pow_mono, refl}
+use Rattle.std.proofs.Common.{◌≡◌, ◌≢◌, ℕ, zero, suc, ◌+◌, ◌-◌, ◌/◌, ◌%◌, ◌<◌, ◌≤◌, List, [], ◌∷◌, ◌++◌, length, drop, get_or, sym, ap, ◌∙◌, arith, lit<, append_assoc, length-append, Option, Some, None, Bool, true, false, ℤ, pos, negsuc, ◌*◌, ◌^◌, pow_mono}
 use Rattle.std.specs.Prelude.{slice_get, slice_index, slice_index_or, nat_lt, nat_le, ◌==◌, if◌then◌else◌, ◌-ℤ◌}
 use Rattle.std.proofs.lemmas.List.{get_or_append_left, get_or-append-add}
-use Rattle.cw_i86.specs.Encoding.{bytes_of, word, IsInstr}
+use Rattle.cw_i86.specs.Encoding.{IsRm, bytes_of, word, IsInstr}
 use Rattle.cw_unit.specs.declared.unit.Goal.{Goal}
 use Rattle.cw_unit.specs.declared.unit.Goal.TheVariants as goal
 use Rattle.cw_unit.specs.declared.unit.Def.{Def}
@@ -20,10 +20,10 @@ use Rattle.cw_tmpl.specs.declared.pieces.Target.TheVariants as target
 use Rattle.cw_tmpl.specs.declared.pieces.Coded.{Coded}
 use Rattle.cw_tmpl.specs.declared.pieces.Coded.TheVariants as coded
 use Rattle.cw_tmpl.specs.Pieces.{Filling, bytes_with, size_of, target_of, relocation_of, word_of, word_before, filled}
-use Rattle.cw_tmpl.specs.Mnemonics.{entry_of_table, change_memory, operate_number, memory, argument, double, jump_to, jump_if_below, set_word, at_bx, at_si, load, store, subtract, both, either, one_of, operate, change, move, add, multiply, shift_up, shift_up_once, shift_down, shift_down_once, shift_down_signed, shift_down_signed_once}
-use Rattle.cw_tmpl.specs.Library.{places_of_entries, entry_place, start_entry, overflow_entry, zero_divisor_entry, address_entry, bounds_entry, switch_entry, enter_entry, read_entry, product_entry, quotient_up_entry, quotient_down_entry, set_variable_entry, add_step_entry, put_variable_entry, exhausted_entry, next_step_entry}
-use Rattle.cw_tmpl.specs.Names.{Names, mark_place, label_start, switch_start, procedure_start}
-use Rattle.cw_tmpl.specs.Templates.{template, call_library, call_stop, unless_overflow, checked, call_at_line, on_both, with_word, times, times_if, shifted, shifted_up, shifted_down, shifted_down_signed, lowest_if, taken, part_taken, load_top, store_part, rescale_if, by_routine, product_start, product_down, product, divisor_tested, quotient, in_area, index_by, less_bound, plus_word, times_width, base_kept, based, element, in_row, element_of_two, entry, top_below, with_both_bounds, in_bounds, branch, distance, jump_near, opposite_of, control_out, return_with, operands_dropped, base_jump, number_compared, mark_words, goal_words, loop_way, loop_ways, place_doubled, doubled_size, step_taken, switch_pieces, address_pieces, load_place, store_place, operate_place, change_place, index_added, index_loaded, from_lower, indexes_between, element_tested, element_address, with_operand, product_with, pieces_size, operated, top_from_lower, times_entry, formed, block_pieces, entry_pieces, template_by, branch_by, short_branch}
+use Rattle.cw_tmpl.specs.Mnemonics.{field, code_at, entry_of_table, change_memory, operate_number, memory, argument, double, jump_to, jump_if_below, set_word, at_bx, at_si, load, store, subtract, both, either, one_of, operate, change, move, add, multiply, shift_up, shift_up_once, shift_down, shift_down_once, shift_down_signed, shift_down_signed_once}
+use Rattle.cw_tmpl.specs.Library.{places_of_entries, entry_place, start_entry, overflow_entry, zero_divisor_entry, address_entry, bounds_entry, switch_entry, enter_entry, enter_stop_entry, read_entry, product_entry, quotient_up_entry, quotient_down_entry, set_variable_entry, add_step_entry, put_variable_entry, exhausted_entry, next_step_entry}
+use Rattle.cw_tmpl.specs.Names.{Names, mark_place, call_place, label_start, switch_start, procedure_start}
+use Rattle.cw_tmpl.specs.Templates.{word_compared, template, call_library, call_stop, unless_overflow, checked, checked_by, call_at_line, on_both, with_word, times, times_if, shifted, shifted_up, shifted_down, shifted_down_signed, lowest_if, taken, part_taken, load_top, store_part, rescale_if, by_routine, product_start, product_down, product, divisor_tested, quotient, in_area, index_by, less_bound, plus_word, times_width, base_kept, based, element, in_row, element_of_two, entry, top_below, with_both_bounds, in_bounds, branch, distance, jump_near, opposite_of, frame_entered, control_out, return_with, operands_dropped, base_jump, number_compared, mark_words, goal_words, loop_way, loop_ways, place_doubled, doubled_size, step_taken, switch_pieces, address_pieces, load_place, store_place, operate_place, change_place, index_added, index_loaded, from_lower, indexes_between, element_tested, element_address, with_operand, product_with, pieces_size, operated, top_from_lower, times_entry, formed, block_pieces, entry_pieces, template_by, branch_by, short_branch, segment_word, argument_load_size, column_loaded, column_below, row_address}
 use Rattle.cw_order.specs.declared.order.Place.{Place}
 use Rattle.cw_order.specs.declared.order.Place.TheVariants as cell
 use Rattle.cw_tmpl.specs.declared.blocks.Element.{Element}
@@ -33,13 +33,17 @@ use Rattle.cw_tmpl.specs.declared.blocks.Simple.{Simple}
 use Rattle.cw_tmpl.specs.declared.blocks.Simple.TheVariants as simple
 use Rattle.cw_tmpl.specs.declared.blocks.Form.{Form}
 use Rattle.cw_tmpl.specs.declared.blocks.Form.TheVariants as form
+use Rattle.cw_tmpl.specs.declared.rows.Column.{Column}
+use Rattle.cw_tmpl.specs.declared.rows.Column.TheVariants as column
+use Rattle.cw_tmpl.specs.declared.rows.Row.{Row}
 use Rattle.cw_tmpl.specs.declared.blocks.Use.{Use}
 use Rattle.cw_tmpl.specs.declared.blocks.Use.TheVariants as uses
 use Rattle.cw_tmpl.specs.declared.blocks.Block.{Block}
 use Rattle.cw_tmpl.specs.declared.blocks.Block.TheVariants as block
-use Rattle.cw_tmpl.specs.Blocks.{address_orders, bounds_orders, element_orders, form_order, operand_orders, order_of, count_order, block_at}
-use Rattle.cw_tmpl.proofs.Shapes.{IsBlock, shape}
+use Rattle.cw_tmpl.specs.Blocks.{order_of}
 use Rattle.cw_tmpl.specs.ReferenceCode.{names_of}
+use Rattle.cw_follow.proofs.Fields.{doubled_small, field_fine, argument_fine}
+use Rattle.cw_follow.proofs.Fits.{OrderFits, TestFits, ElementFits, SimpleFits, FormFits, ColumnFits, RowFits, BlockFits}
 use Rattle.cw_follow.specs.Placing.{Fills, base_of, definition_place}
 use Rattle.cw_follow.proofs.Branches.{comparison_small, short_small}
 use Rattle.cw_follow.proofs.Stacks.{start_small}
@@ -47,7 +51,6 @@ use Rattle.cw_tmpl.proofs.Growing.{mask_small}
 use Rattle.cw_tmpl.proofs.Filling.{size_with}
 use Rattle.cw_routines.specs.Ways.{HasWord}
 use Rattle.cw_follow.proofs.Bytes.{HasPiece, HasPieces}
-use Rattle.cw_follow.proofs.Halves.{part_of, few_places}
 use Rattle.cw_i86.specs.declared.instr.Instr.TheVariants as i86
 use Rattle.cw_i86.specs.declared.instr.Imm.TheVariants as imm
 use Rattle.cw_i86.specs.declared.instr.Place.TheVariants as places
@@ -83,6 +86,7 @@ IsFine value (coded.Sum reg t) = (reg < 8) × IsFilled value t
 IsFine value (coded.Fetch reg t) = (reg < 8) × IsFilled value t
 IsFine value (coded.Load t) = IsFilled value t
 IsFine value (coded.Store t) = IsFilled value t
+IsFine value (coded.PushCode t) = IsFilled value t
 IsFine value (coded.Operate op reg t) = (op < 8) × (reg < 8) × IsFilled value t
 IsFine value (coded.Change op reg t) = (op < 8) × (reg < 8) × IsFilled value t
 IsFine value (coded.Call t) = IsFilled value t
@@ -113,6 +117,7 @@ one_piece image before behind value place (coded.Sum reg t) fine at e = one_ther
 one_piece image before behind value place (coded.Fetch reg t) fine at e = one_there image before behind place (load reg (memory (places.Direct (word_of value (place + 4) (relocation_of 0 t))))) (fine.0, fine.1 (place + 4)) at e
 one_piece image before behind value place (coded.Load t) fine at e = one_there image before behind place (i86.MovAcc false true false (word_of value (place + 3) (relocation_of 0 t))) (fine (place + 3)) at e
 one_piece image before behind value place (coded.Store t) fine at e = one_there image before behind place (i86.MovAcc false true true (word_of value (place + 3) (relocation_of 0 t))) (fine (place + 3)) at e
+one_piece image before behind value place (coded.PushCode t) fine at e = one_there image before behind place (i86.PushRm (code_at (word_of value (place + 5) (relocation_of 0 t)))) (fine (place + 5), λ e. absurd (cc)) at e
 one_piece image before behind value place (coded.Operate op reg t) fine at e = one_there image before behind place (with_memory op reg (word_of value (place + 4) (relocation_of 0 t))) (fine.0, fine.1, fine.2 (place + 4)) at e
 one_piece image before behind value place (coded.Change op reg t) fine at e = one_there image before behind place (change_memory op (word_of value (place + 4) (relocation_of 0 t)) reg) (fine.0, fine.1, fine.2 (place + 4)) at e
 one_piece image before behind value place (coded.Call t) fine at e = one_there image before behind place (i86.Call (word_of value (place + 3) (relocation_of 0 t))) (fine (place + 3)) at e
@@ -135,136 +140,6 @@ pieces_there image before behind place value (p ∷ ps) fine at e =
     )
 
 -- ---- the templates and the entry
-
--- the numbers in an order that its code has: a word that it puts, and its line
-abbrev pub NumberFits : Order → Type 0
-NumberFits (order.Const w) = w < 65536
-NumberFits _ = Unit {0}
-
-abbrev pub OrderFits : Order → Type 0
-OrderFits o = NumberFits o × HasCode o × (line_of o < 65536)
-
--- and those in a block
-abbrev pub TestFits : Element → Test → Type 0
-TestFits e (test.Address origin) = e.line < 65536
-TestFits e (test.Bounds upper line) = FitsWord e.lower × (line < 65536)
-
-abbrev pub ElementFits : Element → Type 0
-ElementFits e = TestFits e e.test
-
-abbrev pub SimpleFits : Simple → Type 0
-SimpleFits (simple.Number w) = w < 65536
-SimpleFits (simple.Contents x) = Unit {0}
-SimpleFits (simple.Element e) = ElementFits e
-
-abbrev pub FormFits : Form → Type 0
-FormFits (form.Element span line) = Unit {0}
-FormFits (form.Entry width word span line) = width < 65536
-
-abbrev pub BlockFits : Block → Order → Type 0
-BlockFits block.Single o = OrderFits o
-BlockFits (block.Divide w line) o = w < 65536
-BlockFits (block.Operate s u) o = SimpleFits s × (line_of (order_of u) < 65536)
-BlockFits (block.FetchPart x t b is_signed) o = t + b ≤ 16
-BlockFits (block.AssignPart x t b) o = t + b ≤ 16
-BlockFits (block.FetchElement e) o = ElementFits e
-BlockFits (block.AssignElement e) o = ElementFits e
-BlockFits (block.Count down line) o = line < 65536
-BlockFits (block.Halve w power places line) o = places ≤ 15
-BlockFits (block.Bounded b) o = FitsWord b.bounds.lower × (b.bounds.line < 65536) × FormFits b.form
-BlockFits _ o = Unit {0}
-
--- the numbers of all orders of a list
-abbrev pub AllFit : List Order → Type 0
-AllFit list = (k : ℕ) (o : Order) → slice_get list k ≡ Some o → OrderFits o
-
-behind_these : (before : List Order) (o : Order) (rest : List Order) → slice_get (before ++ o ∷ rest) (length before) ≡ Some o
-behind_these [] o rest = refl
-behind_these (x ∷ xs) o rest = behind_these xs o rest
-
--- the orders that make the address of an element, with such a test, and others behind them
-abbrev made : Element → Test → (more rest : List Order) → List Order
-made e t more rest =
-    ((address_orders e.index ++ order.Load ∷ (bounds_orders e.lower t ++ order.Save ∷ order.Home e.family e.first ∷ order.Element e.lower e.span e.line ∷ [])) ++ more) ++ rest
-
--- the order that forms it, and the one that compares the index
-forms_there : (x : Place) (a b c d : Order) (more rest : List Order) → slice_get (((address_orders x ++ a ∷ b ∷ c ∷ d ∷ []) ++ more) ++ rest) (length (address_orders x) + 3) ≡ Some d
-forms_there (cell.Word f n) a b c d more rest = refl
-forms_there (cell.Frame n) a b c d more rest = refl
-
-compares_there : (x : Place) (a b : Order) (behind more rest : List Order) → slice_get (((address_orders x ++ a ∷ b ∷ behind) ++ more) ++ rest) (length (address_orders x) + 1) ≡ Some b
-compares_there (cell.Word f n) a b behind more rest = refl
-compares_there (cell.Frame n) a b behind more rest = refl
-
--- where the numbers of all of them fit
-tested_fits : (e : Element) (t : Test) (more rest : List Order) → ((k : ℕ) (x : Order) → slice_get (made e t more rest) k ≡ Some x → OrderFits x) → TestFits e t
-tested_fits e (test.Address origin) more rest each =
-    (each (length (address_orders e.index) + 3) (order.Element e.lower e.span e.line)
-    (forms_there e.index order.Load order.Save (order.Home e.family e.first) (order.Element e.lower e.span e.line) more rest)).2
-tested_fits e (test.Bounds upper line) more rest each =
-    let behind : List Order = order.Save ∷ order.Home e.family e.first ∷ order.Element e.lower e.span e.line ∷ [] in
-    let h = each (length (address_orders e.index) + 1) (order.InBounds e.lower upper line) (compares_there e.index order.Load (order.InBounds e.lower upper line) behind more rest) in
-    (h.1.0, h.2)
-
-count_line : (down : Bool) (line : ℕ) → line_of (count_order down line) ≡ line
-count_line true line = refl
-count_line false line = refl
-
-form_fits : (lower : ℤ) (f : Form) → OrderFits (form_order lower f) → FormFits f
-form_fits lower (form.Element span line) h = tt
-form_fits lower (form.Entry width word span line) h = let most = h.1.0 in omega arith
-
-fits_first : (o : Order) (os : List Order) → AllFit (o ∷ os) → BlockFits (block_at 0 (o ∷ os)) o
-fits_first o os fits = cases (block_at 0 (o ∷ os)) (shape (o ∷ os))
-  where
-    -- that of an order of the block
-    fits_as : (k : ℕ) (x : Order) (all : List Order) → o ∷ os ≡ all → slice_get all k ≡ Some x → OrderFits x
-    fits_as k x all e is = fits k x (ap (λ l. slice_get l k) e ∙ is)
-
-    simple_fits : (s : Simple) (u : Use) (rest : List Order) → o ∷ os ≡ order.Save ∷ (operand_orders s ++ order_of u ∷ rest) → SimpleFits s
-    simple_fits (simple.Number w) u rest e = (fits_as 1 (order.Const w) _ e refl).0
-    simple_fits (simple.Contents x) u rest e = tt
-    simple_fits (simple.Element x) u rest e =
-        tested_fits x x.test (order.Load ∷ []) (order_of u ∷ rest) (λ k y is. fits_as (suc k) y _ e is)
-
-    -- an element, with one order behind it
-    element_front : (x : Element) (last : Order) (rest : List Order) (k : ℕ) (y : Order) → slice_get (made x x.test (last ∷ []) rest) k ≡ Some y → slice_get (element_orders x ++ last ∷ rest) k ≡ Some y
-    element_front x last rest k y is = ap (λ l. slice_get l k) (sym (append_assoc (element_orders x) (last ∷ []) rest)) ∙ is
-
-    cases : (b : Block) → IsBlock b (o ∷ os) → BlockFits b o
-    cases (block.Within n) sh = tt
-    cases block.Single sh = fits 0 o refl
-    cases (block.Fetch x) sh = tt
-    cases (block.Assign x) sh = tt
-    cases block.Write sh = tt
-    cases (block.Divide w line) sh = (fits_as 1 (order.Const w) _ sh.0 refl).0
-    cases (block.Operate s u) sh =
-        let rest = drop (suc (length (operand_orders s))) os in
-        (simple_fits s u rest sh.0, (fits_as (suc (length (operand_orders s))) (order_of u) _ sh.0 (behind_these (operand_orders s) (order_of u) rest)).2)
-    cases (block.FetchPart x t b is_signed) sh = (part_of t b sh.1).1
-    cases (block.AssignPart x t b) sh = (part_of t b sh.1).1
-    cases (block.FetchElement e) sh =
-        let rest = drop (length (element_orders e)) os in
-        tested_fits e e.test (order.Load ∷ []) rest (λ k y is. fits_as k y _ sh.0 (element_front e order.Load rest k y is))
-    cases (block.AssignElement e) sh =
-        let rest = drop (suc (length (element_orders e))) os in
-        tested_fits e e.test (order.Store ∷ []) rest (λ k y is. fits_as (suc k) y _ sh.0 (element_front e order.Store rest k y is))
-    cases (block.Count down line) sh = subst (λ n. n < 65536) (count_line down line) (fits_as 2 (count_order down line) _ sh refl).2
-    cases (block.Halve w power places line) sh = few_places w power places sh.1
-    cases (block.Bounded b) sh =
-        let h = fits_as 0 (order.InBounds b.bounds.lower b.bounds.upper b.bounds.line) _ sh.0 refl in
-        (h.1.0, h.2, form_fits b.bounds.lower b.form (fits_as 3 (form_order b.bounds.lower b.form) _ sh.0 refl))
-
-fits_front : (left : ℕ) (o : Order) (os : List Order) → AllFit (o ∷ os) → BlockFits (block_at left (o ∷ os)) o
-fits_front zero o os fits = fits_first o os fits
-fits_front (suc n) o os fits = tt
-
-pub fits_at : (left : ℕ) (list : List Order) (k : ℕ) (o : Order) → slice_get list k ≡ Some o → AllFit list → BlockFits (block_at left (drop k list)) o
-fits_at left [] k o e fits = absurd (cc)
-fits_at left (x ∷ xs) zero o e fits =
-    let same : x ≡ o = cc in
-    subst (BlockFits (block_at left (x ∷ xs))) same (fits_front left x xs fits)
-fits_at left (x ∷ xs) (suc k) o e fits = fits_at left xs k o e (λ n y is. fits (suc n) y is)
 
 is_ax : 0 < 8
 is_ax = lit< tt
@@ -529,6 +404,12 @@ module _ (p : OrderProgram) (segment next : ℕ) (value : Filling) (fills : Fill
   pub base_fine : (place to : ℕ) → AllFine value (base_jump place to)
   base_fine place to = ((lit< tt, lit< tt), ((lit< tt, lit< tt), ((is_ax, number_filled), ((is_ax, (lit< tt, lit< tt)), (distance_small (place + 15) to, tt)))))
 
+  frame_entered_fine : (size : ℕ) → size < 65536 → AllFine value (frame_entered size)
+  frame_entered_fine size small =
+      let made : AllFine value (drop 9 (frame_entered size)) = (cx_register, (bp_free, ((lit< tt, lit< tt), (place_filled segment_word, ((cx_register, λ e. omega arith), (bx_free, (ax_free, tt))))))) in
+      let taken : AllFine value (drop 6 (frame_entered size)) = ((lit< tt, small), ((lit< tt, lit< tt), (library_filled enter_stop_entry (lit< tt), made))) in
+      ((cx_register, (lit< tt, lit< tt)), ((lit< tt, lit< tt), ((is_ax, (lit< tt, lit< tt)), ((lit< tt, lit< tt), ((lit< tt, is_bx, is_ax), ((lit< tt, λ e. omega arith, is_bx), taken))))))
+
   control_fine : (t : Target) → IsFilled value t → AllFine value (control_out t)
   control_fine t filled = (bp_free, ((is_ax, filled), (ax_free, tt)))
 
@@ -538,8 +419,11 @@ module _ (p : OrderProgram) (segment next : ℕ) (value : Filling) (fills : Fill
   return_fine : (n : ℕ) → n < 256 → AllFine value (return_with n)
   return_fine n lt = ((lit< tt, lit< tt), (bp_free, ((let small : 2 * n < 65536 = omega arith in small), tt)))
 
-  argument_fine : (r n : ℕ) → r < 8 → n < 257 → IsInstr (load r (argument n))
-  argument_fine r n lr lt = let small : 4 + 2 * n < 65536 = omega arith in (lr, (lit< tt, small))
+  argument_taken_fine : (r n : ℕ) → r < 8 → n < 257 → IsInstr (load r (argument n))
+  argument_taken_fine r n lr lt = let small : 4 + 2 * n < 65536 = omega arith in (lr, argument_fine n small)
+
+  framed_fine : (n : ℕ) → IsRm (field (2 * n % 65536))
+  framed_fine n = field_fine (2 * n % 65536) (doubled_small n)
 
   mark_words_fine : (names : Names) (ms : List ℕ) → AllFine value (mark_words names ms)
   mark_words_fine names [] = tt
@@ -638,15 +522,20 @@ module _ (p : OrderProgram) (segment next : ℕ) (value : Filling) (fills : Fill
   template_fine names place (order.PutVariable line) fits = at_line_fine put_variable_entry line (lit< tt) fits.2
   template_fine names place (order.NextStep x line mark) fits = step_fine x line place (mark_place names mark) fits.2
   template_fine names place (order.LoopWay marks) fits = loops_fine names place marks (let f = fits.1 in omega arith)
+  template_fine names place (order.SwitchWay marks line) fits =
+      let few : length marks < 65536 = (let f = fits.1 in omega arith) in (
+        is_ax,
+        ((lit< tt, few), ((lit< tt, lit< tt), ((dx_register, fits.2), (library_filled switch_entry (lit< tt), (is_bx, ((lit< tt, λ e. omega arith, is_bx), (place_filled ((place + 20) % 65536), mark_words_fine names marks))))))),
+      )
   template_fine names place (order.CallProc q line) fits = ((dx_register, fits.2), (distance_small (place + 6) (procedure_start names q), tt))
   template_fine names place (order.CallCommon d line) fits = ((dx_register, fits.2), (ahead_filled d, tt))
   template_fine names place (order.CallSpecial k line) fits =
-      ((dx_register, fits.2), (argument_fine 0 k is_ax (few_more k fits.1), ((is_bx, place_filled ((place + 13) % 65536)), (bx_free, (is_ax, tt)))))
-  template_fine names place (order.Enter size) fits = (library_filled enter_entry (lit< tt), (fits.1, (number_filled, tt)))
-  template_fine names place (order.Bind k family offset) fits = (argument_fine 0 k is_ax (few_more k fits.1), (bytes_filled family offset, tt))
+      ((dx_register, fits.2), (argument_taken_fine 0 k is_ax (few_more k fits.1), ((is_bx, place_filled ((place + (argument_load_size k + 9)) % 65536)), (bx_free, (is_ax, tt)))))
+  template_fine names place (order.Enter zero) fits = (library_filled enter_entry (lit< tt), (fits.1, (number_filled, tt)))
+  template_fine names place (order.Enter (suc n)) fits = frame_entered_fine (suc n) fits.1
+  template_fine names place (order.Bind k family offset) fits = (argument_taken_fine 0 k is_ax (few_more k fits.1), (bytes_filled family offset, tt))
   template_fine names place (order.BindFrame k offset) fits =
-      let small : 2 * offset % 65536 < 65536 = omega arith in
-      (argument_fine 1 k cx_register (few_more k fits.1.0), ((is_bx, (lit< tt, lit< tt)), ((cx_register, (lit< tt, small)), tt)))
+      (argument_taken_fine 1 k cx_register (few_more k fits.1.0), ((is_bx, (lit< tt, lit< tt)), ((cx_register, framed_fine offset), tt)))
   template_fine names place (order.Return n answers) fits = return_fine n fits.1
   template_fine names place (order.LabelOut l) fits = control_fine (target.Place (label_start names l % 65536)) (place_filled (label_start names l % 65536))
   template_fine names place (order.LabelCommon d) fits = control_fine (target.Definition d) (definition_filled d)
@@ -654,31 +543,37 @@ module _ (p : OrderProgram) (segment next : ℕ) (value : Filling) (fills : Fill
   template_fine names place (order.SwitchCommon d) fits = control_fine (target.Definition d) (definition_filled d)
   template_fine names place (order.ProcOut q) fits = control_fine (target.Place (procedure_start names q % 65536)) (place_filled (procedure_start names q % 65536))
   template_fine names place (order.ProcCommon d) fits = control_fine (target.Definition d) (definition_filled d)
-  template_fine names place (order.SpecialOut k) fits = (argument_fine 0 (k + 1) is_ax (few_next k fits.1), (ax_free, (argument_fine 0 k is_ax (few_more k fits.1), (ax_free, tt))))
+  template_fine names place (order.SpecialOut k) fits = (argument_taken_fine 0 (k + 1) is_ax (few_next k fits.1), (ax_free, (argument_taken_fine 0 k is_ax (few_more k fits.1), (ax_free, tt))))
   template_fine names place (order.GoMain mark) fits = base_fine place (mark_place names mark)
   template_fine names place (order.GoCommon d) fits = (ahead_filled d, tt)
   template_fine names place (order.GoSpecial k) fits =
-      (argument_fine 3 k is_bx (few_more k fits.1), (argument_fine 5 (k + 1) (lit< tt) (few_next k fits.1), all_fine-append value operands_dropped (coded.Whole (jump_to 3) ∷ []) dropped_fine (is_bx, tt)))
+      (argument_taken_fine 3 k is_bx (few_more k fits.1), (argument_taken_fine 5 (k + 1) (lit< tt) (few_next k fits.1), all_fine-append value operands_dropped (coded.Whole (jump_to 3) ∷ []) dropped_fine (is_bx, tt)))
   template_fine names place (order.GoSwitch n line) fits = ((dx_register, fits.2), ((lit< tt, lit< tt), (distance_small (place + 8) (switch_start names n), tt)))
   template_fine names place (order.GoSwitchCommon d line) fits = ((dx_register, fits.2), ((lit< tt, lit< tt), (ahead_filled d, tt)))
   template_fine names place (order.GoSwitchSpecial k line) fits =
-      ((dx_register, fits.2), (argument_fine 6 (k + 1) (lit< tt) (few_next k fits.1), (argument_fine 3 k is_bx (few_more k fits.1), (is_bx, tt))))
+      ((dx_register, fits.2), (argument_taken_fine 6 (k + 1) (lit< tt) (few_next k fits.1), (argument_taken_fine 3 k is_bx (few_more k fits.1), (is_bx, tt))))
   template_fine names place order.Drop fits = tt
   template_fine names place order.Mark fits = tt
   template_fine names place (order.Start n) fits = tt
 
-  -- with its jump short or near
-  template_by_fine : (names : Names) (place : ℕ) (short : Bool) (o : Order) → OrderFits o → AllFine value (template_by short names place o)
-  template_by_fine names place false o fits = template_fine names place o fits
-  template_by_fine names place true (order.Jump mark) fits = (short_small (place + 2) (mark_place names mark), tt)
-  template_by_fine names place true (order.JumpIf c mark) fits = (bx_free, ((lit< tt, is_bx, is_ax), short_branch_fine c (place + 5) (mark_place names mark)))
-  template_by_fine names place true (order.LoopWay []) fits = template_fine names place (order.LoopWay []) fits
-  template_by_fine names place true (order.LoopWay (m ∷ [])) fits = (is_ax, ((lit< tt, short_small (place + 3) (mark_place names m)), tt))
-  template_by_fine names place true (order.LoopWay (m ∷ n ∷ ms)) fits = template_fine names place (order.LoopWay (m ∷ n ∷ ms)) fits
-  template_by_fine names place true o fits = template_fine names place o fits
+  -- with its jump short or near, and its check whole or a jump back
+  checked_by_fine : (short : Bool) (line place to : ℕ) → line < 65536 → AllFine value (checked_by short line place to)
+  checked_by_fine true line place to small = ((lit< tt, short_small (place + 2) to), tt)
+  checked_by_fine false line place to small = checked_fine line small
 
-  field_fine : (n : ℕ) → 2 * n % 65536 < 65536
-  field_fine n = omega arith
+  template_by_fine : (names : Names) (place number : ℕ) (short : Bool) (o : Order) → OrderFits o → AllFine value (template_by short names place number o)
+  template_by_fine names place number false o fits = template_fine names place o fits
+  template_by_fine names place number true (order.Add line) fits = (bx_free, ((lit< tt, is_ax, is_bx), checked_by_fine true line (place + 3) (call_place names number) fits.2))
+  template_by_fine names place number true (order.Sub line) fits = ((is_bx, is_ax), (ax_free, ((lit< tt, is_ax, is_bx), checked_by_fine true line (place + 5) (call_place names number) fits.2)))
+  template_by_fine names place number true (order.Neg line) fits = ((lit< tt, lit< tt, is_ax), checked_by_fine true line (place + 2) (call_place names number) fits.2)
+  template_by_fine names place number true (order.Mul (pos zero) line) fits = (bx_free, ((lit< tt, lit< tt, is_bx), checked_by_fine true line (place + 3) (call_place names number) fits.2))
+  template_by_fine names place number true (order.Mul s line) fits = template_fine names place (order.Mul s line) fits
+  template_by_fine names place number true (order.Jump mark) fits = (short_small (place + 2) (mark_place names mark), tt)
+  template_by_fine names place number true (order.JumpIf c mark) fits = (bx_free, ((lit< tt, is_bx, is_ax), short_branch_fine c (place + 5) (mark_place names mark)))
+  template_by_fine names place number true (order.LoopWay []) fits = template_fine names place (order.LoopWay []) fits
+  template_by_fine names place number true (order.LoopWay (m ∷ [])) fits = (is_ax, ((lit< tt, short_small (place + 3) (mark_place names m)), tt))
+  template_by_fine names place number true (order.LoopWay (m ∷ n ∷ ms)) fits = template_fine names place (order.LoopWay (m ∷ n ∷ ms)) fits
+  template_by_fine names place number true o fits = template_fine names place o fits
 
   address_fine : (x : Place) → AllFine value (address_pieces x)
   address_fine (cell.Word f n) = tt
@@ -686,28 +581,28 @@ module _ (p : OrderProgram) (segment next : ℕ) (value : Filling) (fills : Fill
 
   load_place_fine : (x : Place) → IsFine value (load_place x)
   load_place_fine (cell.Word f n) = bytes_filled f n
-  load_place_fine (cell.Frame n) = (is_ax, (lit< tt, field_fine n))
+  load_place_fine (cell.Frame n) = (is_ax, framed_fine n)
 
   store_place_fine : (x : Place) → IsFine value (store_place x)
   store_place_fine (cell.Word f n) = bytes_filled f n
-  store_place_fine (cell.Frame n) = (is_ax, (lit< tt, field_fine n))
+  store_place_fine (cell.Frame n) = (is_ax, framed_fine n)
 
   operate_place_fine : (op : ℕ) (x : Place) → op < 8 → IsFine value (operate_place op x)
   operate_place_fine op (cell.Word f n) lt = (lt, is_ax, bytes_filled f n)
-  operate_place_fine op (cell.Frame n) lt = (lt, is_ax, (lit< tt, field_fine n))
+  operate_place_fine op (cell.Frame n) lt = (lt, is_ax, framed_fine n)
 
   change_place_fine : (op : ℕ) (x : Place) → op < 8 → IsFine value (change_place op x)
   change_place_fine op (cell.Word f n) lt = (lt, is_ax, bytes_filled f n)
-  change_place_fine op (cell.Frame n) lt = (lt, is_ax, (lit< tt, field_fine n))
+  change_place_fine op (cell.Frame n) lt = (lt, is_ax, framed_fine n)
 
   -- the address of an element
   index_fine : (x : Place) (family offset : ℕ) → AllFine value (index_added x family offset)
   index_fine (cell.Word f n) family offset = ((lit< tt, home_filled family offset), ((lit< tt, lit< tt, bytes_filled f n), tt))
-  index_fine (cell.Frame n) family offset = ((is_bx, (lit< tt, lit< tt)), ((lit< tt, home_filled family offset), ((lit< tt, lit< tt, (lit< tt, field_fine n)), tt)))
+  index_fine (cell.Frame n) family offset = ((is_bx, (lit< tt, lit< tt)), ((lit< tt, home_filled family offset), ((lit< tt, lit< tt, framed_fine n), tt)))
 
   loaded_fine : (x : Place) → AllFine value (index_loaded x)
   loaded_fine (cell.Word f n) = ((lit< tt, bytes_filled f n), tt)
-  loaded_fine (cell.Frame n) = ((is_bx, (lit< tt, lit< tt)), ((lit< tt, (lit< tt, field_fine n)), tt))
+  loaded_fine (cell.Frame n) = ((is_bx, (lit< tt, lit< tt)), ((lit< tt, framed_fine n), tt))
 
   from_lower_fine : (lower : ℤ) → FitsWord lower → AllFine value (from_lower lower)
   from_lower_fine (pos zero) fl = tt
@@ -741,14 +636,14 @@ module _ (p : OrderProgram) (segment next : ℕ) (value : Filling) (fills : Fill
   product_with_fine (simple.Element e) fits =
       ((cx_register, is_ax), all_fine-append value (element_address e) (coded.Whole (load 0 at_si) ∷ coded.Whole (multiply 1) ∷ []) (element_address_fine e fits) ((is_ax, (lit< tt, λ e. omega arith)), ((lit< tt, lit< tt, cx_register), tt)))
 
-  operated_fine : (names : Names) (place : ℕ) (short : Bool) (s : Simple) (u : Use) → SimpleFits s → line_of (order_of u) < 65536 → AllFine value (operated names place short s u)
-  operated_fine names place short s (uses.Add line) fits small = all_fine-append value (with_operand 0 s) (checked line) (with_operand_fine 0 s (lit< tt) fits) (checked_fine line small)
-  operated_fine names place short s (uses.Subtract line) fits small = all_fine-append value (with_operand 5 s) (checked line) (with_operand_fine 5 s (lit< tt) fits) (checked_fine line small)
-  operated_fine names place short s (uses.Multiply line) fits small = all_fine-append value (product_with s) (checked line) (product_with_fine s fits) (checked_fine line small)
-  operated_fine names place short s uses.Mask fits small = with_operand_fine 4 s (lit< tt) fits
-  operated_fine names place short s uses.Union fits small = with_operand_fine 1 s (lit< tt) fits
-  operated_fine names place short s uses.Differ fits small = with_operand_fine 6 s (lit< tt) fits
-  operated_fine names place short s (uses.Compare c mark) fits small =
+  operated_fine : (names : Names) (place number : ℕ) (short : Bool) (s : Simple) (u : Use) → SimpleFits s → line_of (order_of u) < 65536 → AllFine value (operated names place number short s u)
+  operated_fine names place number short s (uses.Add line) fits small = all_fine-append value (with_operand 0 s) _ (with_operand_fine 0 s (lit< tt) fits) (checked_by_fine short line (place + pieces_size (with_operand 0 s)) (call_place names number) small)
+  operated_fine names place number short s (uses.Subtract line) fits small = all_fine-append value (with_operand 5 s) _ (with_operand_fine 5 s (lit< tt) fits) (checked_by_fine short line (place + pieces_size (with_operand 5 s)) (call_place names number) small)
+  operated_fine names place number short s (uses.Multiply line) fits small = all_fine-append value (product_with s) _ (product_with_fine s fits) (checked_by_fine short line (place + pieces_size (product_with s)) (call_place names number) small)
+  operated_fine names place number short s uses.Mask fits small = with_operand_fine 4 s (lit< tt) fits
+  operated_fine names place number short s uses.Union fits small = with_operand_fine 1 s (lit< tt) fits
+  operated_fine names place number short s uses.Differ fits small = with_operand_fine 6 s (lit< tt) fits
+  operated_fine names place number short s (uses.Compare c mark) fits small =
       let behind = place + pieces_size (with_operand 7 s) in
       all_fine-append value (with_operand 7 s) (branch_by short c behind (mark_place names mark)) (with_operand_fine 7 s (lit< tt) fits) (branch_by_fine short c behind (mark_place names mark))
 
@@ -767,26 +662,51 @@ module _ (p : OrderProgram) (segment next : ℕ) (value : Filling) (fills : Fill
   formed_fine family first (form.Entry width word span line) fits =
       all_fine-append value (times_entry width) (coded.Sum 0 (target.Word family (first + word)) ∷ []) (times_entry_fine (width == 1) width fits) ((is_ax, home_filled family (first + word)), tt)
 
-  pub block_fine : (names : Names) (place : ℕ) (short : Bool) (b : Block) (o : Order) → BlockFits b o → AllFine value (block_pieces names place short b o)
-  block_fine names place short (block.Within n) o fits = tt
-  block_fine names place short block.Single o fits = template_by_fine names place short o fits
-  block_fine names place short (block.Fetch x) o fits = all_fine-append value (address_pieces x) (load_place x ∷ []) (address_fine x) (load_place_fine x, tt)
-  block_fine names place short (block.Assign x) o fits = all_fine-append value (address_pieces x) (store_place x ∷ []) (address_fine x) (store_place_fine x, tt)
-  block_fine names place short block.Write o fits = (lit< tt, tt)
-  block_fine names place short (block.Divide w line) o fits = ((is_bx, fits), (tt, ((lit< tt, lit< tt, is_bx), tt)))
-  block_fine names place short (block.Operate s u) o fits = operated_fine names place short s u fits.0 fits.1
-  block_fine names place short (block.FetchPart x t b is_signed) o fits =
+  -- one that is made of both indexes
+  column_fine : (c : Column) → ColumnFits c → AllFine value (column_loaded c)
+  column_fine (column.Number w) fits = ((lit< tt, fits), tt)
+  column_fine (column.Contents x) fits = loaded_fine x
+
+  column_below_fine : (line count : ℕ) → line < 65536 → count < 65536 → AllFine value (column_below line count)
+  column_below_fine line count small few = ((lit< tt, lit< tt, few), ((lit< tt, lit< tt), call_stop_fine bounds_entry line (lit< tt) small))
+
+  row_fine : (r : Row) → RowFits r → AllFine value (row_address r)
+  row_fine r fits =
+      let first : List Coded = top_below r.rows.line (indexes_between (r.rows.upper -ℤ r.rows.lower)) in
+      let second : List Coded = column_below r.columns.line (indexes_between (r.columns.upper -ℤ r.columns.lower)) in
+      let base : List Coded = formed r.family r.first (form.Entry r.width 0 r.span r.line) in
+      all_fine-append value (top_from_lower r.rows.lower) _ (top_lower_fine r.rows.lower fits.0)
+      (all_fine-append value first _ (below_fine r.rows.line _ fits.1 (between_small (r.rows.upper -ℤ r.rows.lower)))
+      (all_fine-append value (column_loaded r.column) _ (column_fine r.column fits.2)
+      (all_fine-append value (from_lower r.columns.lower) _ (from_lower_fine r.columns.lower fits.3)
+      (all_fine-append value second _ (column_below_fine r.columns.line _ fits.4 (between_small (r.columns.upper -ℤ r.columns.lower)))
+      (all_fine-append value base _ (formed_fine r.family r.first (form.Entry r.width 0 r.span r.line) fits.5) ((lit< tt, is_ax, lit< tt), tt))))))
+
+  pub block_fine : (names : Names) (place number : ℕ) (short : Bool) (b : Block) (o : Order) → BlockFits b o → AllFine value (block_pieces names place number short b o)
+  block_fine names place number short (block.Within n) o fits = tt
+  block_fine names place number short block.Single o fits = template_by_fine names place number short o fits
+  block_fine names place number short (block.Fetch x) o fits = all_fine-append value (address_pieces x) (load_place x ∷ []) (address_fine x) (load_place_fine x, tt)
+  block_fine names place number short (block.Assign x) o fits = all_fine-append value (address_pieces x) (store_place x ∷ []) (address_fine x) (store_place_fine x, tt)
+  block_fine names place number short block.Write o fits = (lit< tt, tt)
+  block_fine names place number short (block.Divide w line) o fits = ((is_bx, fits), (tt, ((lit< tt, lit< tt, is_bx), tt)))
+  block_fine names place number short (block.Operate s u) o fits = operated_fine names place number short s u fits.0 fits.1
+  block_fine names place number short (block.FetchPart x t b is_signed) o fits =
       all_fine-append value (address_pieces x) (load_place x ∷ part_taken t b is_signed) (address_fine x) (load_place_fine x, part_fine t b is_signed fits)
-  block_fine names place short (block.AssignPart x t b) o fits =
+  block_fine names place number short (block.AssignPart x t b) o fits =
       all_fine-append value (shifted_up b) _ (up_fine b (omega arith))
       (all_fine-append value (address_pieces x) _ (address_fine x) (operate_place_fine 6 x (lit< tt), ((lit< tt, mask_small t b fits), (change_place_fine 6 x (lit< tt), tt))))
-  block_fine names place short (block.FetchElement e) o fits = all_fine-append value (element_address e) (coded.Whole (load 0 at_si) ∷ []) (element_address_fine e fits) ((is_ax, (lit< tt, λ e. omega arith)), tt)
-  block_fine names place short (block.AssignElement e) o fits = all_fine-append value (element_address e) (coded.Whole (store at_si 0) ∷ []) (element_address_fine e fits) ((is_ax, (lit< tt, λ e. omega arith)), tt)
-  block_fine names place short (block.Count true line) o fits = (is_ax, checked_fine line fits)
-  block_fine names place short (block.Count false line) o fits = (is_ax, checked_fine line fits)
-  block_fine names place short (block.Halve w power places line) o fits = down_signed_fine places (omega arith)
-  block_fine names place short (block.Bounded b) o fits =
+  block_fine names place number short (block.FetchElement e) o fits = all_fine-append value (element_address e) (coded.Whole (load 0 at_si) ∷ []) (element_address_fine e fits) ((is_ax, (lit< tt, λ e. omega arith)), tt)
+  block_fine names place number short (block.AssignElement e) o fits = all_fine-append value (element_address e) (coded.Whole (store at_si 0) ∷ []) (element_address_fine e fits) ((is_ax, (lit< tt, λ e. omega arith)), tt)
+  block_fine names place number short (block.Count true line) o fits = (is_ax, checked_by_fine short line (place + 1) (call_place names number) fits)
+  block_fine names place number short (block.Count false line) o fits = (is_ax, checked_by_fine short line (place + 1) (call_place names number) fits)
+  block_fine names place number short (block.Halve w power places line) o fits = down_signed_fine places (omega arith)
+  block_fine names place number short (block.FetchBoth n m) o fits = ((is_bx, (lit< tt, lit< tt)), ((is_ax, framed_fine n), (ax_free, ((is_ax, framed_fine m), tt))))
+  block_fine names place number short (block.CompareWord n w c m) o fits =
+      let behind = place + pieces_size (word_compared n w) in
+      all_fine-append value (word_compared n w) (branch_by short c behind (mark_place names m)) ((is_bx, (lit< tt, lit< tt)), ((lit< tt, framed_fine n, fits), tt)) (branch_by_fine short c behind (mark_place names m))
+  block_fine names place number short (block.Bounded b) o fits =
       let test : List Coded = top_below b.bounds.line (indexes_between (b.bounds.upper -ℤ b.bounds.lower)) in
       let last : List Coded = formed b.family b.first b.form in
       all_fine-append value (top_from_lower b.bounds.lower) (test ++ last) (top_lower_fine b.bounds.lower fits.0)
       (all_fine-append value test last (below_fine b.bounds.line _ fits.1 (between_small (b.bounds.upper -ℤ b.bounds.lower))) (formed_fine b.family b.first b.form fits.2))
+  block_fine names place number short (block.Row r) o fits = row_fine r fits

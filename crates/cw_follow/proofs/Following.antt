@@ -114,9 +114,9 @@ following rows p code words memory input s places there is stand coded begins ne
           },
           refl,
         ) in
-        let base_is : 430 ≡ base_of p 0 = refl in
+        let base_is : 438 ≡ base_of p 0 = refl in
         let way : Leads [] 12 begin (Arrived p image 0 first false [] begun) =
-        more rows {to = base_of p 0} {w = view 0 0 0 0 0 0 0 0 false (slice_index words) (λ k. 0) input nothing_told} from refl (seen base_is refl (near rows 427 (in_library ignores 0 (i86.Jump 427) (lit< tt) all.library.0.0) from)) (λ q t.
+        more rows {to = base_of p 0} {w = view 0 0 0 0 0 0 0 0 false (slice_index words) (λ k. 0) input nothing_told} from refl (seen base_is refl (near rows 435 (in_library ignores 0 (i86.Jump 435) (lit< tt) all.library.0.0) from)) (λ q t.
         leads_on at_entry
         (enters rows p 0 su.next_place su.value (base_of p 0) 0 0 0 0 0 0 0 32767 false (slice_index words) (λ k. 0) input nothing_told all.library su.fills su.entry (lit< tt) (lit< tt) area coded.frames coded.depth 0 refl t)) in
         let start = watched_way known (processor_start s input) (at 0 first false [] begun Running) (not_behind_first p 0 first is_zero, tt) (leads_on (λ q m. inl m) way) in

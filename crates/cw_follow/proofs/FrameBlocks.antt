@@ -1,7 +1,11 @@
 -- What the code does that fetches and stores a word of the frame at work.
-use Rattle.std.proofs.Common.{◌≡◌, ℕ, ◌+◌, ◌*◌, ◌%◌, ◌<◌, ◌≤◌, Bool, true, false, ℤ, List, [], ◌∷◌, set, Some, None, refl, sym, arith, lit<, lit≤}
+use Rattle.std.proofs.Common.{◌≡◌, ℕ, ◌+◌, ◌*◌, ◌%◌, ◌<◌, ◌≤◌, length, Bool, true, false, ℤ, List, [], ◌∷◌, set, Some, None, refl, sym, arith, lit<, lit≤}
 use Rattle.std.specs.Prelude.{nat_lt, if◌then◌else◌}
 use borrow.Author.Tests.{ltb-true}
+use Rattle.cw_i86.specs.Encoding.{bytes_of}
+use Rattle.cw_tmpl.specs.Templates.{frame_size}
+use Rattle.cw_tmpl.proofs.Lengths.{field_loaded, field_stored}
+use Rattle.cw_follow.proofs.Fields.{doubled_small}
 use Rattle.cw_follow.proofs.Watched.{Watched}
 use Rattle.cw_word.specs.Word.{signed, unsigned}
 use Rattle.cw_unit.specs.Words.{Operand, Word, Held, Words, Changed, with_memory, put, through, is_below, number_of, word_at}
@@ -30,7 +34,7 @@ frame_word_inside area a acts n k e = cases (nat_lt (a.frame_base + n) area) ref
 
 module _ (rows : Rows) (prog : OrderProgram) (image : Image) where
   -- the word comes to AX
-  fetches_frame : {q : Watched} {first : Bool} {at : ℕ} (g to n : ℕ) (a : OrderActivation) (acts : List OrderActivation) (w : Words) → prog.limits.area ≤ 32768 → a.frame_base + n < prog.limits.area → at + 7 ≡ to
+  fetches_frame : {q : Watched} {first : Bool} {at : ℕ} (g to n : ℕ) (a : OrderActivation) (acts : List OrderActivation) (w : Words) → prog.limits.area ≤ 32768 → a.frame_base + n < prog.limits.area → at + (frame_size n + 5) ≡ to
       → HasFrom first image at (load bx (slot base_slot) ∷ load ax (field (2 * n % 65536)) ∷ []) → LandedAt first prog image at g false (a ∷ acts) w q
       → Does prog image 2 to g true 0 (a ∷ acts) w.output q (unrefused (perform prog.limits.area (Fetch None) (put (signed (a.frame_base + n)) w)))
   fetches_frame {q} {first} {at} g to n a acts w low inside e i l = cases (is_below (signed m) prog.limits.area) refl
@@ -54,15 +58,15 @@ module _ (rows : Rows) (prog : OrderProgram) (image : Image) where
           let base : r + 1 < 32768 = omega arith in
           let slot_base : (bp + 65530) % 65536 ≡ 2 * (r + 1) = omega arith in
           let address : (2 * a.frame_base % 65536 + 2 * n % 65536) % 65536 ≡ 2 * k = omega arith in
-          let end : at + 3 + 4 ≡ to = omega arith in
+          let end : at + 3 + length (bytes_of (load ax (field (2 * n % 65536)))) ≡ to = omega (arith, e, field_loaded ax (2 * n % 65536)) in
           further 2 (lit≤ tt) (lit< tt)
           (straight_from rows (LoadSlot 3 0xFA (r + 1) (2 * a.frame_base % 65536)) (LoadWord 0 (2 * n % 65536) k (unsigned (word_at w.memory k)) ∷ []) {n = 0} c.wrote i
-          ((base, slot_base, c.piled.0.base_is), ((k_low, address, c.words k within), tt)) s.is (λ q u.
+          ((base, slot_base, c.piled.0.base_is), ((k_low, doubled_small a.frame_base, address, c.words k within), tt)) s.is (λ q u.
           done (landed rows prog image g (a ∷ acts) true to l.top (Word (word_at w.memory k) ∷ w.operands) w.memory w.input w.output end (refl, l.operands) c u)))
 
   -- the top operand goes to the word
   assigns_frame : {q : Watched} {at : ℕ} (g to n : ℕ) (a : OrderActivation) (acts : List OrderActivation) (operands : List Operand) (memory : List ℤ) (input output : List ℕ) → prog.limits.area ≤ 32768
-      → a.frame_base + n < prog.limits.area → at + 7 ≡ to
+      → a.frame_base + n < prog.limits.area → at + (frame_size n + 5) ≡ to
       → HasAll image at (load bx (slot base_slot) ∷ store (field (2 * n % 65536)) ax ∷ [])
       → Landed prog image at g true (a ∷ acts) (record { operands = operands; memory = memory; input = input; output = output }) q
       → Does prog image 2 to g false 0 (a ∷ acts) output q (unrefused (perform prog.limits.area (Store None) (record { operands = Word (signed (a.frame_base + n)) ∷ operands; memory = memory; input = input; output = output })))
@@ -89,14 +93,14 @@ module _ (rows : Rows) (prog : OrderProgram) (image : Image) where
           let base : r + 1 < 32768 = omega arith in
           let slot_base : (bp + 65530) % 65536 ≡ 2 * (r + 1) = omega arith in
           let address : (2 * a.frame_base % 65536 + 2 * n % 65536) % 65536 ≡ 2 * k = omega arith in
-          let end : at + 3 + 4 ≡ to = omega arith in
+          let end : at + 3 + length (bytes_of (store (field (2 * n % 65536)) ax)) ≡ to = omega (arith, e, field_stored ax (2 * n % 65536)) in
           further 2 (lit≤ tt) (lit< tt)
           (straight rows (LoadSlot 3 0xFA (r + 1) (2 * a.frame_base % 65536) ∷ StoreField 0 (2 * n % 65536) k ∷ []) {n = 0} c.wrote i
-          ((base, slot_base, c.piled.0.base_is), ((k_low, address), tt)) (with_ax l.operands.0 s.is) (λ q u.
+          ((base, slot_base, c.piled.0.base_is), ((k_low, doubled_small a.frame_base, address), tt)) (with_ax l.operands.0 s.is) (λ q u.
           done (landed rows prog image g (a ∷ acts) false to l.top rest (set memory k z) input output end l.operands.1 (kept_stored k z within c) u)))
 
   -- a segment's body has no frame, and a word that is not in the data area is none of a frame
-  pub fetches_word : {q : Watched} {first : Bool} {at : ℕ} (g to n : ℕ) (acts : List OrderActivation) (w : Words) → prog.limits.area ≤ 32768 → at + 7 ≡ to
+  pub fetches_word : {q : Watched} {first : Bool} {at : ℕ} (g to n : ℕ) (acts : List OrderActivation) (w : Words) → prog.limits.area ≤ 32768 → at + (frame_size n + 5) ≡ to
       → HasFrom first image at (load bx (slot base_slot) ∷ load ax (field (2 * n % 65536)) ∷ []) → LandedAt first prog image at g false acts w q
       → Does prog image 2 to g true 0 acts w.output q (chain (chain (put_address (frame_word prog.limits.area acts n) w) Changed) (λ v. unrefused (perform prog.limits.area (Fetch None) v)))
   fetches_word g to n [] w low e i l = tt
@@ -107,7 +111,7 @@ module _ (rows : Rows) (prog : OrderProgram) (image : Image) where
       cases false is = tt
       cases true is = fetches_frame g to n a acts w low (ltb-true (a.frame_base + n) prog.limits.area is) e i l
 
-  pub assigns_word : {q : Watched} {at : ℕ} (g to n : ℕ) (acts : List OrderActivation) (w : Words) → prog.limits.area ≤ 32768 → at + 7 ≡ to
+  pub assigns_word : {q : Watched} {at : ℕ} (g to n : ℕ) (acts : List OrderActivation) (w : Words) → prog.limits.area ≤ 32768 → at + (frame_size n + 5) ≡ to
       → HasAll image at (load bx (slot base_slot) ∷ store (field (2 * n % 65536)) ax ∷ []) → Landed prog image at g true acts w q
       → Does prog image 2 to g false 0 acts w.output q (chain (chain (put_address (frame_word prog.limits.area acts n) w) Changed) (λ v. unrefused (perform prog.limits.area (Store None) v)))
   assigns_word g to n [] w low e i l = tt

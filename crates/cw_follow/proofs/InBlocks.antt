@@ -23,12 +23,15 @@ use Rattle.cw_tmpl.specs.declared.blocks.Simple.{Simple}
 use Rattle.cw_tmpl.specs.declared.blocks.Simple.TheVariants as simple
 use Rattle.cw_tmpl.specs.declared.blocks.Form.{Form}
 use Rattle.cw_tmpl.specs.declared.blocks.Form.TheVariants as form
+use Rattle.cw_tmpl.specs.declared.rows.Column.{Column}
+use Rattle.cw_tmpl.specs.declared.rows.Column.TheVariants as column
+use Rattle.cw_tmpl.specs.declared.rows.Row.{Row}
 use Rattle.cw_tmpl.specs.declared.blocks.Use.{Use}
 use Rattle.cw_tmpl.specs.declared.blocks.Use.TheVariants as uses
 use Rattle.cw_tmpl.specs.declared.blocks.Block.{Block}
 use Rattle.cw_tmpl.specs.declared.blocks.Block.TheVariants as block
 use Rattle.cw_follow.specs.Placing.{StandsBehind}
-use Rattle.cw_tmpl.specs.Blocks.{address_orders, bounds_orders, element_orders, form_order, operand_orders, order_of, count_order, block_at, orders_left, left_at}
+use Rattle.cw_tmpl.specs.Blocks.{address_orders, bounds_orders, element_orders, form_order, column_orders, orders_in_row, orders_to_row, row_order, operand_orders, order_of, count_order, block_at, orders_left, left_at}
 use Rattle.cw_tmpl.proofs.Shapes.{front_is, IsBlock, shape}
 use Rattle.cw_tmpl.proofs.Sizes.{size_to}
 use Rattle.cw_tmpl.specs.Templates.{Forms}
@@ -115,6 +118,14 @@ operand_stands (simple.Number w) = (tt, tt)
 operand_stands (simple.Contents x) = each_of_both StandsBehind (address_orders x) (order.Load ∷ []) (place_stands x) (tt, tt)
 operand_stands (simple.Element e) = each_of_both StandsBehind (element_orders e) (order.Load ∷ []) (element_stands e) (tt, tt)
 
+-- an element of two dimensions
+column_stands : (c : Column) → Each StandsBehind (column_orders c)
+column_stands (column.Number w) = (tt, tt)
+column_stands (column.Contents x) = each_of_both StandsBehind (address_orders x) (order.Load ∷ []) (place_stands x) (tt, tt)
+
+row_stands : (r : Row) → Each StandsBehind (orders_to_row r)
+row_stands r = (tt, (tt, each_of_both StandsBehind (column_orders r.column) (orders_in_row r) (column_stands r.column) (tt, (tt, (tt, tt)))))
+
 count_stands : (down : Bool) (line : ℕ) → StandsBehind (count_order down line)
 count_stands true line = tt
 count_stands false line = tt
@@ -164,7 +175,10 @@ first_ends o os = cases (block_at 0 (o ∷ os)) (shape (o ∷ os))
     cases (block.AssignElement e) sh = ends_so (suc (length (element_orders e))) _ sh.0 (ends_with (element_orders e) order.Store (drop (suc (length (element_orders e))) os) (element_stands e) tt)
     cases (block.Count down line) sh = ends_so 2 _ sh (tt, (count_stands down line, tt))
     cases (block.Halve w power places line) sh = ends_so 2 _ sh.0 (tt, (tt, tt))
+    cases (block.FetchBoth n m) sh = ends_so 4 _ sh (tt, (tt, (tt, (tt, tt))))
+    cases (block.CompareWord n w c m) sh = ends_so 4 _ sh (tt, (tt, (tt, (tt, tt))))
     cases (block.Bounded b) sh = ends_so 3 _ sh.0 (tt, (tt, (form_stands b.bounds.lower b.form, tt)))
+    cases (block.Row r) sh = ends_so (length (orders_to_row r)) _ sh.0 (ends_behind (orders_to_row r) (row_order r) (drop (length (orders_to_row r)) os) (row_stands r) tt)
 
 next_ends : (left : ℕ) (o : Order) (os : List Order) → AllEnd left (o ∷ os) → AllEnd (orders_left (block_at left (o ∷ os))) os
 next_ends zero o os h = first_ends o os

@@ -22,10 +22,14 @@ use Rattle.cw_tmpl.specs.declared.blocks.Test.TheVariants as test
 use Rattle.cw_tmpl.specs.declared.pieces.Target.TheVariants as target
 use Rattle.cw_tmpl.specs.Blocks.{zero_word}
 use Rattle.cw_tmpl.specs.Library.{stop_place, address_entry, bounds_entry}
-use Rattle.cw_tmpl.specs.Mnemonics.{bx as bx_register, si as si_register, di, field, memory as memory_at, compare, double, jump_if_below, operate_number}
+use Rattle.cw_tmpl.specs.Mnemonics.{load, operate, bx as bx_register, si as si_register, di, field, memory as memory_at, compare, double, jump_if_below, operate_number}
 use Rattle.cw_tmpl.specs.Pieces.{Filling, blanks}
-use Rattle.cw_tmpl.specs.Templates.{call_stop, index_added, index_loaded, indexes_between, from_lower, index_size, lower_size}
+use Rattle.cw_tmpl.specs.Templates.{frame_size, call_stop, index_added, index_loaded, indexes_between, from_lower}
+use Rattle.cw_tmpl.specs.Sizes.{index_size, lower_size}
 use Rattle.cw_order.specs.OrderState.{OrderActivation}
+use Rattle.cw_tmpl.proofs.Lengths.{first_long, field_loaded, field_operated}
+use Rattle.cw_i86.specs.Encoding.{bytes_of}
+use Rattle.cw_follow.proofs.Fields.{doubled_small, field_denotes}
 use Rattle.cw_follow.proofs.Watched.{Watched, watched_step}
 use Rattle.cw_follow.proofs.Standing.{HasPieces, Has, HasPiecesFrom}
 use Rattle.cw_follow.proofs.Chains.{Is, IsCompared, Leads, view, compared, compared_more, jumps_below, passes_above, jump_below, pass_above, number, add_at, double as doubled, more, last, done, IsAt}
@@ -250,7 +254,7 @@ loaded_steps (cell.Frame n) = 2
 
 abbrev pub loaded_size : Place → ℕ
 loaded_size (cell.Word f n) = 4
-loaded_size (cell.Frame n) = 7
+loaded_size (cell.Frame n) = frame_size n + 5
 
 abbrev pub lower_steps : ℤ → ℕ
 lower_steps (pos zero) = 0
@@ -280,7 +284,7 @@ few_element e (test.Bounds upper line) = omega (arith, few_loaded e.index, few_l
 
 pub loaded_long : (x : Place) → length (blanks (index_loaded x)) ≡ loaded_size x
 loaded_long (cell.Word f n) = refl
-loaded_long (cell.Frame n) = refl
+loaded_long (cell.Frame n) = omega (arith, first_long (load si_register (field (2 * n % 65536))) [], field_loaded si_register (2 * n % 65536))
 
 pub lower_long : (lower : ℤ) → length (blanks (from_lower lower)) ≡ lower_size lower
 lower_long (pos zero) = refl
@@ -289,7 +293,7 @@ lower_long (negsuc n) = refl
 
 pub loaded_index : (x : Place) → loaded_size x + 3 ≡ index_size x
 loaded_index (cell.Word f n) = refl
-loaded_index (cell.Frame n) = refl
+loaded_index (cell.Frame n) = omega arith
 
 -- ---- the code
 
@@ -364,7 +368,7 @@ module _ (c : Setting) (memory : List ℤ) (input output : List ℕ) where
 
     -- by a word of the frame of an activation
     pub sum_by_frame : (n : ℕ) (a : OrderActivation) (under : List OrderActivation) → c.acts ≡ a ∷ under → k ≡ a.frame_base + n → HasPiecesFrom first c.image value at (index_added (cell.Frame n) family zero_at ++ rest)
-        → Leads output 3 p (Summed (at + 3 + 3 + 4) ax cx dx (word_sum z (unsigned i)) top cells stack left told)
+        → Leads output 3 p (Summed (at + 3 + 3 + length (bytes_of (operate 0 si_register (field (2 * n % 65536))))) ax cx dx (word_sum z (unsigned i)) top cells stack left told)
     sum_by_frame n a under acts_are index h =
         let word = value 1 family zero_at (at + 3 + 3) in
         let r = level c.acts in
@@ -378,11 +382,11 @@ module _ (c : Setting) (memory : List ℤ) (input output : List ℕ) where
         (straight_from c.rows (LoadSlot bx_register 0xFA (r + 1) twice) (Number si_register word ∷ []) {n = 0} kept.wrote (h.0, (h.1.0, tt)) ((base, slot_base, kept.piled.0.base_is ∙ base_is), (tt, tt)) s
         (λ q t. done {Target = Is c.image (at + 3 + 3) (view ax cx dx twice (2 * suc top) (record_of c.acts) word c.program.limits.area overflow cells stack left told)} t))
         (λ q t.
-        let added = act c.rows (Operate Add si_register (field (2 * n % 65536)) (InData k) (cells k)) (lit< tt) h.1.1.0 ((refl, refl, low, address), refl) t in
+        let added = act c.rows (Operate Add si_register (field (2 * n % 65536)) (InData k) (cells k)) (let some : 0 < length (bytes_of (operate 0 si_register (field (2 * n % 65536)))) = omega (arith, field_operated 0 si_register (2 * n % 65536)) in some) h.1.1.0 (field_denotes c.image.bytes (view ax cx dx twice (2 * suc top) (record_of c.acts) word c.program.limits.area overflow cells stack left told).registers (2 * n % 65536) k low (doubled_small a.frame_base) address, refl) t in
         last c.rows t kept.wrote (record {
           bx = twice;
           overflow = sum_overflows word (cells k);
-          is = subst (λ b. Is c.image (at + 3 + 3 + 4) (view ax cx dx twice (2 * suc top) (record_of c.acts) b c.program.limits.area (sum_overflows word (cells k)) cells stack left told) (watched_step q))
+          is = subst (λ b. Is c.image (at + 3 + 3 + length (bytes_of (operate 0 si_register (field (2 * n % 65536))))) (view ax cx dx twice (2 * suc top) (record_of c.acts) b c.program.limits.area (sum_overflows word (cells k)) cells stack left told) (watched_step q))
               (ap₂ word_sum (named (at + 3 + 3)) holds) added.is;
         }))
 
@@ -404,7 +408,7 @@ module _ (c : Setting) (memory : List ℤ) (input output : List ℕ) where
 
     -- and from a word of the frame of an activation
     pub index_by_frame : (n : ℕ) (a : OrderActivation) (under : List OrderActivation) → c.acts ≡ a ∷ under → k ≡ a.frame_base + n → HasPiecesFrom first c.image value at (index_loaded (cell.Frame n) ++ rest)
-        → Leads output 2 p (Summed (at + 3 + 4) ax cx dx (unsigned i) top cells stack left told)
+        → Leads output 2 p (Summed (at + 3 + length (bytes_of (load si_register (field (2 * n % 65536))))) ax cx dx (unsigned i) top cells stack left told)
     index_by_frame n a under acts_are index h =
         let r = level c.acts in
         let bp = record_of c.acts in
@@ -420,8 +424,8 @@ module _ (c : Setting) (memory : List ℤ) (input output : List ℕ) where
         last c.rows t kept.wrote (record {
           bx = twice;
           overflow = overflow;
-          is = subst (λ b. Is c.image (at + 3 + 4) (view ax cx dx twice (2 * suc top) (record_of c.acts) b c.program.limits.area overflow cells stack left told) (watched_step q)) holds
-              (act c.rows (Into si_register (field (2 * n % 65536)) (InData k) (cells k)) (lit< tt) h.1.0 ((refl, refl, low, address), refl) t).is;
+          is = subst (λ b. Is c.image (at + 3 + length (bytes_of (load si_register (field (2 * n % 65536))))) (view ax cx dx twice (2 * suc top) (record_of c.acts) b c.program.limits.area overflow cells stack left told) (watched_step q)) holds
+              (act c.rows (Into si_register (field (2 * n % 65536)) (InData k) (cells k)) (let some : 0 < length (bytes_of (load si_register (field (2 * n % 65536)))) = omega (arith, field_loaded si_register (2 * n % 65536)) in some) h.1.0 (field_denotes c.image.bytes (view ax cx dx twice (2 * suc top) (record_of c.acts) si c.program.limits.area overflow cells stack left told).registers (2 * n % 65536) k low (doubled_small a.frame_base) address, refl) t).is;
         }))
 
   module _ (value : Filling) (rest : List Coded) {p : Watched} {at ax cx dx bx : ℕ} {overflow : Bool} {cells stack : ℕ → ℕ} {left : List ℕ} {told : Told} (top word : ℕ) (small : word < 65536)

@@ -23,10 +23,12 @@ use Rattle.cw_follow.proofs.Watched.{Watched}
 use Rattle.cw_follow.proofs.Standing.{order_place, Image}
 use Rattle.cw_follow.proofs.Chains.{Is, Leads, view, to_place, near, more}
 use Rattle.cw_follow.proofs.Routines.{leads_on}
-use Rattle.cw_follow.proofs.Stacks.{drop_all, record_of}
+use Rattle.cw_tmpl.specs.Named.{is_named_label}
+use Rattle.cw_follow.proofs.Named.{shared_label_named, label_lands}
+use Rattle.cw_follow.proofs.Stacks.{LabelNamed, drop_all, record_of}
 use Rattle.cw_follow.proofs.Orders.{Kept, Landed, further}
 use Rattle.cw_follow.proofs.States.{Given, Sound}
-use Rattle.cw_follow.proofs.Leaving.{past, kept_below, restores, goes_special}
+use Rattle.cw_follow.proofs.Leaving.{argument_of, past, kept_below, restores, goes_special}
 use Rattle.cw_follow.proofs.Calling.{left_for}
 use Rattle.cw_follow.proofs.Naming.{argument_stands, label_listed, label_start_is, mark_listed, start_is}
 use Rattle.cw_follow.proofs.Steps.{step_is, weight_is, stuck_here, Alone, code, FollowFrom, begun_here, landed_here}
@@ -52,13 +54,13 @@ module _ (known : Given) where
   -- the landing of a label of the body of a segment
   pub lands : {q : Watched} {ax cx dx bx sp bp si : ℕ} {overflow : Bool} {cells stack : ℕ → ℕ} {input : List ℕ} {told : Told} (to l k g' : ℕ) (o : Orders) (e : LabelEntry) (acts : List OrderActivation) (memory : List ℤ) (left output : List ℕ)
       → acts ≡ []
-      → slice_get p.units to ≡ Some o → label_at p to l ≡ Some e → e.in_procedure ≡ false → place_of p to e.mark ≡ Some k → k ≤ length o.list → Kept p g' acts memory left output cells stack input told
+      → slice_get p.units to ≡ Some o → is_named_label o l ≡ true → label_at p to l ≡ Some e → e.in_procedure ≡ false → place_of p to e.mark ≡ Some k → k ≤ length o.list → Kept p g' acts memory left output cells stack input told
       → Is image (label_place p to l) (view ax cx dx bx sp bp si p.limits.area overflow cells stack input told) q
       → Leads output 5 q (Landed p image (order_place (base_of p to) o k) to false acts (record { operands = []; memory = memory; input = left; output = output }))
-  lands {q} to l k g' o e acts memory left output none unit is body there within kept s =
+  lands {q} to l k g' o e acts memory left output none unit named is body there within kept s =
       let st = all.stands to o unit in
       let place = base_of p to + landing_start (names_of o) l in
-      let i = st.landings l (record { mark = e.mark; in_procedure = e.in_procedure }) (label_listed known to l o e unit is) in
+      let i = st.landings l (record { mark = e.mark; in_procedure = e.in_procedure }) (label_listed known to l o e unit is) (label_lands o l e.in_procedure named body) in
       let by = distance (landing_start (names_of o) l + 15) (mark_starts o e.mark) in
       let at_label : label_place p to l ≡ place % 65536 =
       start_is known to o (λ u. label_start (names_of u) l) unit ∙ ap (λ n. (base_of p to + n) % 65536) (label_start_is known to l o e false body unit is) in
@@ -74,17 +76,17 @@ module _ (known : Given) where
 
   -- a label of the body of a segment
   pub goes_to_landing : {first q : Watched} {g place : ℕ} {loaded : Bool} {acts : List OrderActivation} {w : Words} (s : Sound p image g place loaded acts w q) (by_itself : Alone p image g place loaded acts w q s.orders) (steps to l n : ℕ) (e : LabelEntry)
-      → e.in_procedure ≡ false → label_at p to l ≡ Some e
+      → LabelNamed p to l → e.in_procedure ≡ false → label_at p to l ≡ Some e
       → step p (at g place loaded acts w Running) ≡ leave_for (place_of p to e.mark) to (length acts) g place false acts w → steps + 5 ≤ weight p (at g place loaded acts w Running)
       → Leads w.output steps first (Landed p image (label_place p to l) (segment_below n g acts) false (drop n acts) (with_operands w [])) → FollowFrom known first (at g place loaded acts w Running) q
-  goes_to_landing {first} {q} {g} {place} {loaded} {acts} {w} s by_itself steps to l n e body is goes paid way =
+  goes_to_landing {first} {q} {g} {place} {loaded} {acts} {w} s by_itself steps to l n e named body is goes paid way =
       left_for known s by_itself to e.mark (length acts) (steps + 5) goes paid (λ k o unit there within.
       further (steps + 5) (let x : steps + 5 ≤ steps + 5 = omega arith in x) (let x : 0 < steps + 5 = omega arith in x)
       (past way (λ r d.
       let m = length (drop n acts) in
       let ending : drop m (drop n acts) ≡ drop (length acts) acts = drop_all (drop n acts) ∙ sym (drop_all acts) in
       let g' = segment_below m (segment_below n g acts) (drop n acts) in
-      lands to l k g' o e (drop (length acts) acts) w.memory w.input w.output (drop_all acts) unit is body there within
+      lands to l k g' o e (drop (length acts) acts) w.memory w.input w.output (drop_all acts) unit (named o unit) is body there within
       (subst (λ ys. Kept p g' ys w.memory w.input w.output d.cells d.stack d.input d.told) ending (kept_below m d.kept)) d.stacked.is)))
 
   -- a label that stands in a procedure
@@ -102,18 +104,18 @@ module _ (known : Given) where
 
   -- by an entry of the labels
   pub goes_by_entry : {first q : Watched} {g place : ℕ} {loaded : Bool} {acts : List OrderActivation} {w : Words} (s : Sound p image g place loaded acts w q) (by_itself : Alone p image g place loaded acts w q s.orders) (steps to l owner : ℕ)
-      → 0 < steps → OwnsLabel p owner g acts to l
+      → 0 < steps → LabelNamed p to l → OwnsLabel p owner g acts to l
       → step p (at g place loaded acts w Running) ≡ go_to p (Some (LabelControl to l owner)) g place false acts w → steps + 5 ≤ weight p (at g place loaded acts w Running)
       → Leads w.output steps first (Landed p image (label_place p to l) (segment_below (length acts - owner) g acts) false (drop (length acts - owner) acts) (with_operands w []))
       → FollowFrom known first (at g place loaded acts w Running) q
-  goes_by_entry {first} {q} {g} {place} {loaded} {acts} {w} s by_itself steps to l owner some owns goes paid way = cases (label_at p to l) refl
+  goes_by_entry {first} {q} {g} {place} {loaded} {acts} {w} s by_itself steps to l owner some named owns goes paid way = cases (label_at p to l) refl
     where
       inside : (e : LabelEntry) → label_at p to l ≡ Some e → (b : Bool) → e.in_procedure ≡ b → FollowFrom known first (at g place loaded acts w Running) q
       inside e is true b =
           goes_to_owner s by_itself steps to l (length acts - owner) e b is (owns e is b)
           (goes ∙ ap (λ x. go_to_entry p x to owner g place false acts w) is ∙ ap (λ x. leave_for (place_of p to e.mark) to (dropped_by x owner acts) g place false acts w) b) some (omega arith) way
       inside e is false b =
-          goes_to_landing s by_itself steps to l (length acts - owner) e b is
+          goes_to_landing s by_itself steps to l (length acts - owner) e named b is
           (goes ∙ ap (λ x. go_to_entry p x to owner g place false acts w) is ∙ ap (λ x. leave_for (place_of p to e.mark) to (dropped_by x owner acts) g place false acts w) b) paid way
 
       cases : (x : Option LabelEntry) → label_at p to l ≡ x → FollowFrom known first (at g place loaded acts w Running) q
@@ -140,7 +142,8 @@ module _ (known : Given) where
       let one_more : suc (length acts - owner) ≡ length (a ∷ acts) - owner = omega arith in
       let owns : OwnsLabel p owner g (a ∷ acts) to l = λ x isx inx. sym (ap (λ m. segment_below m g (a ∷ acts)) one_more) ∙ stands.1 x isx inx in
       let paid = weight_is known s o e in
-      goes_by_entry s by_itself 6 to l owner (lit< tt) owns (step_is known s (Some o) e ∙ ap (λ x. go_to p (control_in x) g place false (a ∷ acts) w) is) (omega arith)
+      let arg = argument_of p k (Held c) (landed_here known s by_itself).kept is in
+      goes_by_entry s by_itself 6 to l owner (lit< tt) arg.1.1 owns (step_is known s (Some o) e ∙ ap (λ x. go_to p (control_in x) g place false (a ∷ acts) w) is) (omega arith)
       (goes_special rows p image g k to l owner (length (a ∷ acts) - owner) a acts w is stands refl (code known s by_itself o e) (landed_here known s by_itself))
 
   -- a label of a descriptor
@@ -175,4 +178,4 @@ module _ (known : Given) where
           further 6 (lit≤ tt) (lit< tt)
           (more rows {to = label_place p to l} {w = view z.ax z.cx z.dx z.bx (2 * d'.top) (record_of acts) z.si p.limits.area z.overflow d'.cells d'.stack d'.input d'.told} z.is d'.kept.wrote
           (to_place arrives (near rows by (code known s by_itself o e).0 z.is)) (λ r t.
-          lands to l k (segment_below (length acts) g acts) u x (drop (length acts) acts) w.memory w.input w.output (drop_all acts) unit isx body there within (kept_below (length acts) d'.kept) t)))
+          lands to l k (segment_below (length acts) g acts) u x (drop (length acts) acts) w.memory w.input w.output (drop_all acts) unit (shared_label_named u l (coded.shared g d to (def.Label l) u is unit)) isx body there within (kept_below (length acts) d'.kept) t)))

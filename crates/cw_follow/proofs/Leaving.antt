@@ -10,7 +10,10 @@ use Rattle.cw_unit.specs.Words.{Control, LabelControl, Operand, Held, Words, wit
 use Rattle.cw_order.specs.OrderProgram.{OrderProgram}
 use Rattle.cw_order.specs.OrderState.{OrderActivation, operand_words, stack_words, argument_behind}
 use Rattle.cw_order.specs.Activations.{segment_below, ControlStands}
-use Rattle.cw_tmpl.specs.Mnemonics.{slot, segment_slot, argument}
+use Rattle.cw_i86.specs.Encoding.{bytes_of}
+use Rattle.cw_tmpl.specs.Mnemonics.{slot, segment_slot, argument, load}
+use Rattle.cw_tmpl.specs.Templates.{argument_load_size}
+use Rattle.cw_tmpl.proofs.Lengths.{argument_loaded}
 use Rattle.cw_follow.proofs.Watched.{Watched, watched_step, watched_machine}
 use Rattle.cw_follow.proofs.Rows.{Rows}
 use Rattle.cw_follow.proofs.Chains.{Is, Leads, view, seen, to_place, store_slot, jump_to, near, more, last, done, IsAt}
@@ -73,7 +76,8 @@ module _ (rows : Rows) (prog : OrderProgram) (image : Image) where
           (kept_under n place (omega arith) (kept_under (suc n) bp (omega arith) l.kept)) u)))
 
   -- a control parameter that is handed on
-  pub hands_on : {q : Watched} {first : Bool} {at : ℕ} (g to k : ℕ) (a : OrderActivation) (acts : List OrderActivation) (c : Control) (w : Words) → stack_words (Held c ∷ w.operands) (a ∷ acts) ≤ 32000 → at + 10 ≡ to
+  pub hands_on : {q : Watched} {first : Bool} {at : ℕ} (g to k : ℕ) (a : OrderActivation) (acts : List OrderActivation) (c : Control) (w : Words) → stack_words (Held c ∷ w.operands) (a ∷ acts) ≤ 32000
+      → at + (argument_load_size (k + 1) + (argument_load_size k + 2)) ≡ to
       → argument_behind k a.arguments ≡ Some (Held c)
       → ControlStands prog a.segment acts c
       → HasFrom first image at (i86.Mov true true 0 (argument (k + 1)) ∷ i86.Push 0 ∷ i86.Mov true true 0 (argument k) ∷ i86.Push 0 ∷ []) → LandedAt first prog image at g false (a ∷ acts) w q
@@ -110,10 +114,10 @@ module _ (rows : Rows) (prog : OrderProgram) (image : Image) where
           let both : SameFrom (suc (suc n)) l.stack s2 = same_then l.stack s1 s2 (suc (suc n)) same1 (same_above s1 s2 (suc n) (suc (suc n)) (omega arith) same2) in
           let place_there : s1 (r + 6 + k) ≡ place = same1 (r + 6 + k) (omega arith) ∙ arg.0 in
           let owner_there : s2 (suc n) ≡ owner = same2 (suc n) (omega arith) ∙ put_at l.stack (suc n) owner in
-          let end : at + 4 + 1 + 4 + 1 ≡ to = omega arith in
-          let pieces = Push 0 (suc n) ∷ LoadArgument 0 (4 + 2 * k) (r + 6 + k) place ∷ Push 0 n ∷ [] in
+          let end : at + length (bytes_of (load 0 (argument (k + 1)))) + 1 + length (bytes_of (load 0 (argument k))) + 1 ≡ to = omega (arith, e, argument_loaded 0 (k + 1), argument_loaded 0 k) in
+          let pieces = Push 0 (suc n) ∷ LoadArgument 0 k (r + 6 + k) place ∷ Push 0 n ∷ [] in
           further 4 (lit≤ tt) (lit< tt)
-          (straight_from rows (LoadArgument 0 (4 + 2 * (k + 1)) (suc (r + 6 + k)) owner) pieces {n = 0} l.kept.wrote i ((la', there', refl), ((low, top), ((la, there, place_there), ((low', top'), tt)))) start (λ q u.
+          (straight_from rows (LoadArgument 0 (k + 1) (suc (r + 6 + k)) owner) pieces {n = 0} l.kept.wrote i ((la', there', refl), ((low, top), ((la, there, place_there), ((low', top'), tt)))) start (λ q u.
           done (landed rows prog image g all false to n (Held c ∷ w.operands) w.memory w.input w.output end
           (put_at s1 n place, owner_same prog all c owner (s2 (suc n)) owner_there (owner_above prog a acts a.segment c owner stands arg.1), stack_same prog all l.stack s2 (suc (suc n)) w.operands both h)
           (kept_under n place (omega arith) (kept_under (suc n) owner (omega arith) l.kept)) u)))
@@ -209,10 +213,11 @@ module _ (rows : Rows) (prog : OrderProgram) (image : Image) where
       let la : r + 6 + k < 32768 = omega arith in
       let la' : suc (r + 6 + k) < 32768 = omega arith in
       let left = drop n all in
-      let owner_is : d.stack (suc (r + 6 + k)) ≡ record_of left = owner_above prog a acts a.segment c (d.stack (suc (r + 6 + k))) stands arg.1 ∙ ap (λ m. record_of (drop m all)) (sym nis) in
+      let behind : ℕ = at + length (bytes_of (load 3 (argument k))) + length (bytes_of (load 5 (argument (k + 1)))) in
+      let owner_is : d.stack (suc (r + 6 + k)) ≡ record_of left = (owner_above prog a acts a.segment c (d.stack (suc (r + 6 + k))) stands arg.1).0 ∙ ap (λ m. record_of (drop m all)) (sym nis) in
       let small = control_small prog c in
       let whole : place ≡ place % 65536 = omega arith in
-      straight_from rows (LoadArgument 3 (4 + 2 * k) (r + 6 + k) place) (LoadArgument 5 (4 + 2 * (k + 1)) (suc (r + 6 + k)) (record_of left) ∷ []) {n = 4} kept.wrote (i.0, (i.1.0, tt)) ((la, there, arg.0), ((la', there', owner_is), tt)) s.is (λ q s'.
+      straight_from rows (LoadArgument 3 k (r + 6 + k) place) (LoadArgument 5 (k + 1) (suc (r + 6 + k)) (record_of left) ∷ []) {n = 4} kept.wrote (i.0, (i.1.0, tt)) ((la, there, arg.0), ((la', there', owner_is), tt)) s.is (λ q s'.
       past {m = 3} {n = 1} (drops_operands left kept.wrote (i.1.1.0, (i.1.1.1.0, (i.1.1.1.1.0, tt))) s') (λ q s'.
       last rows s' kept.wrote (record {
         top = level left;
@@ -227,7 +232,7 @@ module _ (rows : Rows) (prog : OrderProgram) (image : Image) where
           bx = place;
           si = s.si;
           overflow = difference_overflows (record_of left) 8;
-          is = jump_to rows 3 place whole (subst (λ m. Has image m (i86.JumpRm (rms.Reg 3))) (let x : at + 4 + 4 + 2 + 3 + 2 ≡ at + 4 + 4 + 7 = omega arith in x) i.1.1.1.1.1.0) s';
+          is = jump_to rows 3 place whole (subst (λ m. Has image m (i86.JumpRm (rms.Reg 3))) (let x : behind + 2 + 3 + 2 ≡ behind + 7 = omega arith in x) i.1.1.1.1.1.0) s';
         };
         operands = refl;
         kept = kept_below n kept;
@@ -269,7 +274,7 @@ module _ (rows : Rows) (prog : OrderProgram) (image : Image) where
           let low : n < 32768 = omega arith in
           let top : 2 * suc n ≡ 2 * suc n % 65536 = omega arith in
           let s1 : ℕ → ℕ = put_word l.stack n place in
-          let pieces = LoadArgument 0 (4 + 2 * k) (r + 6 + k) to ∷ Number 3 place ∷ Push 3 n ∷ [] in
+          let pieces = LoadArgument 0 k (r + 6 + k) to ∷ Number 3 place ∷ Push 3 n ∷ [] in
           further 5 (lit≤ tt) (lit< tt)
           (straight_from rows (Number 2 a.line) pieces {n = 1} l.kept.wrote (i.0, (i.1.0, (i.1.1.0, (i.1.1.1.0, tt)))) (tt, ((la, there, arg.0), (tt, ((low, top), tt)))) start (λ q u.
           last rows u l.kept.wrote (record {

@@ -4,6 +4,7 @@ pub mod WordLaws
 pub mod Halves
 pub mod Sized
 pub mod Branches
+pub mod Fits
 pub mod Fine
 pub mod Placement
 pub mod Fields
@@ -17,6 +18,7 @@ pub mod Numbers
 pub mod Facts
 pub mod Shifts
 pub mod Straight
+pub mod Named
 pub mod Stacks
 pub mod Orders
 pub mod Operands
@@ -33,16 +35,22 @@ pub mod Returns
 pub mod InBlocks
 pub mod States
 pub mod Steps
+pub mod CheckedBlocks
 pub mod WordOrders
 pub mod Words
 pub mod Operating
 pub mod FrameBlocks
 pub mod BlockOrders
+pub mod OperandCode
 pub mod UseBlocks
+pub mod ComparedWords
+pub mod BothWords
 pub mod ElementTests
 pub mod ElementOrders
 pub mod ElementBlocks
 pub mod BoundedBlocks
+pub mod RowOrders
+pub mod RowBlocks
 pub mod PartBlocks
 pub mod NumberBlocks
 pub mod Bodies
@@ -64,5 +72,7 @@ pub mod Beginning
 pub mod Jumping
 pub mod Switching
 pub mod Loops
+pub mod SwitchTables
+pub mod SwitchWays
 pub mod Within
 pub mod Following

@@ -150,7 +150,7 @@ module _ (known : Given) where
         own = own_place s.orders place
 
         cases : (short : Bool) → (short ≡ true → is_close (own + 3) (mark_starts s.orders m) ≡ true) → here known s a + block_size short block.Single o ≡ next known s a
-            → HasPieces image (all.stands g s.orders s.unit).value (here known s a) (template_by short (names_of s.orders) own o) → Follow known (at g place true acts w Running) q
+            → HasPieces image (all.stands g s.orders s.unit).value (here known s a) (template_by short (names_of s.orders) own place o) → Follow known (at g place true acts w Running) q
         cases true close ends i =
             chosen known s false 0 (way_of_one (λ x v. to_mark_in (mark_of_number (m ∷ []) x) v) w.operands w) 3 (begins_next known s a o e) (loop_roomy acts p.room (m ∷ []) w.operands w s.room)
             (step_is known s (Some o) e) (cheap known s o 3 (lit≤ tt) e)

@@ -18,14 +18,19 @@ use Rattle.cw_order.specs.OrderProgram.{LabelEntry, ProcedureEntry, Tables, Orde
 use Rattle.cw_order.specs.OrderState.{OrderActivation, argument_behind}
 use Rattle.cw_order.specs.OrderMachine.{after}
 use Rattle.cw_order.specs.Activations.{ControlStands, OperandStands}
+use Rattle.cw_order.specs.declared.order.Order.{Order}
+use Rattle.cw_unit.specs.Words.{Words}
+use Rattle.cw_tmpl.specs.Named.{label_of_order, switch_of_order, is_named_label, is_named_switch}
 use Rattle.cw_tmpl.specs.Blocks.{left_at}
 use Rattle.cw_tmpl.specs.Names.{way_to_label, label_start, procedure_start, landing_start}
 use Rattle.cw_tmpl.specs.ReferenceCode.{mark_starts, names_of}
 use Rattle.cw_follow.specs.Placing.{base_of, start_in, label_place, definition_place}
 use Rattle.cw_tmpl.proofs.Sizes.{own_place, mark_start}
 use Rattle.cw_follow.proofs.InBlocks.{begins_at}
-use Rattle.cw_follow.proofs.Stacks.{start_small}
-use Rattle.cw_follow.proofs.States.{Given}
+use Rattle.cw_follow.proofs.Named.{order_names_label, order_names_switch, shared_label_named, listed_label_named}
+use Rattle.cw_follow.proofs.Stacks.{LabelNamed, start_small}
+use Rattle.cw_follow.proofs.States.{Given, Sound}
+use Rattle.cw_follow.proofs.Watched.{Watched}
 use Rattle.cw_follow.proofs.Tables.{from_zero, none_is_far, less_is_far, number_fits, not_within, goal_value}
 
 -- the arguments of a call and the caller's operands
@@ -129,6 +134,36 @@ module _ (known : Given) where
       let sum : (base_of p to + label_start (names_of o) k % 65536) % 65536 ≡ (base_of p to + label_start (names_of o) k) % 65536 = omega arith in
       filled ∙ sum ∙ sym (start_is to o (λ u. label_start (names_of u) k) unit) ∙ ap (λ y. label_place p y.0 y.1) same
   goal_place to o unit (goal.Common d) l after is = (all.stands to o unit).fills.definitions d after ∙ defined_label (defined_at p to d) l is
+
+  -- what names a label or a switch: an order of the segment at work, and a switch that is named
+  pub own_label : {q : Watched} {g place : ℕ} {loaded : Bool} {acts : List OrderActivation} {w : Words} (s : Sound p image g place loaded acts w q) (l : ℕ) (it : Order) → slice_get s.orders.list place ≡ Some it → label_of_order it ≡ Some l
+      → (o : Orders) → slice_get p.units g ≡ Some o → is_named_label o l ≡ true
+  own_label {place = place} s l it e names o unit =
+      let same : s.orders ≡ o = some_same (sym s.unit ∙ unit) in
+      subst (λ u. is_named_label u l ≡ true) same (order_names_label s.orders place l it e names)
+
+  pub own_switch : {q : Watched} {g place : ℕ} {loaded : Bool} {acts : List OrderActivation} {w : Words} (s : Sound p image g place loaded acts w q) (n : ℕ) (it : Order) → slice_get s.orders.list place ≡ Some it → switch_of_order it ≡ Some n
+      → (o : Orders) → slice_get p.units g ≡ Some o → is_named_switch o n ≡ true
+  own_switch {place = place} s n it e names o unit =
+      let same : s.orders ≡ o = some_same (sym s.unit ∙ unit) in
+      subst (λ u. is_named_switch u n ≡ true) same (order_names_switch s.orders place n it e names)
+
+  pub goal_named : (to n k : ℕ) (o : Orders) (gs : List Goal) (x : Goal) (l : ℕ × ℕ) → slice_get p.units to ≡ Some o → slice_get o.switches n ≡ Some gs → is_named_switch o n ≡ true → slice_get gs k ≡ Some x → label_of p to x ≡ Some l
+      → LabelNamed p l.0 l.1
+  goal_named to n k o gs (goal.Own j) l unit is named here found =
+      let same : (to, j) ≡ l = cc in
+      subst (λ (y : ℕ × ℕ). LabelNamed p y.0 y.1) same (λ u there.
+      let one : o ≡ u = some_same (sym unit ∙ there) in
+      subst (λ v. is_named_label v j ≡ true) one (listed_label_named o j n k gs is named here))
+  goal_named to n k o gs (goal.Common d) l unit is named here found = defined (defined_at p to d) refl found
+    where
+      defined : (x : Option (ℕ × Def)) → defined_at p to d ≡ x → label_of_def x ≡ Some l → LabelNamed p l.0 l.1
+      defined None e h = absurd (cc)
+      defined (Some (at, def.Label j)) e h =
+          let same : (at, j) ≡ l = cc in
+          subst (λ (y : ℕ × ℕ). LabelNamed p y.0 y.1) same (λ u there. shared_label_named u j (coded.shared to d at (def.Label j) u e there))
+      defined (Some (at, def.Switch j)) e h = absurd (cc)
+      defined (Some (at, def.Proc j)) e h = absurd (cc)
 
   -- a mark is where a block begins
   pub begins_there : (to m k : ℕ) (o : Orders) → slice_get p.units to ≡ Some o → place_of p to m ≡ Some k → left_at 0 o.list k ≡ 0

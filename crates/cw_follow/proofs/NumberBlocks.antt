@@ -1,5 +1,5 @@
 -- Blocks that count a word up or down, or halve it several times.
-use Rattle.std.proofs.Common.{◌≡◌, ℕ, suc, ◌+◌, ◌*◌, ◌%◌, ◌^◌, ◌<◌, ◌≤◌, Bool, true, false, ℤ, pos, ◌+ℤ◌, ◌-ℤ◌, List, ◌∷◌, length, drop, Some, refl, sym, ap, ap₂, ◌∙◌, subst, arith, lit<, lit≤, pow_mono}
+use Rattle.std.proofs.Common.{◌≡◌, ℕ, suc, ◌+◌, ◌*◌, ◌^◌, ◌<◌, ◌≤◌, Bool, true, false, ℤ, pos, ◌+ℤ◌, ◌-ℤ◌, List, [], ◌∷◌, length, drop, Some, refl, sym, ap, ap₂, ◌∙◌, subst, arith, lit<, lit≤, pow_mono}
 use Rattle.std.proofs.lemmas.Int.{ints}
 use Rattle.std.specs.List.{All}
 use Rattle.cw_run86.specs.Views.{word_sum, word_difference, sum_overflows, difference_overflows, word_down_signed}
@@ -7,7 +7,7 @@ use Rattle.cw_rows86.specs.Operations.{DownSigned}
 use Rattle.cw_rows86.specs.Acts.{Count}
 use Rattle.cw_word.specs.FixedPoint.{FitsWord, floor_div, scaled_product}
 use Rattle.cw_word.specs.Word.{signed, unsigned}
-use Rattle.cw_unit.specs.Stop.{Running, Overflow}
+use Rattle.cw_unit.specs.Stop.{Running}
 use Rattle.cw_unit.specs.Words.{Operand, Words, put, put_value}
 use Rattle.cw_unit.specs.Operation.{Operation, Add, Subtract, Multiply, perform}
 use Rattle.cw_order.specs.declared.order.Order.{Order}
@@ -20,10 +20,13 @@ use Rattle.cw_order.specs.OrderMachine.{after, carry_with, weight}
 use Rattle.cw_order.specs.Loading.{loaded_after}
 use Rattle.cw_tmpl.specs.declared.blocks.Block.TheVariants as block
 use Rattle.cw_tmpl.specs.Blocks.{count_order, halving_places, block_at}
-use Rattle.cw_tmpl.specs.Library.{overflow_entry, stop_place}
 use Rattle.cw_tmpl.specs.Pieces.{Filling, blanks}
 use Rattle.cw_tmpl.specs.declared.pieces.Coded.TheVariants as pieces
-use Rattle.cw_tmpl.specs.Templates.{shifted_down_signed, counted, checked, block_size}
+use Rattle.cw_tmpl.specs.Names.{no_names, call_place}
+use Rattle.cw_tmpl.specs.Templates.{shifted_down_signed, counted, is_short, block_pieces, block_size}
+use Rattle.cw_tmpl.specs.ReferenceCode.{names_of, reach_of}
+use Rattle.cw_tmpl.proofs.Endings.{checked_long}
+use Rattle.cw_tmpl.proofs.Sizes.{own_place}
 use Rattle.cw_follow.specs.Placing.{base_of}
 use Rattle.cw_follow.proofs.Watched.{Watched}
 use Rattle.cw_follow.proofs.Standing.{HasPieces, order_place, Has}
@@ -31,14 +34,15 @@ use Rattle.cw_follow.proofs.Chains.{Is, view, last}
 use Rattle.cw_follow.proofs.Acting.{act}
 use Rattle.cw_follow.proofs.Routines.{leads_on}
 use Rattle.cw_follow.proofs.Stacks.{level, record_of}
-use Rattle.cw_follow.proofs.Orders.{Does, Check, later, further, checks}
+use Rattle.cw_follow.proofs.Orders.{Does, Checked, later, further, checks_end}
 use Rattle.cw_follow.proofs.Operands.{Setting, words, One, LandedWith, DoesHere, taking_one, result}
 use Rattle.cw_follow.proofs.Numbers.{sum_overflows_is, difference_overflows_is, sum_is, difference_is}
 use Rattle.cw_follow.proofs.Scales.{put_shifted, shifted_fits}
 use Rattle.cw_follow.proofs.Halves.{Halving, halving, halved_is}
 use Rattle.cw_follow.proofs.Shifts.{shift_steps, few_steps, some_steps, shifts_last}
 use Rattle.cw_follow.proofs.States.{Given, Sound}
-use Rattle.cw_follow.proofs.Steps.{Follow, setting, weight_is, line_fits, block_code, block_ends, start_place, order_here, last_does, by, calls}
+use Rattle.cw_follow.proofs.Steps.{Follow, setting, weight_is, line_fits, block_code, block_ends, start_place, order_here, last_does}
+use Rattle.cw_follow.proofs.CheckedBlocks.{checked_block}
 use Rattle.cw_follow.proofs.BlockOrders.{room_in, block_follows, saved, step_in, small_number}
 
 -- one more, and one less
@@ -50,34 +54,32 @@ module _ (c : Setting) (memory : List ℤ) (input output : List ℕ) where
   one_fits : FitsWord (pos 1)
   one_fits = omega (arith, ints)
 
-  counts : {p : Watched} {at : ℕ} (down : Bool) (to by line : ℕ) (operands : List Operand) → line < 65536 → at + 8 ≡ to → (at + 1 + 2 + 3 + by) % 65536 ≡ stop_place Overflow % 65536
-      → operand_words operands < level c.acts → All OperandFits operands → Has c.image at (counted down) → Check c.image (at + 1) by line → LandedWith c memory input output at true operands p
+  counts : {p : Watched} {at : ℕ} (down : Bool) (to line : ℕ) (operands : List Operand) → line < 65536
+      → operand_words operands < level c.acts → All OperandFits operands → Has c.image at (counted down) → Checked c.image (at + 1) to line → LandedWith c memory input output at true operands p
       → DoesHere c memory input output 15 to true line p (perform c.program.limits.area (counting down) (put (pos 1) (words operands memory input output)))
-  counts {p} {at} true to by line operands small e arrives roomy fits h i = taking_one c memory input output 15 to true line (λ x v. put_value (x -ℤ pos 1) v) does operands roomy fits
+  counts {p} {at} true to line operands small roomy fits h i = taking_one c memory input output 15 to true line (λ x v. put_value (x -ℤ pos 1) v) does operands roomy fits
     where
       does : (x : ℤ) (rest : List Operand) → FitsWord x → One c memory input output at x rest p → DoesHere c memory input output 15 to true line p (put_value (x -ℤ pos 1) (words rest memory input output))
       does x rest fx l =
           let some : 0 < suc l.top = omega arith in
-          let e' : at + 1 + 2 + 3 + 2 ≡ to = omega arith in
           later c.program c.image 14 to c.g true line c.acts
           {T = Is c.image (at + 1) (view (word_difference (unsigned x) 1) l.cx l.dx l.bx (2 * suc l.top) (record_of c.acts) l.si c.program.limits.area (difference_overflows (unsigned x) 1) l.cells l.stack l.left l.told)}
           1 15 (put_value (x -ℤ pos 1) (words rest memory input output)) (lit≤ tt)
           (last c.rows l.is l.kept.wrote (act c.rows (Count true 0) (lit< tt) h tt l.is).is)
           (λ q t.
-          checks c.rows c.program c.image c.g c.acts Overflow to (suc l.top) by line (x -ℤ pos 1) rest memory input output tt c.library c.few some small e' arrives (difference_overflows_is c.rows.words x (pos 1) fx one_fits)
+          checks_end c.rows c.program c.image c.g c.acts to (suc l.top) line (x -ℤ pos 1) rest memory input output c.library c.few some small (difference_overflows_is c.rows.words x (pos 1) fx one_fits)
           (difference_is c.rows.words x (pos 1) fx one_fits) l.under l.kept i t)
-  counts {p} {at} false to by line operands small e arrives roomy fits h i = taking_one c memory input output 15 to true line (λ x v. put_value (x +ℤ pos 1) v) does operands roomy fits
+  counts {p} {at} false to line operands small roomy fits h i = taking_one c memory input output 15 to true line (λ x v. put_value (x +ℤ pos 1) v) does operands roomy fits
     where
       does : (x : ℤ) (rest : List Operand) → FitsWord x → One c memory input output at x rest p → DoesHere c memory input output 15 to true line p (put_value (x +ℤ pos 1) (words rest memory input output))
       does x rest fx l =
           let some : 0 < suc l.top = omega arith in
-          let e' : at + 1 + 2 + 3 + 2 ≡ to = omega arith in
           later c.program c.image 14 to c.g true line c.acts
           {T = Is c.image (at + 1) (view (word_sum (unsigned x) 1) l.cx l.dx l.bx (2 * suc l.top) (record_of c.acts) l.si c.program.limits.area (sum_overflows (unsigned x) 1) l.cells l.stack l.left l.told)}
           1 15 (put_value (x +ℤ pos 1) (words rest memory input output)) (lit≤ tt)
           (last c.rows l.is l.kept.wrote (act c.rows (Count false 0) (lit< tt) h tt l.is).is)
           (λ q t.
-          checks c.rows c.program c.image c.g c.acts Overflow to (suc l.top) by line (x +ℤ pos 1) rest memory input output tt c.library c.few some small e' arrives (sum_overflows_is c.rows.words x (pos 1) fx one_fits)
+          checks_end c.rows c.program c.image c.g c.acts to (suc l.top) line (x +ℤ pos 1) rest memory input output c.library c.few some small (sum_overflows_is c.rows.words x (pos 1) fx one_fits)
           (sum_is c.rows.words x (pos 1) fx one_fits) l.under l.kept i t)
 
   halves : {p : Watched} {at : ℕ} (value : Filling) (to line n places : ℕ) (power : ℤ) (operands : List Operand) → Halving n power places → at + length (blanks (shifted_down_signed places)) ≡ to
@@ -122,15 +124,15 @@ module _ (known : Given) where
     count_line true line = refl
     count_line false line = refl
 
-    count_end : (down : Bool) (line : ℕ) → start_place known s + block_size false (block.Count down line) order.Save ≡ block_end → start_place known s + 8 ≡ block_end
-    count_end true line e = omega arith
-    count_end false line e = omega arith
-
     -- what stands behind the instruction
-    count_code : (down : Bool) (line : ℕ) → HasPieces image (all.stands g s.orders s.unit).value (start_place known s) (pieces.Whole (counted down) ∷ checked line)
-        → Has image (start_place known s) (counted down) × Check image (start_place known s + 1) (by known s overflow_entry (start_place known s + 1 + 2 + 3)) line
-    count_code true line h = h
-    count_code false line h = h
+    count_code : (down : Bool) (line : ℕ) (os : List Order) (short : Bool) → drop s.from s.orders.list ≡ order.Save ∷ os → block_at 0 (drop s.from s.orders.list) ≡ block.Count down line
+        → is_short (reach_of s.orders) s.from (block.Count down line) order.Save ≡ short → start_place known s + block_size short (block.Count down line) order.Save ≡ block_end
+        → HasPieces image (all.stands g s.orders s.unit).value (start_place known s) (block_pieces (names_of s.orders) (own_place s.orders s.from) s.from short (block.Count down line) order.Save)
+        → Has image (start_place known s) (counted down) × Checked image (start_place known s + 1) block_end line
+    count_code true line os short e is form ends h =
+        (h.0, checked_block known s (block.Count true line) order.Save os line 1 (start_place known s + 1) block_end short e is refl form (sym (checked_long short (pieces.Whole (counted true) ∷ []) line (0 + 1) (call_place no_names 0))) refl ends h.1)
+    count_code false line os short e is form ends h =
+        (h.0, checked_block known s (block.Count false line) order.Save os line 1 (start_place known s + 1) block_end short e is refl form (sym (checked_long short (pieces.Whole (counted false) ∷ []) line (0 + 1) (call_place no_names 0))) refl ends h.1)
 
     count_last : (down : Bool) (line : ℕ) (rest : List Order) → s.done ≡ 2 → drop s.from s.orders.list ≡ order.Save ∷ order.Const 1 ∷ count_order down line ∷ rest
         → block_at 0 (drop s.from s.orders.list) ≡ block.Count down line → Follow known (at g place loaded acts w Running) q
@@ -144,12 +146,10 @@ module _ (known : Given) where
         let paid : 15 ≤ weight p (at g place loaded acts w Running) = let y = weight_is known s o here in omega arith in
         let fits : line < 65536 = subst (λ n. n < 65536) (count_line down line) (line_fits known s o here) in
         let v = s.before in
-        let from = start_place known s in
-        let code = count_code down line (block_code known s (block.Count down line) order.Save os e is) in
+        let code = count_code down line os (is_short (reach_of s.orders) s.from (block.Count down line) order.Save) e is refl ends.behind (block_code known s (block.Count down line) order.Save os e is) in
         last_does known s true line (perform p.limits.area (counting down)) 15 2 _ is_done e ends.begins (step_in known s true o before.now here ∙ count_goes down line) paid
         (subst (λ y. Does p image 15 block_end g true line acts v.output q (perform p.limits.area (counting down) (put y v))) (sym (small_number 1 (lit< tt)))
-        (counts (setting known s) v.memory v.input v.output down block_end (by known s overflow_entry (from + 1 + 2 + 3)) line v.operands fits (count_end down line ends.behind)
-        (calls known s overflow_entry (from + 1 + 2 + 3) (lit< tt)) (room_in known s) s.fits_before.operands code.0 code.1 before.landed))
+        (counts (setting known s) v.memory v.input v.output down block_end line v.operands fits (room_in known s) s.fits_before.operands code.0 code.1 before.landed))
 
     pub count_follows : (down : Bool) (line : ℕ) (rest : List Order) → drop s.from s.orders.list ≡ order.Save ∷ order.Const 1 ∷ count_order down line ∷ rest → block_at 0 (drop s.from s.orders.list) ≡ block.Count down line
         → Follow known (at g place loaded acts w Running) q

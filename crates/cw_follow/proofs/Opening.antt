@@ -12,6 +12,7 @@ use Rattle.cw_run86.specs.Processor.{processor_step, observed}
 use Rattle.cw_run86.specs.Views.{View}
 use Rattle.cw_unit.specs.Stop.{Running}
 use Rattle.cw_unit.specs.Words.{Words}
+use Rattle.cw_order.specs.declared.order.Comparator.{Comparator}
 use Rattle.cw_order.specs.declared.order.Order.{Order}
 use Rattle.cw_order.specs.declared.order.Order.TheVariants as order
 use Rattle.cw_order.specs.declared.order.Place.{Place}
@@ -77,7 +78,7 @@ module _ (rows : Rows) (prog : OrderProgram) (image : Image) {first : Bool} {at 
       let k = (record_of acts + (4 + 2 * n)) % 65536 / 2 in
       let low : k < 32768 = omega arith in
       let there : (record_of acts + (4 + 2 * n)) % 65536 ≡ 2 * k = omega arith in
-      opens l.kept.wrote (step rows (LoadArgument r (4 + 2 * n) k (l.stack k)) h (low, there, refl) l.stacked.is)
+      opens l.kept.wrote (step rows (LoadArgument r n k (l.stack k)) h (low, there, refl) l.stacked.is)
 
   load_opens : (offset x : ℕ) → offset ≡ 2 * x % 65536 → HasAt first image at (i86.MovAcc false true false offset) → ShowsNothing
   load_opens offset x e h =
@@ -120,7 +121,7 @@ module _ (known : Given) where
     low_top s a = let l = landed_here known s a in let t = top_is p acts l.stack l.top w.operands l.operands in omega arith
 
     jump_shows : (loaded : Bool) (s : Sound p image g place loaded acts w q) (a : Alone p image g place loaded acts w q s.orders) (m : ℕ) (short : Bool)
-        → HasPiecesFrom (first_of (order.Jump m) (behind_start s.orders.list place)) image (all.stands g s.orders s.unit).value (order_place (base_of p g) s.orders place) (template_by short (names_of s.orders) (own_place s.orders place) (order.Jump m))
+        → HasPiecesFrom (first_of (order.Jump m) (behind_start s.orders.list place)) image (all.stands g s.orders s.unit).value (order_place (base_of p g) s.orders place) (template_by short (names_of s.orders) (own_place s.orders place) place (order.Jump m))
         → shown_as (observed (processor_step q.processor)) ≡ record { output = w.output; end = Running }
     jump_shows loaded s a m true i = short_opens rows p image (landed_here known s a) _ i.0
     jump_shows loaded s a m false i = jump_opens rows p image (landed_here known s a) _ i.0
@@ -193,6 +194,14 @@ module _ (known : Given) where
         → shown_as (observed (processor_step q.processor)) ≡ record { output = w.output; end = Running }
     part_opens (cell.Word f n) t b is_signed rest e is = word_opens f n (block_code known s (block.FetchPart (cell.Word f n) t b is_signed) (order.Home f n) (order.LoadPart t b is_signed ∷ rest) e is).0
     part_opens (cell.Frame n) t b is_signed rest e is = frame_opens (block_code known s (block.FetchPart (cell.Frame n) t b is_signed) (order.FrameHome n) (order.LoadPart t b is_signed ∷ rest) e is).0
+
+    pub fetch_both_opens : (n m : ℕ) (rest : List Order) → drop s.from s.orders.list ≡ order.FrameHome n ∷ order.Load ∷ order.Save ∷ order.FrameHome m ∷ order.Load ∷ rest
+        → block_at 0 (drop s.from s.orders.list) ≡ block.FetchBoth n m → shown_as (observed (processor_step q.processor)) ≡ record { output = w.output; end = Running }
+    fetch_both_opens n m rest e is = frame_opens (block_code known s (block.FetchBoth n m) (order.FrameHome n) (order.Load ∷ order.Save ∷ order.FrameHome m ∷ order.Load ∷ rest) e is).0
+
+    pub compare_word_opens : (n x : ℕ) (c : Comparator) (m : ℕ) (rest : List Order) → drop s.from s.orders.list ≡ order.FrameHome n ∷ order.Load ∷ order.Save ∷ order.Const x ∷ order.JumpIf c m ∷ rest
+        → block_at 0 (drop s.from s.orders.list) ≡ block.CompareWord n x c m → shown_as (observed (processor_step q.processor)) ≡ record { output = w.output; end = Running }
+    compare_word_opens n x c m rest e is = frame_opens (block_code known s (block.CompareWord n x c m) (order.FrameHome n) (order.Load ∷ order.Save ∷ order.Const x ∷ order.JumpIf c m ∷ rest) e is).0
 
     -- a word of an element
     address_opens : (e : Element) (t : Test) (x : Place) (tail : List Coded) → HasPiecesFrom (begins_block known s) image (all.stands g s.orders s.unit).value (start_place known s) (element_tested (record e { index = x }) t ++ tail)

@@ -16,17 +16,15 @@ use Rattle.cw_rows86.specs.Operations.{WordOperation, Add, Or, And, Subtract, Xo
 use Rattle.cw_rows86.specs.Acts.{Operate, OperateNumber}
 use Rattle.cw_word.specs.FixedPoint.{FitsWord, fits_word, scaled_product}
 use Rattle.cw_word.specs.Word.{signed, unsigned}
-use Rattle.cw_unit.specs.Stop.{Overflow}
 use Rattle.cw_unit.specs.Words.{Operand, Word, Changed, put, put_value}
 use Rattle.cw_unit.specs.Operation.{holds}
 use Rattle.cw_order.specs.declared.order.Comparator.{Comparator}
 use Rattle.cw_order.specs.OrderChanges.{to_mark_if, comparison}
-use Rattle.cw_tmpl.specs.Library.{stop_place}
 use Rattle.cw_follow.proofs.Watched.{Watched, watched_step}
 use Rattle.cw_follow.proofs.Chains.{Is, IsCompared, view, last}
 use Rattle.cw_follow.proofs.Acting.{act}
 use Rattle.cw_follow.proofs.Stacks.{record_of, StackIs}
-use Rattle.cw_follow.proofs.Orders.{Kept, Landed, Chooses, Check, later, further, sooner, landed, checks, branches}
+use Rattle.cw_follow.proofs.Orders.{Kept, Landed, Chooses, Checked, later, further, sooner, landed, checks_end, branches}
 use Rattle.cw_follow.proofs.Operands.{Setting, words, DoesHere}
 use Rattle.cw_follow.proofs.Numbers.{sum_overflows_is, difference_overflows_is, sum_is, difference_is}
 use Rattle.cw_follow.proofs.Bits.{ands, ors, xors}
@@ -121,30 +119,28 @@ module _ (c : Setting) (memory : List ℤ) (input output : List ℕ) where
 
   -- ---- uses
 
-  pub sum_of : {p : Watched} {at size : ℕ} {i : WordOperation → Instr} (to by line : ℕ) (x y : ℤ) (rest : List Operand) → FitsWord x → FitsWord y → line < 65536 → at + size + 7 ≡ to
-      → (at + size + 2 + 3 + by) % 65536 ≡ stop_place Overflow % 65536 → Has c.image at (i Add) → Check c.image (at + size) by line → Named at size i x y rest p
+  pub sum_of : {p : Watched} {at size : ℕ} {i : WordOperation → Instr} (to line : ℕ) (x y : ℤ) (rest : List Operand) → FitsWord x → FitsWord y → line < 65536
+      → Has c.image at (i Add) → Checked c.image (at + size) to line → Named at size i x y rest p
       → DoesHere c memory input output 15 to true line p (put_value (x +ℤ y) (words rest memory input output))
-  sum_of {p} {at} {size} to by line x y rest fx fy small e arrives h i r =
-      let e' : at + size + 2 + 3 + 2 ≡ to = omega arith in
+  sum_of {p} {at} {size} to line x y rest fx fy small h i r =
       later c.program c.image 14 to c.g true line c.acts
       {T = Is c.image (at + size) (view (word_sum (unsigned x) (unsigned y)) r.cx r.dx r.bx (2 * r.top) (record_of c.acts) r.si c.program.limits.area (sum_overflows (unsigned x) (unsigned y)) r.cells r.stack r.left r.told)}
       1 15 (put_value (x +ℤ y) (words rest memory input output)) (lit≤ tt)
       (last c.rows r.is r.kept.wrote (r.step Add h).0)
       (λ q t.
-      checks c.rows c.program c.image c.g c.acts Overflow to r.top by line (x +ℤ y) rest memory input output tt c.library c.few r.some small e' arrives (sum_overflows_is c.rows.words x y fx fy)
+      checks_end c.rows c.program c.image c.g c.acts to r.top line (x +ℤ y) rest memory input output c.library c.few r.some small (sum_overflows_is c.rows.words x y fx fy)
       (sum_is c.rows.words x y fx fy) r.under r.kept i t)
 
-  pub difference_of : {p : Watched} {at size : ℕ} {i : WordOperation → Instr} (to by line : ℕ) (x y : ℤ) (rest : List Operand) → FitsWord x → FitsWord y → line < 65536 → at + size + 7 ≡ to
-      → (at + size + 2 + 3 + by) % 65536 ≡ stop_place Overflow % 65536 → Has c.image at (i Subtract) → Check c.image (at + size) by line → Named at size i x y rest p
+  pub difference_of : {p : Watched} {at size : ℕ} {i : WordOperation → Instr} (to line : ℕ) (x y : ℤ) (rest : List Operand) → FitsWord x → FitsWord y → line < 65536
+      → Has c.image at (i Subtract) → Checked c.image (at + size) to line → Named at size i x y rest p
       → DoesHere c memory input output 15 to true line p (put_value (x -ℤ y) (words rest memory input output))
-  difference_of {p} {at} {size} to by line x y rest fx fy small e arrives h i r =
-      let e' : at + size + 2 + 3 + 2 ≡ to = omega arith in
+  difference_of {p} {at} {size} to line x y rest fx fy small h i r =
       later c.program c.image 14 to c.g true line c.acts
       {T = Is c.image (at + size) (view (word_difference (unsigned x) (unsigned y)) r.cx r.dx r.bx (2 * r.top) (record_of c.acts) r.si c.program.limits.area (difference_overflows (unsigned x) (unsigned y)) r.cells r.stack r.left r.told)}
       1 15 (put_value (x -ℤ y) (words rest memory input output)) (lit≤ tt)
       (last c.rows r.is r.kept.wrote (r.step Subtract h).0)
       (λ q t.
-      checks c.rows c.program c.image c.g c.acts Overflow to r.top by line (x -ℤ y) rest memory input output tt c.library c.few r.some small e' arrives (difference_overflows_is c.rows.words x y fx fy)
+      checks_end c.rows c.program c.image c.g c.acts to r.top line (x -ℤ y) rest memory input output c.library c.few r.some small (difference_overflows_is c.rows.words x y fx fy)
       (difference_is c.rows.words x y fx fy) r.under r.kept i t)
 
   -- bits of both
@@ -186,15 +182,14 @@ module _ (c : Setting) (memory : List ℤ) (input output : List ℕ) where
   -- ---- products
 
   -- AX with a product of words, and the test behind it
-  pub product_of : {q : Watched} {at cx bx dx si top : ℕ} {cells stack : ℕ → ℕ} {left : List ℕ} {told : Told} (to by line a b : ℕ) (x y : ℤ) (rest : List Operand) → FitsWord x → FitsWord y → line < 65536 → at + 7 ≡ to
-      → (at + 2 + 3 + by) % 65536 ≡ stop_place Overflow % 65536 → 0 < top
+  pub product_of : {q : Watched} {at cx bx dx si top : ℕ} {cells stack : ℕ → ℕ} {left : List ℕ} {told : Told} (to line a b : ℕ) (x y : ℤ) (rest : List Operand) → FitsWord x → FitsWord y → line < 65536
+      → 0 < top
       → product_overflows a b ≡ not (fits_word (x *ℤ y)) → (FitsWord (x *ℤ y) → product_low a b ≡ unsigned (x *ℤ y))
-      → Check c.image at by line → StackIs c.program c.acts stack top rest → Kept c.program c.g c.acts memory input output cells stack left told
+      → Checked c.image at to line → StackIs c.program c.acts stack top rest → Kept c.program c.g c.acts memory input output cells stack left told
       → Is c.image at (view (product_low a b) cx dx bx (2 * top) (record_of c.acts) si c.program.limits.area (product_overflows a b) cells stack left told) q
       → DoesHere c memory input output 14 to true line q (put_value (scaled_product x y (pos 0)) (words rest memory input output))
-  product_of {q} {at} to by line a b x y rest fx fy small e arrives some tests low i under kept s =
+  product_of {q} {at} to line a b x y rest fx fy small some tests low i under kept s =
       let z : ℤ = x *ℤ y in
       let value : z ≡ scaled_product x y (pos 0) = sym (c.rows.words.scaled_up z 0 ∙ (let one : z *ℤ pos 1 ≡ z = omega (arith, ints) in one)) in
-      let e' : at + 2 + 3 + 2 ≡ to = omega arith in
       subst (λ r. DoesHere c memory input output 14 to true line q (put_value r (words rest memory input output))) value
-      (checks c.rows c.program c.image c.g c.acts Overflow to _ by line z rest memory input output tt c.library c.few some small e' arrives tests low under kept i s)
+      (checks_end c.rows c.program c.image c.g c.acts to _ line z rest memory input output c.library c.few some small tests low under kept i s)

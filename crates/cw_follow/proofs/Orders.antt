@@ -1,5 +1,5 @@
 -- What the code of each order does.
-use Rattle.std.proofs.Common.{◌≡◌, ◌≢◌, ℕ, zero, suc, ◌+◌, ◌*◌, ◌%◌, ◌<◌, ◌≤◌, Bool, true, false, not, ℤ, pos, negsuc, ◌+ℤ◌, ◌-ℤ◌, neg_ℤ, List, [], ◌∷◌, ◌++◌, length, length-set, set, None, refl, sym, ap, ap₂, inl, ◌⊎◌, ◌∙◌, subst, arith, lit<, lit≤}
+use Rattle.std.proofs.Common.{◌≡◌, ◌≢◌, ℕ, zero, suc, ◌+◌, ◌*◌, ◌%◌, ◌<◌, ◌≤◌, Bool, true, false, not, ℤ, pos, negsuc, ◌+ℤ◌, ◌-ℤ◌, neg_ℤ, List, [], ◌∷◌, ◌++◌, length, length-set, set, None, refl, sym, ap, ap₂, inl, inr, ◌⊎◌, ◌∙◌, subst, arith, lit<, lit≤}
 use Rattle.std.specs.Prelude.{nat_eq}
 use borrow.Author.Tests.{ltb-true, eqb-true, eqb-false}
 use Rattle.std.proofs.lemmas.Bool.{false≢true}
@@ -30,7 +30,7 @@ use Rattle.cw_routines.specs.Results.{Stands}
 use Rattle.cw_follow.proofs.Watched.{Watched, watched_step, watched_machine, over}
 use Rattle.cw_follow.proofs.WordLaws.{WordLaws}
 use Rattle.cw_follow.proofs.Rows.{Rows}
-use Rattle.cw_follow.proofs.Chains.{IsAt, Is, over_is, IsCompared, Leads, at_work, view, seen, to_place, move, exchange, push, pop, load, store, load_at, store_at, add, subtract, negate, double, no_overflow, passes, near, compare, compared_jumps, compared_passes, out, shows, more, compared_more, last, done, short}
+use Rattle.cw_follow.proofs.Chains.{IsAt, Is, over_is, IsCompared, Leads, at_work, view, seen, to_place, move, exchange, push, pop, load, store, load_at, store_at, add, subtract, negate, double, no_overflow, passes, jump_overflow, pass_overflow, near, compare, compared_jumps, compared_passes, out, shows, more, compared_more, last, done, short}
 use Rattle.cw_follow.proofs.Routines.{HasLine, StackedAt, Over, stops, put_at, put_off, with_ax}
 use Rattle.cw_follow.proofs.Stacks.{level, record_of, code_place, StackIs, OperandsAre, Piled, top_is, SameFrom, same_put, stack_pushed, piled_same}
 use Rattle.cw_follow.proofs.Numbers.{sum_overflows_is, difference_overflows_is, negative_overflows_is, sum_is, difference_is, negative_is, opposite_is, fits_tested, unsigned_pos, comparison_is}
@@ -260,6 +260,28 @@ below_area laws area n low small is = cases (signed n) refl
 abbrev pub Check : (image : Image) → (at by line : ℕ) → Type 0
 Check image at by line = Has image at (i86.JumpIf 1 5) × (Has image (at + 2) (i86.Call by) × (HasWord image (at + 2 + 3) line × Unit {0}))
 
+-- The check for an overflow at a place, with the code behind it at another: it calls the stop itself, or jumps back to a CALL of the stop with the
+-- same line behind it.
+pub record ChecksItself (image : Image) (at to line : ℕ) : Type 0 where
+  pub by : ℕ
+  pub code : Check image at by line
+  pub arrives : (at + 2 + 3 + by) % 65536 ≡ stop_place Overflow % 65536
+  pub ends : at + 2 + 3 + 2 ≡ to
+
+pub record ChecksBack (image : Image) (at to line : ℕ) : Type 0 where
+  pub back : ℕ
+  pub call : ℕ
+  pub by : ℕ
+  pub jump : Has image at (i86.JumpIf 0 back)
+  pub goes : (at + 2 + sign_extended back) % 65536 ≡ call % 65536
+  pub calls : Has image call (i86.Call by)
+  pub tells : HasWord image (call + 3) line
+  pub arrives : (call + 3 + by) % 65536 ≡ stop_place Overflow % 65536
+  pub ends : at + 2 ≡ to
+
+abbrev pub Checked : (image : Image) → (at to line : ℕ) → Type 0
+Checked image at to line = ChecksItself image at to line ⊎ ChecksBack image at to line
+
 module _ (rows : Rows) (prog : OrderProgram) (image : Image) (g : ℕ) (acts : List OrderActivation) where
   -- the word on the stack into AX, and into BX
   pub pop_ax : {p : Watched} {first : Bool} {at ax cx dx bx bp si di : ℕ} {overflow : Bool} {cells stack : ℕ → ℕ} {input : List ℕ} {told : Told} (top : ℕ) → top < 32764 → HasAt first image at (i86.Pop 0)
@@ -367,17 +389,45 @@ module _ (rows : Rows) (prog : OrderProgram) (image : Image) (g : ℕ) (acts : L
           subst (λ x. Leads x 13 q (Over (record { output = x; end = Stopped kind (g + 1) line }))) o
           (stops rows kind (at + 2) by line n (level acts + 3) (g + 1) ax cx dx bx (record_of acts) si prog.limits.area overflow cells stack left told has library i.1.0 i.1.1.0 small arrives high' low (2 * suc n) top slot k.piled.0.number_is few' s)))
 
+  -- the same where the check may jump back
+  pub checks_end : {p : Watched} {at ax cx dx bx si : ℕ} {overflow : Bool} {cells stack : ℕ → ℕ} {left : List ℕ} {told : Told} (to top line : ℕ) (z : ℤ) (operands : List Operand) (memory : List ℤ) (input output : List ℕ)
+      → Stands image.bytes → g < 255 → 0 < top → line < 65536 → overflow ≡ not (fits_word z) → (FitsWord z → ax ≡ unsigned z)
+      → StackIs prog acts stack top operands → Kept prog g acts memory input output cells stack left told → Checked image at to line
+      → Is image at (view ax cx dx bx (2 * top) (record_of acts) si prog.limits.area overflow cells stack left told) p
+      → Does prog image 14 to g true line acts output p (put_if (fits_word z) Overflow z (record { operands = operands; memory = memory; input = input; output = output }))
+  checks_end to top line z operands memory input output library few some small tests value h k (inl i) s = checks Overflow to top i.by line z operands memory input output tt library few some small i.ends i.arrives tests value h k i.code s
+  checks_end to zero line z operands memory input output library few some small tests value h k (inr i) s = absurd (omega arith)
+  checks_end {p} {at} {ax} {cx} {dx} {bx} {si} {overflow} {cells} {stack} {left} {told} to (suc n) line z operands memory input output library few some small tests value h k (inr i) s = cases (fits_word z) refl
+    where
+      cases : (b : Bool) → fits_word z ≡ b → Does prog image 14 to g true line acts output p (put_if b Overflow z (record { operands = operands; memory = memory; input = input; output = output }))
+      cases true b =
+          further 1 (lit≤ tt) (lit< tt)
+          (last rows s k.wrote (landed true to (suc n) (Word z ∷ operands) memory input output i.ends (value (fits_tested z b), h) k (pass_overflow rows i.back (tests ∙ ap not b) i.jump s)))
+      cases false b =
+          let t = top_is prog acts stack (suc n) operands h in
+          let low : n < level acts + 3 = omega arith in
+          let top : 2 * suc n ≡ 2 * suc n % 65536 = omega arith in
+          let few' : g + 1 < 256 = omega arith in
+          let high : level acts ≤ 32764 = omega arith in
+          let high' : level acts + 3 < 32768 = omega arith in
+          let slot : (record_of acts + 65534) % 65536 ≡ 2 * (level acts + 3) = omega arith in
+          let o : told.output ≡ output = k.wrote in
+          further 14 (lit≤ tt) (lit< tt)
+          (more rows {to = i.call} {w = view ax cx dx bx (2 * suc n) (record_of acts) si prog.limits.area overflow cells stack left told} s k.wrote (to_place i.goes (jump_overflow rows i.back (tests ∙ ap not b) i.jump s)) (λ q s.
+          subst (λ x. Leads x 13 q (Over (record { output = x; end = Stopped Overflow (g + 1) line }))) o
+          (stops rows Overflow i.call i.by line n (level acts + 3) (g + 1) ax cx dx bx (record_of acts) si prog.limits.area overflow cells stack left told tt library i.calls i.tells small i.arrives high' low (2 * suc n) top slot k.piled.0.number_is few' s)))
+
   -- ---- sums, differences and negatives
 
-  pub adds : {p : Watched} {at : ℕ} (to by line : ℕ) (operands : List Operand) (memory : List ℤ) (input output : List ℕ) → Stands image.bytes → g < 255 → line < 65536 → at + 10 ≡ to → (at + 1 + 2 + 2 + 3 + by) % 65536 ≡ stop_place Overflow % 65536
-      → All OperandFits operands → Has image at (i86.Pop 3) × (Has image (at + 1) (i86.AluRm 0 true true 0 (rms.Reg 3)) × Check image (at + 1 + 2) by line)
+  pub adds : {p : Watched} {at : ℕ} (to line : ℕ) (operands : List Operand) (memory : List ℤ) (input output : List ℕ) → Stands image.bytes → g < 255 → line < 65536
+      → All OperandFits operands → Has image at (i86.Pop 3) × (Has image (at + 1) (i86.AluRm 0 true true 0 (rms.Reg 3)) × Checked image (at + 1 + 2) to line)
       → Landed prog image at g true acts (record { operands = operands; memory = memory; input = input; output = output }) p
       → Does prog image 16 to g true line acts output p (perform prog.limits.area Add (record { operands = operands; memory = memory; input = input; output = output }))
-  adds to by line [] memory input output library few small e arrives fits i l = tt
-  adds to by line (Held c ∷ rest) memory input output library few small e arrives fits i l = tt
-  adds to by line (Word y ∷ []) memory input output library few small e arrives fits i l = tt
-  adds to by line (Word y ∷ Held c ∷ rest) memory input output library few small e arrives fits i l = tt
-  adds {p} {at} to by line (Word y ∷ Word x ∷ rest) memory input output library few small e arrives fits i l =
+  adds to line [] memory input output library few small fits i l = tt
+  adds to line (Held c ∷ rest) memory input output library few small fits i l = tt
+  adds to line (Word y ∷ []) memory input output library few small fits i l = tt
+  adds to line (Word y ∷ Held c ∷ rest) memory input output library few small fits i l = tt
+  adds {p} {at} to line (Word y ∷ Word x ∷ rest) memory input output library few small fits i l =
       let s = l.stacked in
       let k = l.kept in
       let h = l.operands in
@@ -390,22 +440,21 @@ module _ (rows : Rows) (prog : OrderProgram) (image : Image) (g : ℕ) (acts : L
       let turned : y +ℤ x ≡ x +ℤ y = omega (arith, ints) in
       let o : sum_overflows s.ax n ≡ not (fits_word (x +ℤ y)) = ap₂ sum_overflows h.0 h.1.0 ∙ sum_overflows_is rows.words y x fy fx ∙ ap (λ z. not (fits_word z)) turned in
       let v : FitsWord (x +ℤ y) → word_sum s.ax n ≡ unsigned (x +ℤ y) = λ f. ap₂ word_sum h.0 h.1.0 ∙ sum_is rows.words y x fy fx (subst FitsWord (sym turned) f) ∙ ap unsigned turned in
-      let e' : at + 1 + 2 + 2 + 3 + 2 ≡ to = omega arith in
       later prog image 14 to g true line acts 2 16 (put_value (x +ℤ y) (record { operands = rest; memory = memory; input = input; output = output })) (lit≤ tt)
       (more rows {to = at + 1} {w = view s.ax s.cx s.dx n (2 * suc l.top) (record_of acts) s.si prog.limits.area s.overflow l.cells l.stack l.input l.told} s.is k.wrote (pop_bx l.top lt i.0 s.is) (λ q t.
       more rows {to = at + 1 + 2} {w = view (word_sum s.ax n) s.cx s.dx n (2 * suc l.top) (record_of acts) s.si prog.limits.area (sum_overflows s.ax n) l.cells l.stack l.input l.told} t k.wrote (add rows 0 3 i.1.0 t) (λ q t.
       done t)))
-      (λ q t. checks Overflow to (suc l.top) by line (x +ℤ y) rest memory input output tt library few some small e' arrives o v h.1.1 k i.1.1 t)
+      (λ q t. checks_end to (suc l.top) line (x +ℤ y) rest memory input output library few some small o v h.1.1 k i.1.1 t)
 
-  pub subtracts : {p : Watched} {at : ℕ} (to by line : ℕ) (operands : List Operand) (memory : List ℤ) (input output : List ℕ) → Stands image.bytes → g < 255 → line < 65536 → at + 12 ≡ to → (at + 2 + 1 + 2 + 2 + 3 + by) % 65536 ≡ stop_place Overflow % 65536
-      → All OperandFits operands → Has image at (i86.Mov true true 3 (rms.Reg 0)) × (Has image (at + 2) (i86.Pop 0) × (Has image (at + 2 + 1) (i86.AluRm 5 true true 0 (rms.Reg 3)) × Check image (at + 2 + 1 + 2) by line))
+  pub subtracts : {p : Watched} {at : ℕ} (to line : ℕ) (operands : List Operand) (memory : List ℤ) (input output : List ℕ) → Stands image.bytes → g < 255 → line < 65536
+      → All OperandFits operands → Has image at (i86.Mov true true 3 (rms.Reg 0)) × (Has image (at + 2) (i86.Pop 0) × (Has image (at + 2 + 1) (i86.AluRm 5 true true 0 (rms.Reg 3)) × Checked image (at + 2 + 1 + 2) to line))
       → Landed prog image at g true acts (record { operands = operands; memory = memory; input = input; output = output }) p
       → Does prog image 17 to g true line acts output p (perform prog.limits.area Subtract (record { operands = operands; memory = memory; input = input; output = output }))
-  subtracts to by line [] memory input output library few small e arrives fits i l = tt
-  subtracts to by line (Held c ∷ rest) memory input output library few small e arrives fits i l = tt
-  subtracts to by line (Word y ∷ []) memory input output library few small e arrives fits i l = tt
-  subtracts to by line (Word y ∷ Held c ∷ rest) memory input output library few small e arrives fits i l = tt
-  subtracts {p} {at} to by line (Word y ∷ Word x ∷ rest) memory input output library few small e arrives fits i l =
+  subtracts to line [] memory input output library few small fits i l = tt
+  subtracts to line (Held c ∷ rest) memory input output library few small fits i l = tt
+  subtracts to line (Word y ∷ []) memory input output library few small fits i l = tt
+  subtracts to line (Word y ∷ Held c ∷ rest) memory input output library few small fits i l = tt
+  subtracts {p} {at} to line (Word y ∷ Word x ∷ rest) memory input output library few small fits i l =
       let s = l.stacked in
       let k = l.kept in
       let h = l.operands in
@@ -417,21 +466,20 @@ module _ (rows : Rows) (prog : OrderProgram) (image : Image) (g : ℕ) (acts : L
       let m = l.stack l.top in
       let o : difference_overflows m s.ax ≡ not (fits_word (x -ℤ y)) = ap₂ difference_overflows h.1.0 h.0 ∙ difference_overflows_is rows.words x y fx fy in
       let v : FitsWord (x -ℤ y) → word_difference m s.ax ≡ unsigned (x -ℤ y) = λ f. ap₂ word_difference h.1.0 h.0 ∙ difference_is rows.words x y fx fy f in
-      let e' : at + 2 + 1 + 2 + 2 + 3 + 2 ≡ to = omega arith in
       later prog image 14 to g true line acts 3 17 (put_value (x -ℤ y) (record { operands = rest; memory = memory; input = input; output = output })) (lit≤ tt)
       (more rows {to = at + 2} {w = view s.ax s.cx s.dx s.ax (2 * l.top) (record_of acts) s.si prog.limits.area s.overflow l.cells l.stack l.input l.told} s.is k.wrote (move rows 3 0 i.0 s.is) (λ q t.
       more rows {to = at + 2 + 1} {w = view m s.cx s.dx s.ax (2 * suc l.top) (record_of acts) s.si prog.limits.area s.overflow l.cells l.stack l.input l.told} t k.wrote (pop_ax l.top lt i.1.0 t) (λ q t.
       more rows {to = at + 2 + 1 + 2} {w = view (word_difference m s.ax) s.cx s.dx s.ax (2 * suc l.top) (record_of acts) s.si prog.limits.area (difference_overflows m s.ax) l.cells l.stack l.input l.told} t k.wrote (subtract rows 0 3 i.1.1.0 t) (λ q t.
       done t))))
-      (λ q t. checks Overflow to (suc l.top) by line (x -ℤ y) rest memory input output tt library few some small e' arrives o v h.1.1 k i.1.1.1 t)
+      (λ q t. checks_end to (suc l.top) line (x -ℤ y) rest memory input output library few some small o v h.1.1 k i.1.1.1 t)
 
-  pub negates : {p : Watched} {at : ℕ} (to by line : ℕ) (operands : List Operand) (memory : List ℤ) (input output : List ℕ) → Stands image.bytes → g < 255 → line < 65536 → operand_words operands < level acts → at + 9 ≡ to → (at + 2 + 2 + 3 + by) % 65536 ≡ stop_place Overflow % 65536
-      → All OperandFits operands → Has image at (i86.Unary 3 true (rms.Reg 0)) × Check image (at + 2) by line
+  pub negates : {p : Watched} {at : ℕ} (to line : ℕ) (operands : List Operand) (memory : List ℤ) (input output : List ℕ) → Stands image.bytes → g < 255 → line < 65536 → operand_words operands < level acts
+      → All OperandFits operands → Has image at (i86.Unary 3 true (rms.Reg 0)) × Checked image (at + 2) to line
       → Landed prog image at g true acts (record { operands = operands; memory = memory; input = input; output = output }) p
       → Does prog image 15 to g true line acts output p (perform prog.limits.area Negate (record { operands = operands; memory = memory; input = input; output = output }))
-  negates to by line [] memory input output library few small room e arrives fits i l = tt
-  negates to by line (Held c ∷ rest) memory input output library few small room e arrives fits i l = tt
-  negates {p} {at} to by line (Word x ∷ rest) memory input output library few small room e arrives fits i l =
+  negates to line [] memory input output library few small room fits i l = tt
+  negates to line (Held c ∷ rest) memory input output library few small room fits i l = tt
+  negates {p} {at} to line (Word x ∷ rest) memory input output library few small room fits i l =
       let s = l.stacked in
       let k = l.kept in
       let h = l.operands in
@@ -440,11 +488,10 @@ module _ (rows : Rows) (prog : OrderProgram) (image : Image) (g : ℕ) (acts : L
       let fx : FitsWord x = All-head OperandFits (Word x) rest fits in
       let o : difference_overflows 0 s.ax ≡ not (fits_word (neg_ℤ x)) = ap (difference_overflows 0) h.0 ∙ negative_overflows_is rows.words x fx in
       let v : FitsWord (neg_ℤ x) → word_difference 0 s.ax ≡ unsigned (neg_ℤ x) = λ f. ap (word_difference 0) h.0 ∙ negative_is rows.words x fx f in
-      let e' : at + 2 + 2 + 3 + 2 ≡ to = omega arith in
       later prog image 14 to g true line acts 1 15 (put_value (neg_ℤ x) (record { operands = rest; memory = memory; input = input; output = output })) (lit≤ tt)
       (more rows {to = at + 2} {w = view (word_difference 0 s.ax) s.cx s.dx s.bx (2 * l.top) (record_of acts) s.si prog.limits.area (difference_overflows 0 s.ax) l.cells l.stack l.input l.told} s.is k.wrote (negate rows 0 i.0 s.is) (λ q t.
       done t))
-      (λ q t. checks Overflow to l.top by line (neg_ℤ x) rest memory input output tt library few some small e' arrives o v h.1 k i.1 t)
+      (λ q t. checks_end to l.top line (neg_ℤ x) rest memory input output library few some small o v h.1 k i.1 t)
 
   -- ---- words of the data area
 

@@ -1,5 +1,5 @@
 -- Blocks that fetch a part of a word, or store one, at a place.
-use Rattle.std.proofs.Common.{◌≡◌, ℕ, suc, ◌+◌, ◌*◌, ◌%◌, ◌<◌, ◌≤◌, Bool, true, false, not, ℤ, pos, negsuc, List, [], ◌∷◌, ◌++◌, length, drop, set, Some, None, refl, ap, ◌∙◌, subst, arith, lit<}
+use Rattle.std.proofs.Common.{sym, ◌≡◌, ℕ, suc, ◌+◌, ◌*◌, ◌%◌, ◌<◌, ◌≤◌, Bool, true, false, not, ℤ, pos, negsuc, List, [], ◌∷◌, ◌++◌, length, drop, set, Some, None, refl, ap, ◌∙◌, subst, arith, lit<}
 use borrow.Author.Tests.{ltb-true}
 use Rattle.std.proofs.lemmas.Bool.{false≢true}
 use Rattle.std.proofs.lemmas.List.Elements.{All-head}
@@ -29,9 +29,12 @@ use Rattle.cw_tmpl.specs.declared.blocks.Block.TheVariants as block
 use Rattle.cw_tmpl.specs.declared.pieces.Coded.{Coded}
 use Rattle.cw_tmpl.specs.declared.pieces.Coded.TheVariants as pieces
 use Rattle.cw_tmpl.specs.Blocks.{address_orders, is_part, block_at}
-use Rattle.cw_tmpl.specs.Mnemonics.{slot, base_slot, field, load}
+use Rattle.cw_tmpl.specs.Mnemonics.{slot, base_slot, field, load, operate, change}
 use Rattle.cw_tmpl.specs.Pieces.{Filling, blanks}
-use Rattle.cw_tmpl.specs.Templates.{shifted_up, part_taken, address_pieces, operate_place, change_place}
+use Rattle.cw_tmpl.specs.Templates.{frame_size, shifted_up, part_taken, address_pieces, operate_place, change_place}
+use Rattle.cw_tmpl.proofs.Lengths.{first_long, field_loaded, field_operated, field_changed}
+use Rattle.cw_i86.specs.Encoding.{bytes_of}
+use Rattle.cw_follow.proofs.Fields.{doubled_small, field_denotes}
 use Rattle.cw_follow.specs.Placing.{base_of}
 use Rattle.cw_follow.proofs.Watched.{Watched}
 use Rattle.cw_follow.proofs.Standing.{HasPieces, order_place, HasFrom}
@@ -165,11 +168,16 @@ module _ (c : Setting) (value : Filling) (memory : List ℤ) (input output : Lis
       (λ q' place x cx overflow is code s.
       let h = code.0 in
       let end = code.1 in
-      let there : place + 3 + 4 + 3 + 4 ≡ to = omega arith in
+      let d = 2 * n % 65536 in
+      let size = length (bytes_of (operate 6 0 (field d))) in
+      let last = pieces.Whole (change 6 (field d) 0) ∷ [] in
+      let named = λ (y : ℕ). field_denotes c.image.bytes (y ∷ cx ∷ l.stacked.dx ∷ twice ∷ 2 * l.top ∷ bp ∷ l.stacked.si ∷ c.program.limits.area ∷ []) d k lt (doubled_small a.frame_base) address in
+      let long : length (bytes_of (change 6 (field d) 0)) ≡ size = field_changed 6 0 d ∙ sym (field_operated 6 0 d) in
+      let there : place + 3 + size + 3 + size ≡ to = omega (arith, end, long, first_long (operate 6 0 (field d)) (pieces.Whole (with_number 4 (field_mask t b)) ∷ last), first_long (change 6 (field d) 0) []) in
       straight c.rows (LoadSlot 3 0xFA (r + 1) twice ∷ []) {n = 3} kept.wrote (h.0, tt) ((base, slot_base, kept.piled.0.base_is ∙ base_is), tt) s (λ q'' s'.
       leads_on (λ x u. stored to k l.top z rest within there l.operands.1 kept u)
-      (turns c.rows 4 k (field_mask t b) (unsigned (word_at memory k)) (field (2 * n % 65536)) (field (2 * n % 65536)) kept.wrote (kept.words k within)
-      (λ x. (refl, refl, lt, address)) (λ x. (refl, refl, lt, address)) refl refl (lit< tt) h.1.0 h.1.1.0 h.1.1.1.0 (with_ax is s')))))
+      (turns c.rows size k (field_mask t b) (unsigned (word_at memory k)) (field (2 * n % 65536)) (field (2 * n % 65536)) kept.wrote (kept.words k within)
+      named named refl long (let some : 0 < size = omega (arith, field_operated 6 0 d) in some) h.1.0 h.1.1.0 h.1.1.1.0 (with_ax is s')))))
 
 -- ---- the blocks
 
@@ -217,29 +225,29 @@ module _ (known : Given) where
         let bits = part_of t b part_is in
         let code = block_code known s B (order.FrameHome n) (o ∷ rest) e is in
         let behind = ends.behind in
-        let last_end : from_here + 3 + 4 + length (blanks (part_taken t b is_signed)) ≡ block_end = omega arith in
+        let last_end : from_here + 3 + length (bytes_of (load 0 (field (2 * n % 65536)))) + length (blanks (part_taken t b is_signed)) ≡ block_end = omega (arith, behind, first_long (load 0 (field (2 * n % 65536))) (part_taken t b is_signed)) in
         last_does known s true 0 (λ v. unrefused (perform p.limits.area (Fetch (part t b (not is_signed))) v)) 6 1 _ is_done e ends.begins (step_in known s true o before.now here) paid
         (frame_part acts refl t b is_signed n bits.0 bits.1 last_end (code.0, (code.1.0, tt)) code.1.1 (over_landed (begins_block known s) before.landed))
       where
-        frame_part : (xs : List OrderActivation) → acts ≡ xs → (t b : ℕ) (is_signed : Bool) (n : ℕ) → 1 ≤ t → t + b ≤ 16 → from_here + 3 + 4 + length (blanks (part_taken t b is_signed)) ≡ block_end
-            → HasFrom (begins_block known s) image from_here (load 3 (slot base_slot) ∷ load 0 (field (2 * n % 65536)) ∷ []) → HasPieces image words_of (from_here + 3 + 4) (part_taken t b is_signed) → LandedAt (begins_block known s) p image from_here g false acts s.before (begun_block known s)
+        frame_part : (xs : List OrderActivation) → acts ≡ xs → (t b : ℕ) (is_signed : Bool) (n : ℕ) → 1 ≤ t → t + b ≤ 16 → from_here + 3 + length (bytes_of (load 0 (field (2 * n % 65536)))) + length (blanks (part_taken t b is_signed)) ≡ block_end
+            → HasFrom (begins_block known s) image from_here (load 3 (slot base_slot) ∷ load 0 (field (2 * n % 65536)) ∷ []) → HasPieces image words_of (from_here + 3 + length (bytes_of (load 0 (field (2 * n % 65536))))) (part_taken t b is_signed) → LandedAt (begins_block known s) p image from_here g false acts s.before (begun_block known s)
             → Does p image 6 block_end g true 0 acts s.before.output (begun_block known s) (chain (chain (put_address (frame_word p.limits.area xs n) s.before) Changed) (λ v. unrefused (perform p.limits.area (Fetch (part t b (not is_signed))) v)))
         frame_part [] is t b is_signed n some room e i code l = tt
         frame_part (a ∷ under) is t b is_signed n some room e i code l =
             cases (nat_lt (a.frame_base + n) p.limits.area)
-            (subst (λ xs. Does p image 2 (from_here + 3 + 4) g true 0 acts s.before.output (begun_block known s) (chain (chain (put_address (frame_word p.limits.area xs n) s.before) Changed) (λ v. unrefused (perform p.limits.area (Fetch None) v)))) is
-            (fetches_word rows p image g (from_here + 3 + 4) n acts s.before low there i l))
+            (subst (λ xs. Does p image 2 (from_here + 3 + length (bytes_of (load 0 (field (2 * n % 65536))))) g true 0 acts s.before.output (begun_block known s) (chain (chain (put_address (frame_word p.limits.area xs n) s.before) Changed) (λ v. unrefused (perform p.limits.area (Fetch None) v)))) is
+            (fetches_word rows p image g (from_here + 3 + length (bytes_of (load 0 (field (2 * n % 65536))))) n acts s.before low there i l))
           where
-            there : from_here + 7 ≡ from_here + 3 + 4
-            there = omega arith
+            there : from_here + (frame_size n + 5) ≡ from_here + 3 + length (bytes_of (load 0 (field (2 * n % 65536))))
+            there = omega (arith, field_loaded 0 (2 * n % 65536))
 
             cases : (inside : Bool)
-                → Does p image 2 (from_here + 3 + 4) g true 0 acts s.before.output (begun_block known s) (chain (chain (put_address (if inside then Some (a.frame_base + n) else None) s.before) Changed) (λ v. unrefused (perform p.limits.area (Fetch None) v)))
+                → Does p image 2 (from_here + 3 + length (bytes_of (load 0 (field (2 * n % 65536))))) g true 0 acts s.before.output (begun_block known s) (chain (chain (put_address (if inside then Some (a.frame_base + n) else None) s.before) Changed) (λ v. unrefused (perform p.limits.area (Fetch None) v)))
                 → Does p image 6 block_end g true 0 acts s.before.output (begun_block known s) (chain (chain (put_address (if inside then Some (a.frame_base + n) else None) s.before) Changed) (λ v. unrefused (perform p.limits.area (Fetch (part t b (not is_signed))) v)))
             cases false d = tt
             cases true d =
                 let v = s.before in
-                part_behind (setting known s) words_of v.memory v.input v.output s.fits_before.memory l.kept.long t b some room (begun_block known s) (from_here + 3 + 4) 2 block_end is_signed (signed (a.frame_base + n)) v.operands e code d
+                part_behind (setting known s) words_of v.memory v.input v.output s.fits_before.memory l.kept.long t b some room (begun_block known s) (from_here + 3 + length (bytes_of (load 0 (field (2 * n % 65536))))) 2 block_end is_signed (signed (a.frame_base + n)) v.operands e code d
 
     pub fetch_part_follows : (x : Place) (t b : ℕ) (is_signed : Bool) (rest : List Order) → drop s.from s.orders.list ≡ address_orders x ++ order.LoadPart t b is_signed ∷ rest → is_part t b ≡ true
         → block_at 0 (drop s.from s.orders.list) ≡ block.FetchPart x t b is_signed → FollowFrom known (begun_block known s) (at g place loaded acts w Running) q

@@ -1,6 +1,6 @@
 -- In the image of a program of orders, the instructions of each order stand at their places.
 use Rattle.std.proofs.Common.{◌≡◌, ℕ, zero, suc, ◌+◌, ◌<◌, ◌≤◌, List, [], ◌∷◌, ◌++◌, length, take, drop, refl, sym, ap, ◌∙◌, subst, arith, lit<, append_assoc, length-append, Some, None, ◌*◌}
-use Rattle.std.specs.Prelude.{slice_get, slice_index}
+use Rattle.std.specs.Prelude.{Bool, true, false, slice_get, slice_index}
 use Rattle.cw_unit.specs.declared.unit.Goal.{Goal}
 use Rattle.cw_order.specs.declared.order.LabelMark.{LabelMark}
 use Rattle.cw_order.specs.declared.order.Order.{Order}
@@ -13,13 +13,16 @@ use Rattle.cw_tmpl.specs.Library.{library_bytes, entry_place}
 use Rattle.cw_routines.specs.Results.{Stands as LibraryStands}
 use Rattle.cw_tmpl.specs.Templates.{entry_pieces, landing_pieces, switch_pieces, is_short}
 use Rattle.cw_tmpl.specs.Blocks.{block_at, left_at}
-use Rattle.cw_tmpl.specs.Names.{Names, mark_place, landing_start, switch_start, switch_size}
-use Rattle.cw_tmpl.specs.ReferenceCode.{templates, landings, switches, switch_places, landings_place, switches_place, names_of, pieces_of, entry_size, reach_of}
+use Rattle.cw_tmpl.specs.Names.{Names, mark_place, landing_start, has_landing, landing_bytes, switch_start, switch_bytes, place_of_one}
+use Rattle.cw_tmpl.specs.Named.{is_named_label, is_named_switch}
+use Rattle.cw_tmpl.specs.ReferenceCode.{templates, landing_where, landings, switch_where, switches, landing_places, landing_sizes, switch_places, landings_place, switches_place, names_of, pieces_of, entry_size, reach_of}
 use Rattle.cw_follow.specs.Placing.{Fills, total_size, base_of, place_after, AreCodes, no_code, a_code, IsImage, Codable}
-use Rattle.cw_follow.proofs.Fine.{AllFine, pieces_there, OrderFits, NumberFits, fits_at, entry_fine, base_fine, switch_fine, block_fine}
+use Rattle.cw_follow.proofs.Fits.{OrderFits, NumberFits, fits_at}
+use Rattle.cw_follow.proofs.Fine.{AllFine, pieces_there, entry_fine, base_fine, switch_fine, block_fine}
 use Rattle.cw_tmpl.proofs.Growing.{blanks-append}
 use Rattle.cw_tmpl.proofs.Filling.{filled-append, length-filled}
-use Rattle.cw_tmpl.proofs.Sizes.{in_middle, own_place, size_to, size_of_templates, size_of_landings, size_of_switch, landings_at, pieces_by}
+use Rattle.cw_tmpl.proofs.Sizes.{in_middle, own_place, size_to, size_of_templates, landings_at, pieces_by}
+use Rattle.cw_tmpl.proofs.Ways.{landing_long, routine_long, size_of_landings}
 use Rattle.cw_follow.proofs.Bytes.{HasPieces, order_place, pieces_at, Stands, AllStand}
 
 -- ---- one segment
@@ -57,41 +60,65 @@ order_in_middle : (names : Names) (at : ℕ) (list : List Order) (k : ℕ) (o : 
     → InMiddle (templates names at 0 0 list) (size_to (is_short names.reach) 0 0 list k) (pieces_by names (at + size_to (is_short names.reach) 0 0 list k) k (block_at (left_at 0 list k) (drop k list)) o)
 order_in_middle names at list k o e = let m = in_middle names at 0 0 list k k o (omega arith) e in record { before = m.before; rest = m.behind; is = m.is; long = m.size }
 
-landing_in_middle : (names : Names) (at : ℕ) (list : List LabelMark) (k : ℕ) (m : LabelMark) → slice_get list k ≡ Some m → InMiddle (landings names at list) (15 * k) (landing_pieces names (at + 15 * k) m)
-landing_in_middle names at [] k m e = absurd (cc)
-landing_in_middle names at (x ∷ xs) zero m e =
-    let same : x ≡ m = cc in
-    let here : at ≡ at + 15 * 0 = omega arith in
-    subst (λ y. InMiddle (landings names at (x ∷ xs)) 0 (landing_pieces names (at + 15 * 0) y)) same
-    (subst (λ n. InMiddle (landings names at (x ∷ xs)) 0 (landing_pieces names n x)) here (first_of_all (landing_pieces names at x) (landings names (at + 15) xs)))
-landing_in_middle names at (x ∷ xs) (suc k) m e =
-    let i = landing_in_middle names (at + 15) xs k m e in
-    let there : at + 15 + 15 * k ≡ at + 15 * suc k = omega arith in
-    let size : length (blanks (landing_pieces names at x)) ≡ 15 = refl in
-    at_offset (landings names at (x ∷ xs)) (15 + 15 * k) (15 * suc k) (landing_pieces names (at + 15 * suc k) m) (omega arith)
-    (subst (λ n. InMiddle (landings names at (x ∷ xs)) (15 + 15 * k) (landing_pieces names n m)) there
-    (behind_first (landing_pieces names at x) (landings names (at + 15) xs) 15 (15 * k) (landing_pieces names (at + 15 + 15 * k) m) size i))
+first_landing : (has : Bool) (names : Names) (at : ℕ) (m : LabelMark) (rest : List Coded) → has ≡ true → InMiddle (landing_where has names at m ++ rest) 0 (landing_pieces names at m)
+first_landing true names at m rest e = first_of_all (landing_pieces names at m) rest
+first_landing false names at m rest e = absurd (cc)
 
--- the place of a routine of a switch less that of the first one
-switch_in_middle : (names : Names) (at : ℕ) (list : List (List Goal)) (k : ℕ) (gs : List Goal) → slice_get list k ≡ Some gs
-    → (offset : ℕ) × (slice_index (switch_places at list) k ≡ at + offset) × InMiddle (switches names at list) offset (switch_pieces names (at + offset) gs)
-switch_in_middle names at [] k gs e = absurd (cc)
-switch_in_middle names at (x ∷ xs) zero gs e =
-    let same : x ≡ gs = cc in
-    let here : at ≡ at + 0 = omega arith in (
+-- the place of a landing less that of the first one
+landing_in_middle : (names : Names) (named : ℕ → Bool) (at l : ℕ) (list : List LabelMark) (k : ℕ) (m : LabelMark) → slice_get list k ≡ Some m → has_landing named (l + k) m ≡ true
+    → (offset : ℕ) × (slice_index (landing_places named at l list) k ≡ at + offset) × InMiddle (landings names named at l list) offset (landing_pieces names (at + offset) m)
+landing_in_middle names named at l [] k m e has = absurd (cc)
+landing_in_middle names named at l (x ∷ xs) zero m e has =
+    let same : x ≡ m = cc in
+    let here : at ≡ at + 0 = omega arith in
+    let number : l + 0 ≡ l = omega arith in
+    let has' : has_landing named l x ≡ true = ap (has_landing named l) same ∙ ap (λ n. has_landing named n m) (sym number) ∙ has in
+    let rest = landings names named (at + landing_bytes (has_landing named l x)) (suc l) xs in (
       0,
-      here,
-      subst (λ y. InMiddle (switches names at (x ∷ xs)) 0 (switch_pieces names (at + 0) y)) same
-          (subst (λ n. InMiddle (switches names at (x ∷ xs)) 0 (switch_pieces names n x)) here (first_of_all (switch_pieces names at x) (switches names (at + switch_size x) xs))),
+      ap (λ b. place_of_one b at) has' ∙ here,
+      subst (λ y. InMiddle (landings names named at l (x ∷ xs)) 0 (landing_pieces names (at + 0) y)) same
+          (subst (λ n. InMiddle (landings names named at l (x ∷ xs)) 0 (landing_pieces names n x)) here (first_landing (has_landing named l x) names at x rest has')),
     )
-switch_in_middle names at (x ∷ xs) (suc k) gs e =
-    let next = at + switch_size x in
-    let i = switch_in_middle names next xs k gs e in
-    let there : next + i.0 ≡ at + (switch_size x + i.0) = omega arith in (
-      switch_size x + i.0,
+landing_in_middle names named at l (x ∷ xs) (suc k) m e has =
+    let own = has_landing named l x in
+    let next = at + landing_bytes own in
+    let number : l + suc k ≡ suc l + k = omega arith in
+    let i = landing_in_middle names named next (suc l) xs k m e (ap (λ n. has_landing named n m) (sym number) ∙ has) in
+    let there : next + i.0 ≡ at + (landing_bytes own + i.0) = omega arith in (
+      landing_bytes own + i.0,
       i.1 ∙ there,
-      subst (λ n. InMiddle (switches names at (x ∷ xs)) (switch_size x + i.0) (switch_pieces names n gs)) there
-          (behind_first (switch_pieces names at x) (switches names next xs) (switch_size x) i.0 (switch_pieces names (next + i.0) gs) (size_of_switch names at x) i.2),
+      subst (λ n. InMiddle (landings names named at l (x ∷ xs)) (landing_bytes own + i.0) (landing_pieces names n m)) there
+          (behind_first (landing_where own names at x) (landings names named next (suc l) xs) (landing_bytes own) i.0 (landing_pieces names (next + i.0) m) (landing_long own names at x) i.2),
+    )
+
+first_switch : (has : Bool) (names : Names) (at : ℕ) (gs : List Goal) (rest : List Coded) → has ≡ true → InMiddle (switch_where has names at gs ++ rest) 0 (switch_pieces names at gs)
+first_switch true names at gs rest e = first_of_all (switch_pieces names at gs) rest
+first_switch false names at gs rest e = absurd (cc)
+
+-- the same of the routine of a switch
+switch_in_middle : (names : Names) (named : ℕ → Bool) (at n : ℕ) (list : List (List Goal)) (k : ℕ) (gs : List Goal) → slice_get list k ≡ Some gs → named (n + k) ≡ true
+    → (offset : ℕ) × (slice_index (switch_places named at n list) k ≡ at + offset) × InMiddle (switches names named at n list) offset (switch_pieces names (at + offset) gs)
+switch_in_middle names named at n [] k gs e has = absurd (cc)
+switch_in_middle names named at n (x ∷ xs) zero gs e has =
+    let same : x ≡ gs = cc in
+    let here : at ≡ at + 0 = omega arith in
+    let number : n + 0 ≡ n = omega arith in
+    let has' : named n ≡ true = ap named (sym number) ∙ has in
+    let rest = switches names named (at + switch_bytes (named n) x) (suc n) xs in (
+      0,
+      ap (λ b. place_of_one b at) has' ∙ here,
+      subst (λ y. InMiddle (switches names named at n (x ∷ xs)) 0 (switch_pieces names (at + 0) y)) same
+          (subst (λ m. InMiddle (switches names named at n (x ∷ xs)) 0 (switch_pieces names m x)) here (first_switch (named n) names at x rest has')),
+    )
+switch_in_middle names named at n (x ∷ xs) (suc k) gs e has =
+    let next = at + switch_bytes (named n) x in
+    let number : n + suc k ≡ suc n + k = omega arith in
+    let i = switch_in_middle names named next (suc n) xs k gs e (ap named (sym number) ∙ has) in
+    let there : next + i.0 ≡ at + (switch_bytes (named n) x + i.0) = omega arith in (
+      switch_bytes (named n) x + i.0,
+      i.1 ∙ there,
+      subst (λ m. InMiddle (switches names named at n (x ∷ xs)) (switch_bytes (named n) x + i.0) (switch_pieces names m gs)) there
+          (behind_first (switch_where (named n) names at x) (switches names named next (suc n) xs) (switch_bytes (named n) x) i.0 (switch_pieces names (next + i.0) gs) (routine_long (named n) names at x) i.2),
     )
 
 whole_within : (all : List Coded) (offset : ℕ) (part : List Coded) → InMiddle all offset part → offset + length (blanks part) ≤ length (blanks all)
@@ -127,10 +154,10 @@ module _ (p : OrderProgram) (image before behind : List ℕ) (g next : ℕ) (val
     orders_code = templates names entry_size 0 0 o.list
 
     abbrev landings_code : List Coded
-    landings_code = landings names (landings_place o) o.labels
+    landings_code = landings names (is_named_label o) (landings_place o) 0 o.labels
 
     abbrev switches_code : List Coded
-    switches_code = switches names (switches_place o) o.switches
+    switches_code = switches names (is_named_switch o) (switches_place o) 0 o.switches
 
     entry_there : HasPieces image value (base_of p g) entry_pieces
     entry_there =
@@ -143,44 +170,64 @@ module _ (p : OrderProgram) (image before behind : List ℕ) (g next : ℕ) (val
         part_there (own_place o k) (pieces_at o k order)
         (behind_first entry_pieces (orders_code ++ (landings_code ++ switches_code)) entry_size (size_to (is_short (reach_of o)) 0 0 o.list k) (pieces_at o k order) refl
         (before_others orders_code (landings_code ++ switches_code) (size_to (is_short (reach_of o)) 0 0 o.list k) (pieces_at o k order) (order_in_middle names entry_size o.list k order e)))
-        (block_fine p g next value fills near names (own_place o k) (is_short (reach_of o) k (block_at (left_at 0 o.list k) (drop k o.list)) order) (block_at (left_at 0 o.list k) (drop k o.list)) order (fits_at (left_at 0 o.list k) o.list k order e fits))
+        (block_fine p g next value fills near names (own_place o k) k (is_short (reach_of o) k (block_at (left_at 0 o.list k) (drop k o.list)) order) (block_at (left_at 0 o.list k) (drop k o.list)) order (fits_at (left_at 0 o.list k) o.list k order e fits))
 
-    landing_placed : (l : ℕ) (m : LabelMark) → slice_get o.labels l ≡ Some m → InMiddle (pieces_of o) (landing_start names l) (landing_pieces names (landing_start names l) m)
-    landing_placed l m e =
-        let part = landing_pieces names (landing_start names l) m in
+    landing_placed : (l : ℕ) (m : LabelMark) → slice_get o.labels l ≡ Some m → has_landing (is_named_label o) l m ≡ true
+        → (landings_place o ≤ landing_start names l) × InMiddle (pieces_of o) (landing_start names l) (landing_pieces names (landing_start names l) m)
+    landing_placed l m e has =
+        let number : 0 + l ≡ l = omega arith in
+        let i = landing_in_middle names (is_named_label o) (landings_place o) 0 o.labels l m e (ap (λ k. has_landing (is_named_label o) k m) number ∙ has) in
+        let start = landings_place o + i.0 in
+        let part = landing_pieces names start m in
         let size = size_of_templates names entry_size 0 0 o.list in
         let begins = landings_at o in
-        at_offset (pieces_of o) (entry_size + (size_to (is_short (reach_of o)) 0 0 o.list (length o.list) + 15 * l)) (landing_start names l) part (omega arith)
-        (behind_first entry_pieces (orders_code ++ (landings_code ++ switches_code)) entry_size (size_to (is_short (reach_of o)) 0 0 o.list (length o.list) + 15 * l) part refl
-        (behind_first orders_code (landings_code ++ switches_code) (size_to (is_short (reach_of o)) 0 0 o.list (length o.list)) (15 * l) part size
-        (before_others landings_code switches_code (15 * l) part (landing_in_middle names (landings_place o) o.labels l m e))))
+        subst (λ k. (landings_place o ≤ k) × InMiddle (pieces_of o) k (landing_pieces names k m)) (sym i.1) (
+          (omega arith),
+          at_offset (pieces_of o) (entry_size + (size_to (is_short (reach_of o)) 0 0 o.list (length o.list) + i.0)) start part (omega arith)
+              (behind_first entry_pieces (orders_code ++ (landings_code ++ switches_code)) entry_size (size_to (is_short (reach_of o)) 0 0 o.list (length o.list) + i.0) part refl
+              (behind_first orders_code (landings_code ++ switches_code) (size_to (is_short (reach_of o)) 0 0 o.list (length o.list)) i.0 part size
+              (before_others landings_code switches_code i.0 part i.2))),
+        )
 
-    landing_there : (l : ℕ) (m : LabelMark) → slice_get o.labels l ≡ Some m → HasPieces image value (base_of p g + landing_start names l) (landing_pieces names (landing_start names l) m)
-    landing_there l m e = part_there (landing_start names l) (landing_pieces names (landing_start names l) m) (landing_placed l m e) (base_fine p g next value fills near (landing_start names l) (mark_place names m.mark))
+    landing_there : (l : ℕ) (m : LabelMark) → slice_get o.labels l ≡ Some m → has_landing (is_named_label o) l m ≡ true → HasPieces image value (base_of p g + landing_start names l) (landing_pieces names (landing_start names l) m)
+    landing_there l m e has = part_there (landing_start names l) (landing_pieces names (landing_start names l) m) (landing_placed l m e has).1 (base_fine p g next value fills near (landing_start names l) (mark_place names m.mark))
 
-    switch_placed : (n : ℕ) (gs : List Goal) → slice_get o.switches n ≡ Some gs → (switches_place o ≤ switch_start names n) × InMiddle (pieces_of o) (switch_start names n) (switch_pieces names (switch_start names n) gs)
-    switch_placed n gs e =
-        let i = switch_in_middle names (switches_place o) o.switches n gs e in
+    switch_placed : (n : ℕ) (gs : List Goal) → slice_get o.switches n ≡ Some gs → is_named_switch o n ≡ true
+        → (switches_place o ≤ switch_start names n) × InMiddle (pieces_of o) (switch_start names n) (switch_pieces names (switch_start names n) gs)
+    switch_placed n gs e named =
+        let number : 0 + n ≡ n = omega arith in
+        let i = switch_in_middle names (is_named_switch o) (switches_place o) 0 o.switches n gs e (ap (is_named_switch o) number ∙ named) in
         let start = switches_place o + i.0 in
         let part = switch_pieces names start gs in
         let size = size_of_templates names entry_size 0 0 o.list in
         let begins = landings_at o in
-        let landed = size_of_landings names (landings_place o) o.labels in
+        let landed = size_of_landings names (is_named_label o) (landings_place o) 0 o.labels in
+        let long = landing_sizes (is_named_label o) 0 o.labels in
         subst (λ k. (switches_place o ≤ k) × InMiddle (pieces_of o) k (switch_pieces names k gs)) (sym i.1) (
           (omega arith),
-          at_offset (pieces_of o) (entry_size + (size_to (is_short (reach_of o)) 0 0 o.list (length o.list) + (15 * length o.labels + i.0))) start part (omega arith)
-              (behind_first entry_pieces (orders_code ++ (landings_code ++ switches_code)) entry_size (size_to (is_short (reach_of o)) 0 0 o.list (length o.list) + (15 * length o.labels + i.0)) part refl
-              (behind_first orders_code (landings_code ++ switches_code) (size_to (is_short (reach_of o)) 0 0 o.list (length o.list)) (15 * length o.labels + i.0) part size
-              (behind_first landings_code switches_code (15 * length o.labels) i.0 part landed i.2))),
+          at_offset (pieces_of o) (entry_size + (size_to (is_short (reach_of o)) 0 0 o.list (length o.list) + (long + i.0))) start part (omega arith)
+              (behind_first entry_pieces (orders_code ++ (landings_code ++ switches_code)) entry_size (size_to (is_short (reach_of o)) 0 0 o.list (length o.list) + (long + i.0)) part refl
+              (behind_first orders_code (landings_code ++ switches_code) (size_to (is_short (reach_of o)) 0 0 o.list (length o.list)) (long + i.0) part size
+              (behind_first landings_code switches_code long i.0 part landed i.2))),
         )
 
-    switch_there : (n : ℕ) (gs : List Goal) → slice_get o.switches n ≡ Some gs → HasPieces image value (base_of p g + switch_start names n) (switch_pieces names (switch_start names n) gs)
-    switch_there n gs e =
-        part_there (switch_start names n) (switch_pieces names (switch_start names n) gs) (switch_placed n gs e).1
+    switch_there : (n : ℕ) (gs : List Goal) → slice_get o.switches n ≡ Some gs → is_named_switch o n ≡ true → HasPieces image value (base_of p g + switch_start names n) (switch_pieces names (switch_start names n) gs)
+    switch_there n gs e named =
+        part_there (switch_start names n) (switch_pieces names (switch_start names n) gs) (switch_placed n gs e named).1
         (switch_fine p g next value fills near names (switch_start names n) gs (let x = few n gs e in let y : length gs < 65536 = omega arith in y))
 
     abbrev stands_here : Stands p image g o
-    stands_here = record { value = value; next_place = next; fills = fills; entry = entry_there; orders = order_there; landings = landing_there; landings_within = λ l m e. whole_within (pieces_of o) (landing_start names l) (landing_pieces names (landing_start names l) m) (landing_placed l m e); switches_within = λ n gs e. ((switch_placed n gs e).0, whole_within (pieces_of o) (switch_start names n) (switch_pieces names (switch_start names n) gs) (switch_placed n gs e).1); switches = switch_there }
+    stands_here = record {
+      value = value;
+      next_place = next;
+      fills = fills;
+      entry = entry_there;
+      orders = order_there;
+      landings = landing_there;
+      landings_within = λ l m e has. ((landing_placed l m e has).0, whole_within (pieces_of o) (landing_start names l) (landing_pieces names (landing_start names l) m) (landing_placed l m e has).1);
+      switches_within = λ n gs e named. ((switch_placed n gs e named).0, whole_within (pieces_of o) (switch_start names n) (switch_pieces names (switch_start names n) gs) (switch_placed n gs e named).1);
+      switches = switch_there;
+    }
 
 -- ---- all segments
 
@@ -196,7 +243,7 @@ moved p image o g g' next next' e h found = subst (λ (n : ℕ). Found p image o
 abbrev behind_entry : Orders → List Coded
 behind_entry o =
     templates (names_of o) entry_size 0 0 o.list
-    ++ (landings (names_of o) (landings_place o) o.labels ++ switches (names_of o) (switches_place o) o.switches)
+    ++ (landings (names_of o) (is_named_label o) (landings_place o) 0 o.labels ++ switches (names_of o) (is_named_switch o) (switches_place o) 0 o.switches)
 
 -- the way on is a place
 way_near : {p : OrderProgram} {segment place : ℕ} {os : List Orders} {codes : List ℕ} → AreCodes p segment place os codes → place + length codes ≤ 65536 → place_after os place < 65536

@@ -1,5 +1,5 @@
 -- What the code of an activation's own orders does: the way back, the words of its frame, and its arguments.
-use Rattle.std.proofs.Common.{◌≡◌, ℕ, ◌+◌, ◌*◌, ◌/◌, ◌%◌, ◌^◌, ◌<◌, ◌≤◌, Bool, true, false, ℤ, pos, List, [], ◌∷◌, ◌++◌, set, Option, Some, None, refl, sym, ap, ◌∙◌, subst, arith, lit<, lit≤}
+use Rattle.std.proofs.Common.{length, ◌≡◌, ℕ, ◌+◌, ◌*◌, ◌/◌, ◌%◌, ◌^◌, ◌<◌, ◌≤◌, Bool, true, false, ℤ, pos, List, [], ◌∷◌, ◌++◌, set, Option, Some, None, refl, sym, ap, ◌∙◌, subst, arith, lit<, lit≤}
 use Rattle.std.specs.Prelude.{slice_get, nat_lt, if◌then◌else◌}
 use borrow.Author.Tests.{ltb-true}
 use Rattle.cw_i86.specs.declared.instr.Instr.TheVariants as i86
@@ -15,16 +15,20 @@ use Rattle.cw_order.specs.OrderProgram.{OrderProgram}
 use Rattle.cw_order.specs.OrderState.{OrderActivation, operand_words, argument_behind, frame_word}
 use Rattle.cw_order.specs.OrderChanges.{bind}
 use Rattle.cw_order.specs.OrderMachine.{unrefused}
-use Rattle.cw_tmpl.specs.Mnemonics.{slot, base_slot, argument, field, shift_down_once}
+use Rattle.cw_tmpl.specs.Mnemonics.{cx, load, store, slot, base_slot, argument, field, shift_down_once}
+use Rattle.cw_tmpl.proofs.Lengths.{field_stored, argument_loaded}
 use Rattle.cw_tmpl.proofs.Sizes.{own_place}
 use Rattle.cw_routines.specs.Ways.{QuietAll}
 use Rattle.cw_routines.specs.Results.{Quiet, leave}
+use Rattle.cw_tmpl.specs.Templates.{frame_size, argument_load_size}
+use Rattle.cw_i86.specs.Encoding.{bytes_of}
+use Rattle.cw_follow.proofs.Fields.{doubled_small}
 use Rattle.cw_follow.proofs.Watched.{Watched}
 use Rattle.cw_follow.proofs.Rows.{Rows}
 use Rattle.cw_follow.proofs.Acting.{act}
-use Rattle.cw_follow.proofs.Chains.{Is, Leads, view, seen, to_place, load_argument, store_at, more, last, done}
+use Rattle.cw_follow.proofs.Chains.{Is, Leads, view, seen, to_place, store_at, more, last, done}
 use Rattle.cw_follow.proofs.Straight.{LoadArgument, LoadSlot, StoreField, SumNumber, straight, straight_from}
-use Rattle.cw_follow.proofs.Routines.{quiet_in, quiet_all, there_all, flags_of, arrives, returned, lifted, leads_on, with_ax}
+use Rattle.cw_follow.proofs.Routines.{quiet_in, quiet_all, there_all, flags_of, arrives, returned, lifted, leads_on}
 use Rattle.cw_follow.proofs.Stacks.{start_small, level, record_of, code_place, StackIs, top_is, behind_arguments, argument_words}
 use Rattle.cw_follow.proofs.Orders.{Kept, kept_stored, Landed, landed, Leading, Does, further, LandedAt}
 use Rattle.cw_follow.proofs.Standing.{HasAll, Image, HasFrom}
@@ -112,7 +116,7 @@ module _ (rows : Rows) (prog : OrderProgram) (image : Image) where
 
   -- a word of the arguments goes to a word of the data area
   pub binds : {q : Watched} {at : ℕ} (g to k n offset line : ℕ) (a : OrderActivation) (acts : List OrderActivation) (x : Option Operand) (w : Words) → prog.limits.area ≤ 32768
-      → argument_behind k a.arguments ≡ x → at + 7 ≡ to → offset ≡ 2 * n % 65536
+      → argument_behind k a.arguments ≡ x → at + (argument_load_size k + 3) ≡ to → offset ≡ 2 * n % 65536
       → HasAll image at (i86.Mov true true 0 (argument k) ∷ i86.MovAcc false true true offset ∷ []) → Landed prog image at g false (a ∷ acts) w q
       → Does prog image 2 to g false line (a ∷ acts) w.output q (unrefused (bind prog.limits.area x (Some n) w))
   binds g to k n offset line a acts None w low is e filled i l = tt
@@ -133,15 +137,14 @@ module _ (rows : Rows) (prog : OrderProgram) (image : Image) where
           let there : (record_of (a ∷ acts) + (4 + 2 * k)) % 65536 ≡ 2 * (r + 6 + k) = omega arith in
           let lt : n < 32768 = omega arith in
           let address : offset ≡ 2 * n = omega arith in
-          let end : at + 4 + 3 ≡ to = omega arith in
+          let end : at + length (bytes_of (load 0 (argument k))) + 3 ≡ to = omega (arith, e, argument_loaded 0 k) in
           further 2 (lit≤ tt) (lit< tt)
-          (more rows {to = at + 4} {w = view (unsigned z) s.cx s.dx s.bx (2 * l.top) (record_of (a ∷ acts)) s.si prog.limits.area s.overflow l.cells l.stack l.input l.told} s.is c.wrote
-          (with_ax arg.0 (load_argument rows 0 k (r + 6 + k) small there i.0 s.is)) (λ q u.
+          (straight rows (LoadArgument 0 k (r + 6 + k) (unsigned z) ∷ []) {n = 1} c.wrote (i.0, tt) ((small, there, arg.0), tt) s.is (λ q u.
           last rows u c.wrote (landed rows prog image g (a ∷ acts) false to l.top w.operands (set w.memory n z) w.input w.output end l.operands (kept_stored n z within c) (store_at rows offset n lt address i.1.0 u))))
 
   -- or to a word of the frame
   binds_inside : {q : Watched} {at : ℕ} (g to k offset line : ℕ) (a : OrderActivation) (acts : List OrderActivation) (x : Option Operand) (w : Words) → prog.limits.area ≤ 32768
-      → a.frame_base + offset < prog.limits.area → argument_behind k a.arguments ≡ x → at + 11 ≡ to
+      → a.frame_base + offset < prog.limits.area → argument_behind k a.arguments ≡ x → at + (argument_load_size k + (frame_size offset + 5)) ≡ to
       → HasAll image at (i86.Mov true true 1 (argument k) ∷ i86.Mov true true 3 (slot base_slot) ∷ i86.Mov true false 1 (field (2 * offset % 65536)) ∷ [])
       → Landed prog image at g false (a ∷ acts) w q
       → Does prog image 3 to g false line (a ∷ acts) w.output q (unrefused (bind prog.limits.area x (Some (a.frame_base + offset)) w))
@@ -170,10 +173,10 @@ module _ (rows : Rows) (prog : OrderProgram) (image : Image) where
           let slot_base : (bp + 65530) % 65536 ≡ 2 * (r + 1) = omega arith in
           let lt : n < 32768 = omega arith in
           let address : (twice + 2 * offset % 65536) % 65536 ≡ 2 * n = omega arith in
-          let end : at + 4 + 3 + 4 ≡ to = omega arith in
-          let pieces = LoadArgument 1 (4 + 2 * k) (r + 6 + k) (unsigned z) ∷ LoadSlot 3 0xFA (r + 1) twice ∷ StoreField 1 (2 * offset % 65536) n ∷ [] in
+          let end : at + length (bytes_of (load 1 (argument k))) + 3 + length (bytes_of (store (field (2 * offset % 65536)) cx)) ≡ to = omega (arith, e, argument_loaded 1 k, field_stored cx (2 * offset % 65536)) in
+          let pieces = LoadArgument 1 k (r + 6 + k) (unsigned z) ∷ LoadSlot 3 0xFA (r + 1) twice ∷ StoreField 1 (2 * offset % 65536) n ∷ [] in
           further 3 (lit≤ tt) (lit< tt)
-          (straight rows pieces {n = 0} c.wrote i ((small, there, arg.0), ((base_at, slot_base, c.piled.0.base_is), ((lt, address), tt))) s.is (λ q u.
+          (straight rows pieces {n = 0} c.wrote i ((small, there, arg.0), ((base_at, slot_base, c.piled.0.base_is), ((lt, doubled_small a.frame_base, address), tt))) s.is (λ q u.
           done (landed rows prog image g (a ∷ acts) false to l.top w.operands (set w.memory n z) w.input w.output end l.operands (kept_stored n z within c) u)))
 
   bind_nowhere : (x : Option Operand) (w : Words) → unrefused (bind prog.limits.area x None w) ≡ Impossible
@@ -182,7 +185,7 @@ module _ (rows : Rows) (prog : OrderProgram) (image : Image) where
   bind_nowhere (Some (Word z)) w = refl
 
   pub binds_frame : {q : Watched} {at : ℕ} (g to k offset line : ℕ) (a : OrderActivation) (acts : List OrderActivation) (x : Option Operand) (w : Words) → prog.limits.area ≤ 32768
-      → argument_behind k a.arguments ≡ x → at + 11 ≡ to
+      → argument_behind k a.arguments ≡ x → at + (argument_load_size k + (frame_size offset + 5)) ≡ to
       → HasAll image at (i86.Mov true true 1 (argument k) ∷ i86.Mov true true 3 (slot base_slot) ∷ i86.Mov true false 1 (field (2 * offset % 65536)) ∷ [])
       → Landed prog image at g false (a ∷ acts) w q
       → Does prog image 3 to g false line (a ∷ acts) w.output q (unrefused (bind prog.limits.area x (frame_word prog.limits.area (a ∷ acts) offset) w))

@@ -1,10 +1,10 @@
--- What the run-time library does, as the laws of its routines say, and two pieces of the code of segments.
-use Rattle.std.specs.Prelude.{◌≢◌, ◌≤◌, ◌<◌, ℕ, suc, ℤ, pos, negsuc, Bool, List}
+-- What the run-time library does, as the laws of its routines say, and three pieces of the code of segments.
+use Rattle.std.specs.Prelude.{◌≡◌, ◌≢◌, ◌≤◌, ◌<◌, ◌+◌, ◌%◌, ℕ, suc, ℤ, pos, negsuc, Bool, List}
 use Rattle.cw_word.specs.FixedPoint.{FitsWord, scaled_product, scaled_quotient}
 use Rattle.cw_unit.specs.Stop.{Overflow, ZeroDivisor, SwitchRange, AddressRange, IndexRange}
-use Rattle.cw_tmpl.specs.Library.{start_place, stop_place, enter_place, read_place, set_variable_place, add_step_place, put_variable_place, exhausted_place, next_step_place, product_place, quotient_down_place, quotient_up_place}
-use Rattle.cw_routines.specs.Ways.{HasAll, QuietAll}
-use Rattle.cw_routines.specs.Results.{Stands, Quiet, InLibrary, StartRoutine, StopRoutine, ToldStop, EnterRoutine, leave, Leaving, ReadRoutine, SetRoutine, StepRoutine, PutRoutine, ExhaustedRoutine, NextStepRoutine, WordRoutine, divisor_test, DivisorTest}
+use Rattle.cw_tmpl.specs.Library.{start_place, stop_place, enter_place, read_place, set_variable_place, add_step_place, put_variable_place, exhausted_place, next_step_place, enter_stop_place, product_place, quotient_down_place, quotient_up_place}
+use Rattle.cw_routines.specs.Ways.{HasAll, QuietAll, HasWord}
+use Rattle.cw_routines.specs.Results.{Stands, Quiet, InLibrary, StartRoutine, StopRoutine, ToldStop, EnterRoutine, begin, Beginning, leave, Leaving, ReadRoutine, SetRoutine, StepRoutine, PutRoutine, ExhaustedRoutine, NextStepRoutine, WordRoutine, divisor_test, DivisorTest}
 
 pub record RoutineLaws : Type 0 where
   pub start : (quiet : ℕ → Bool) (code : List ℕ) → Stands code → InLibrary quiet → StartRoutine (Quiet quiet) code start_place 10
@@ -14,6 +14,7 @@ pub record RoutineLaws : Type 0 where
   pub bounds : (quiet : ℕ → Bool) (code : List ℕ) → Stands code → InLibrary quiet → StopRoutine (Quiet quiet) code (stop_place IndexRange) 12 IndexRange
   pub switch : (quiet : ℕ → Bool) (code : List ℕ) → Stands code → InLibrary quiet → ToldStop (Quiet quiet) code (stop_place SwitchRange) 10 SwitchRange
   pub enter : (quiet : ℕ → Bool) (code : List ℕ) → Stands code → InLibrary quiet → EnterRoutine (Quiet quiet) code enter_place 18
+  pub beginning : (quiet : ℕ → Bool) (code : List ℕ) → Stands code → InLibrary quiet → (at size place number by : ℕ) → (at + 22 + by) % 65536 ≡ enter_stop_place → HasWord code place number → QuietAll (Quiet quiet) at (begin size place by) → HasAll code at (begin size place by) → Beginning (Quiet quiet) code at size number 20
   pub leaving : (quiet : ℕ → Bool) (code : List ℕ) (at words : ℕ) → QuietAll (Quiet quiet) at (leave words) → HasAll code at (leave words) → Leaving (Quiet quiet) code at words
   pub read : (quiet : ℕ → Bool) (code : List ℕ) → Stands code → InLibrary quiet → ReadRoutine (Quiet quiet) code read_place 6
   pub product : (quiet : ℕ → Bool) (code : List ℕ) → Stands code → InLibrary quiet → (x y : ℤ) (j : ℕ) → FitsWord x → FitsWord y → j < 15 → WordRoutine (Quiet quiet) code product_place 15 (suc j) x y (scaled_product x y (negsuc j))

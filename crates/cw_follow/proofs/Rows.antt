@@ -1,4 +1,4 @@
--- What the instructions of the templates and of the library do to a view, as the laws of cw_run86 say, and those of Fields.
+-- What the instructions of the templates and of the library do to a view, as the laws of cw_run86 and cw_rows86 say.
 use Rattle.std.proofs.Common.{◌≡◌, ℕ, suc, ◌+◌, ◌*◌, ◌%◌, ◌<◌, ◌≤◌, Bool, true, false, ℤ, pos, unsigned_abs, int_rem, List, length}
 use Rattle.std.specs.Prelude.{◌==◌, bit_and, bit_or, bit_xor, slice_index}
 use Rattle.cw_i86.specs.State.{State, sign_extended}
@@ -37,11 +37,7 @@ pub record Rows : Type 0 where
   pub store : (code : List ℕ) (v : View) (r k : ℕ) → Has code v.place (i86.Mov true false r (rms.Mem (record { cs = false; place = places.Plain 7 }))) → k < 32768 → register v 3 ≡ 2 * k → Goes code v (with_cell k (register v r) (on (i86.Mov true false r (rms.Mem (record { cs = false; place = places.Plain 7 }))) v))
   pub load_slot : (code : List ℕ) (v : View) (r by k : ℕ) → Has code v.place (i86.Mov true true r (rms.Mem (record { cs = false; place = places.Near 6 by }))) → k < 32768 → (register v 5 + sign_extended by) % 65536 ≡ 2 * k → Goes code v (with_register r (v.stack k) (on (i86.Mov true true r (rms.Mem (record { cs = false; place = places.Near 6 by }))) v))
   -- fields
-  pub load_argument : (code : List ℕ) (v : View) (r by k : ℕ) → Has code v.place (i86.Mov true true r (rms.Mem (record { cs = false; place = places.Far 6 by }))) → k < 32768 → (register v 5 + by) % 65536 ≡ 2 * k → Goes code v (with_register r (v.stack k) (on (i86.Mov true true r (rms.Mem (record { cs = false; place = places.Far 6 by }))) v))
-  pub store_field : (code : List ℕ) (v : View) (r by k : ℕ) → Has code v.place (i86.Mov true false r (rms.Mem (record { cs = false; place = places.Far 7 by }))) → k < 32768 → (register v 3 + by) % 65536 ≡ 2 * k → Goes code v (with_cell k (register v r) (on (i86.Mov true false r (rms.Mem (record { cs = false; place = places.Far 7 by }))) v))
   pub store_slot : (code : List ℕ) (v : View) (r by k : ℕ) → Has code v.place (i86.Mov true false r (rms.Mem (record { cs = false; place = places.Near 6 by }))) → k < 32768 → (register v 5 + sign_extended by) % 65536 ≡ 2 * k → Goes code v (with_stack k (register v r) (on (i86.Mov true false r (rms.Mem (record { cs = false; place = places.Near 6 by }))) v))
-  -- words of a frame
-  pub load_word : (code : List ℕ) (v : View) (r by k : ℕ) → Has code v.place (i86.Mov true true r (rms.Mem (record { cs = false; place = places.Far 7 by }))) → k < 32768 → (register v 3 + by) % 65536 ≡ 2 * k → Goes code v (with_register r (v.cells k) (on (i86.Mov true true r (rms.Mem (record { cs = false; place = places.Far 7 by }))) v))
   -- arithmetic
   pub add : (code : List ℕ) (v : View) (r q : ℕ) → Has code v.place (i86.AluRm 0 true true r (rms.Reg q)) → Goes code v (with_result r (word_sum (register v r) (register v q)) (sum_overflows (register v r) (register v q)) (on (i86.AluRm 0 true true r (rms.Reg q)) v))
   pub subtract : (code : List ℕ) (v : View) (r q : ℕ) → Has code v.place (i86.AluRm 5 true true r (rms.Reg q)) → Goes code v (with_result r (word_difference (register v r) (register v q)) (difference_overflows (register v r) (register v q)) (on (i86.AluRm 5 true true r (rms.Reg q)) v))

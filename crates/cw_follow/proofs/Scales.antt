@@ -21,7 +21,7 @@ use Rattle.cw_follow.proofs.Chains.{seen, done}
 use Rattle.cw_follow.proofs.Straight.{Pop, Number, Move, DownSigned, Product, straight}
 use Rattle.cw_follow.proofs.Routines.{with_ax}
 use Rattle.cw_follow.proofs.Stacks.{level}
-use Rattle.cw_follow.proofs.Orders.{Check, later, further, checks}
+use Rattle.cw_follow.proofs.Orders.{Check, Checked, later, further, checks, checks_end}
 use Rattle.cw_order.specs.OrderState.{operand_words}
 use Rattle.cw_follow.proofs.Operands.{Setting, words, allowed, One, Two, result, LandedWith, DoesHere, taking_one, taking_two, guards}
 use Rattle.cw_follow.proofs.Called.{Then, parts, by_routine}
@@ -110,11 +110,11 @@ module _ (c : Setting) (memory : List ℤ) (input output : List ℕ) where
   pub turned_is : (x y : ℤ) → FitsWord x → FitsWord y → FitsWord (x *ℤ y) → product_low (unsigned y) (unsigned x) ≡ unsigned (x *ℤ y)
   turned_is x y fx fy f = product_is c.rows y x fy fx (subst FitsWord (sym (other_way x y)) f) ∙ ap unsigned (other_way x y)
 
-  pub products : {p : Watched} {at : ℕ} (to by line : ℕ) (operands : List Operand) → line < 65536 → at + 10 ≡ to → (at + 1 + 2 + 2 + 3 + by) % 65536 ≡ stop_place Overflow % 65536
+  pub products : {p : Watched} {at : ℕ} (to line : ℕ) (operands : List Operand) → line < 65536
       → operand_words operands < level c.acts → All OperandFits operands
-      → Then c.image at (i86.Pop 3 ∷ i86.Unary 5 true (rms.Reg 3) ∷ []) (λ k. Check c.image k by line) → LandedWith c memory input output at true operands p
+      → Then c.image at (i86.Pop 3 ∷ i86.Unary 5 true (rms.Reg 3) ∷ []) (λ k. Checked c.image k to line) → LandedWith c memory input output at true operands p
       → DoesHere c memory input output 16 to true line p (perform c.program.limits.area (Multiply (pos 0)) (words operands memory input output))
-  products {p} {at} to by line operands small e arrives roomy fits i =
+  products {p} {at} to line operands small roomy fits i =
       taking_two c memory input output 16 to true line (λ x y v. put_value (scaled_product x y (pos 0)) v) does operands roomy fits
     where
       does : (x y : ℤ) (rest : List Operand) → FitsWord x → FitsWord y → Two c memory input output at x y rest p
@@ -123,14 +123,13 @@ module _ (c : Setting) (memory : List ℤ) (input output : List ℕ) where
           let z = x *ℤ y in
           let value : z ≡ scaled_product x y (pos 0) = sym (c.rows.words.scaled_up z 0 ∙ (let e : z *ℤ pos 1 ≡ z = omega (arith, ints) in e)) in
           let acts = Pop 3 (suc l.top) (unsigned x) ∷ Product 3 ∷ [] in
-          let ps = parts c.image at acts (λ k. Check c.image k by line) i in
+          let ps = parts c.image at acts (λ k. Checked c.image k to line) i in
           let some : 0 < suc (suc l.top) = omega arith in
-          let e' : at + 1 + 2 + 2 + 3 + 2 ≡ to = omega arith in
           subst (λ z. DoesHere c memory input output 16 to true line p (put_value z (words rest memory input output))) value
           (later c.program c.image 14 to c.g true line c.acts 2 16 (put_value z (words rest memory input output)) (lit≤ tt)
           (straight c.rows acts l.kept.wrote ps.0 (l.next, (tt, tt)) l.is (λ q t. done t))
           (λ q t.
-          checks c.rows c.program c.image c.g c.acts Overflow to (suc (suc l.top)) by line z rest memory input output tt c.library c.few some small e' arrives
+          checks_end c.rows c.program c.image c.g c.acts to (suc (suc l.top)) line z rest memory input output c.library c.few some small
           (turned_overflows x y fx fy) (turned_is x y fx fy) l.under l.kept ps.1 t))
 
   -- a product that is then scaled up: where it does not fit, neither does what it becomes

@@ -10,6 +10,7 @@ use Rattle.cw_order.specs.OrderState.{OrderActivation, operand_words, stack_word
 use Rattle.cw_order.specs.Activations.{segment_below, ControlStands}
 use Rattle.cw_order.specs.declared.order.Orders.{Orders}
 use Rattle.cw_tmpl.specs.Names.{label_start, switch_start, procedure_start}
+use Rattle.cw_tmpl.specs.Named.{is_named_label, is_named_switch}
 use Rattle.cw_tmpl.specs.ReferenceCode.{names_of}
 use Rattle.cw_follow.specs.Placing.{start_in, label_place, switch_place, procedure_place}
 use Rattle.cw_tmpl.proofs.Sizes.{own_place}
@@ -40,15 +41,22 @@ module _ (p : OrderProgram) where
   abbrev pub code_place : (segment place : ℕ) → ℕ
   code_place g k = start_in p g (slice_get p.units g) (λ o. own_place o k)
 
-  -- the place that a control argument holds, and the record of the activation that owns it
+  -- the place that a control argument holds, and the record of the activation that owns it; something names what it is
   abbrev pub control_place : Control → ℕ
   control_place (LabelControl g l owner) = label_place p g l
   control_place (SwitchControl g n owner) = switch_place p g n
   control_place (ProcedureControl g q) = procedure_place p g q
 
+  -- something names the label, or the switch: so the code has a way to it
+  abbrev pub LabelNamed : (segment label : ℕ) → Type 0
+  LabelNamed g l = (o : Orders) → slice_get p.units g ≡ Some o → is_named_label o l ≡ true
+
+  abbrev pub SwitchNamed : (segment switch : ℕ) → Type 0
+  SwitchNamed g n = (o : Orders) → slice_get p.units g ≡ Some o → is_named_switch o n ≡ true
+
   abbrev pub OwnerIs : List OrderActivation → Control → ℕ → Type 0
-  OwnerIs acts (LabelControl g l owner) w = w ≡ record_of (drop (length acts - owner) acts)
-  OwnerIs acts (SwitchControl g n owner) w = w ≡ record_of (drop (length acts - owner) acts)
+  OwnerIs acts (LabelControl g l owner) w = (w ≡ record_of (drop (length acts - owner) acts)) × LabelNamed g l
+  OwnerIs acts (SwitchControl g n owner) w = (w ≡ record_of (drop (length acts - owner) acts)) × SwitchNamed g n
   OwnerIs acts (ProcedureControl g q) w = Unit {0}
 
   -- Operands on the stack, from the top: they are in the words of the stack from a number up to the record of the last of these activations.
@@ -230,6 +238,6 @@ module _ (p : OrderProgram) where
 
   -- an activation more: the words of a control argument stay the same
   pub owner_above : (a : OrderActivation) (acts : List OrderActivation) (g : ℕ) (c : Control) (w : ℕ) → ControlStands p g acts c → OwnerIs p acts c w → OwnerIs p (a ∷ acts) c w
-  owner_above a acts g (LabelControl to l owner) w stands h = h ∙ ap record_of (drop_more a acts owner stands.0)
-  owner_above a acts g (SwitchControl to n owner) w stands h = h ∙ ap record_of (drop_more a acts owner stands.0)
+  owner_above a acts g (LabelControl to l owner) w stands h = (h.0 ∙ ap record_of (drop_more a acts owner stands.0), h.1)
+  owner_above a acts g (SwitchControl to n owner) w stands h = (h.0 ∙ ap record_of (drop_more a acts owner stands.0), h.1)
   owner_above a acts g (ProcedureControl to q) w stands h = tt

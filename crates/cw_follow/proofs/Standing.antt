@@ -1,5 +1,5 @@
 -- Instructions and words that stand one after another in an image, and where those of each order do.
-use Rattle.std.proofs.Common.{◌≡◌, ℕ, zero, suc, ◌+◌, ◌<◌, Bool, true, false, List, [], ◌∷◌, ◌++◌, length, drop, Option, Some, None, ap, ◌∙◌, subst, arith, length-append}
+use Rattle.std.proofs.Common.{◌≡◌, ℕ, zero, suc, ◌+◌, ◌<◌, Bool, true, false, List, [], ◌∷◌, ◌++◌, length, drop, Option, Some, None, refl, ap, ◌∙◌, subst, arith, length-append}
 use Rattle.std.specs.Prelude.{◌&&◌, slice_get}
 use Rattle.cw_i86.specs.Encoding.{bytes_of}
 use Rattle.cw_i86.specs.declared.instr.Instr.{Instr}
@@ -18,12 +18,13 @@ use Rattle.cw_order.specs.OrderProgram.{OrderProgram}
 use Rattle.cw_tmpl.specs.declared.pieces.Coded.{Coded}
 use Rattle.cw_tmpl.specs.declared.pieces.Coded.TheVariants as coded
 use Rattle.cw_tmpl.specs.Pieces.{Filling, bytes_with, size_of, target_of, word_before, blanks}
-use Rattle.cw_tmpl.specs.Mnemonics.{entry_of_table, change_memory, operate_number, load, memory}
-use Rattle.cw_tmpl.specs.Names.{landing_start, switch_start}
+use Rattle.cw_tmpl.specs.Mnemonics.{entry_of_table, change_memory, operate_number, load, memory, code_at}
+use Rattle.cw_tmpl.specs.Names.{landing_start, switch_start, has_landing}
+use Rattle.cw_tmpl.specs.Named.{is_named_label, is_named_switch}
 use Rattle.cw_tmpl.specs.Library.{entry_place, library_bytes}
 use Rattle.cw_routines.specs.Ways as ways
 use Rattle.cw_routines.specs.Results.{Stands as LibraryStands}
-use Rattle.cw_tmpl.specs.Templates.{entry_pieces, landing_pieces, switch_pieces}
+use Rattle.cw_tmpl.specs.Templates.{entry_pieces, segment_word, landing_pieces, switch_pieces}
 use Rattle.cw_tmpl.proofs.Growing.{blanks-append}
 use Rattle.cw_tmpl.specs.Blocks.{block_at, left_at}
 use Rattle.cw_tmpl.specs.ReferenceCode.{names_of}
@@ -68,6 +69,7 @@ HasPieceAt first code w place (coded.Sum reg t) = HasAt first code place (operat
 HasPieceAt first code w place (coded.Fetch reg t) = HasAt first code place (load reg (memory (places.Direct w)))
 HasPieceAt first code w place (coded.Load t) = HasAt first code place (i86.MovAcc false true false w)
 HasPieceAt first code w place (coded.Store t) = HasAt first code place (i86.MovAcc false true true w)
+HasPieceAt first code w place (coded.PushCode t) = HasAt first code place (i86.PushRm (code_at w))
 HasPieceAt first code w place (coded.Operate op reg t) = HasAt first code place (with_memory op reg w)
 HasPieceAt first code w place (coded.Change op reg t) = HasAt first code place (change_memory op w reg)
 HasPieceAt first code w place (coded.Call t) = HasAt first code place (i86.Call w)
@@ -146,15 +148,26 @@ abbrev pub behind_start : List Order → (place : ℕ) → Bool
 behind_start list zero = false
 behind_start list (suc j) = is_start (slice_get list j)
 
--- a segment's code in an image: its filled words, its entry, each order's pieces, the landings of labels and the routines of switches
+-- a segment's code in an image: its filled words, its entry, each order's pieces, the landings of the labels that have one and the routines of
+-- the switches that something names
 pub record Stands (p : OrderProgram) (image : Image) (g : ℕ) (o : Orders) : Type 0 where
   pub value : Filling
   pub next_place : ℕ
   pub fills : Fills p g next_place value
   pub entry : HasPieces image value (base_of p g) entry_pieces
   pub orders : (k : ℕ) (it : Order) → slice_get o.list k ≡ Some it → HasPiecesFrom (first_of it (behind_start o.list k)) image value (order_place (base_of p g) o k) (pieces_at o k it)
-  pub landings : (l : ℕ) (m : LabelMark) → slice_get o.labels l ≡ Some m → HasPieces image value (base_of p g + landing_start (names_of o) l) (landing_pieces (names_of o) (landing_start (names_of o) l) m)
-  pub switches : (n : ℕ) (gs : List Goal) → slice_get o.switches n ≡ Some gs → HasPieces image value (base_of p g + switch_start (names_of o) n) (switch_pieces (names_of o) (switch_start (names_of o) n) gs)
+  pub landings : (l : ℕ) (m : LabelMark) → slice_get o.labels l ≡ Some m → has_landing (is_named_label o) l m ≡ true → HasPieces image value (base_of p g + landing_start (names_of o) l) (landing_pieces (names_of o) (landing_start (names_of o) l) m)
+  pub switches : (n : ℕ) (gs : List Goal) → slice_get o.switches n ≡ Some gs → is_named_switch o n ≡ true → HasPieces image value (base_of p g + switch_start (names_of o) n) (switch_pieces (names_of o) (switch_start (names_of o) n) gs)
+
+-- the number of a segment stands in its entry
+pub number_there : {p : OrderProgram} {image : Image} {g next base : ℕ} {value : Filling} → Fills p g next value → HasPieces image value base entry_pieces → g < 255
+    → HasWord image (base + segment_word) (suc g)
+number_there {image = image} {g = g} {base = base} {value = value} fills h few =
+    let number_is = fills.number (base + 3 + 2 + 2 + 2 + 2) in
+    let number : value 8 3 0 (base + 3 + 2 + 2 + 2 + 2) ≡ suc g = omega arith in
+    let nine : segment_word ≡ 9 = refl in
+    let there : base + 3 + 2 + 2 + 2 ≡ base + segment_word = omega arith in
+    subst (λ m. HasWord image m (suc g)) there (subst (HasWord image (base + 3 + 2 + 2 + 2)) number h.1.1.1.1.0)
 
 -- all segments' codes, and the library
 pub record AllStand (p : OrderProgram) (image : Image) : Type 0 where

@@ -19,14 +19,15 @@ use Rattle.cw_tmpl.specs.declared.pieces.Coded.{Coded}
 use Rattle.cw_tmpl.specs.declared.pieces.Coded.TheVariants as coded
 use Rattle.cw_tmpl.specs.Mnemonics.{at_si, ax, load}
 use Rattle.cw_tmpl.specs.Pieces.{blanks, bytes_with}
-use Rattle.cw_tmpl.specs.Blocks.{is_part, fetched, fetched_from, fetched_or, element_orders, element_fetched, element_at, block_at, orders_left, left_at}
+use Rattle.cw_tmpl.specs.Blocks.{is_part, joined, compared_or, both_or, fetched_behind, block_alone, fetched, fetched_from, fetched_or, element_orders, element_fetched, element_at, block_at, orders_left, left_at}
 use Rattle.cw_tmpl.specs.Templates.{address_pieces, load_place, part_taken, element_address, block_size, order_size, entry_pieces, is_short}
+use Rattle.cw_tmpl.specs.Named.{is_named_label, is_named_switch}
 use Rattle.cw_tmpl.specs.ReferenceCode.{templates, landings, switches, entry_size, order_places, landings_place, switches_place, names_of, pieces_of, orders_code, statements_from, reach_of}
 use Rattle.cw_follow.specs.Placing.{total_size, base_of, StandsBehind, Codable}
 use Rattle.cw_follow.specs.Passing.{size_at, moved_places, places_from, statement_places, NotBehindStart, PlacesStand}
 use Rattle.cw_tmpl.proofs.Growing.{blanks-append}
 use Rattle.cw_tmpl.proofs.Shapes.{front_is}
-use Rattle.cw_tmpl.proofs.Sizes.{size_to, size_next, left_next, places_are, own_place, size_of_templates, landings_at, size_by}
+use Rattle.cw_tmpl.proofs.Sizes.{listed, size_to, size_next, left_next, places_are, own_place, size_of_templates, landings_at, size_by}
 use Rattle.cw_follow.proofs.InBlocks.{size_split, begins_at}
 use Rattle.cw_follow.proofs.Sized.{piece_some}
 
@@ -181,17 +182,17 @@ single_some order.WriteByte b = lit< tt
 single_some (order.Jump m) b = lit< tt
 single_some (order.GoMain m) b = lit< tt
 single_some (order.GoCommon d) b = lit< tt
-single_some (order.GoSpecial k) b = lit< tt
+single_some (order.GoSpecial k) b = omega (arith, listed (order.GoSpecial k))
 single_some (order.CallProc q line) b = lit< tt
 single_some (order.CallCommon d line) b = lit< tt
-single_some (order.CallSpecial k line) b = lit< tt
+single_some (order.CallSpecial k line) b = omega (arith, listed (order.CallSpecial k line))
 single_some (order.LabelOut l) b = lit< tt
 single_some (order.LabelCommon d) b = lit< tt
 single_some (order.SwitchOut n) b = lit< tt
 single_some (order.SwitchCommon d) b = lit< tt
 single_some (order.ProcOut q) b = lit< tt
 single_some (order.ProcCommon d) b = lit< tt
-single_some (order.SpecialOut k) b = lit< tt
+single_some (order.SpecialOut k) b = omega (arith, listed (order.SpecialOut k))
 single_some _ b = absurd b
 
 -- the blocks that begin with the address of a place
@@ -200,6 +201,8 @@ Addresses block.Single = Unit {0}
 Addresses (block.Fetch x) = Unit {0}
 Addresses (block.FetchPart x t b is_signed) = Unit {0}
 Addresses (block.FetchElement e) = Unit {0}
+Addresses (block.CompareWord n w c m) = Unit {0}
+Addresses (block.FetchBoth n m) = Unit {0}
 Addresses _ = ⊥
 
 fetched_addresses : (x : Place) (o : Option Order) → Addresses (fetched x o)
@@ -221,13 +224,25 @@ or_addresses : (e : Option Element) (os : List Order) (other : Block) → Addres
 or_addresses None os other h = h
 or_addresses (Some e) os other h = element_addresses e (slice_get os (length (element_orders e))) other h
 
+joined_addresses : (b : Block) (os : List Order) → Addresses b → Addresses (joined b os)
+joined_addresses (block.Fetch (cell.Frame n)) os h = compared (slice_get os 2) (slice_get os 3) (slice_get os 4) (fetched_behind n os) (both (slice_get os 2) (block_alone (drop 2 os)) (block_alone (drop 3 os)))
+  where
+    both : (saves : Option Order) (saved next : Block) → Addresses (both_or n saves saved next (block.Fetch (cell.Frame n)))
+    both (Some order.Save) block.Single (block.Fetch (cell.Frame m)) = tt
+    both _ _ _ = tt
+
+    compared : (saves puts jumps : Option Order) (other : Block) → Addresses other → Addresses (compared_or n saves puts jumps other)
+    compared (Some order.Save) (Some (order.Const w)) (Some (order.JumpIf c m)) other h = tt
+    compared _ _ _ other h = h
+joined_addresses b os h = h
+
 begins_addresses : (a : Order) (os : List Order) → BeginsStatement a → Addresses (block_at 0 (a ∷ os))
 begins_addresses (order.Home f n) os b =
     let l = order.Home f n ∷ os in
-    or_addresses (element_at (Some (cell.Word f n)) l) l (fetched_from (Some (cell.Word f n)) l) (fetched_addresses (cell.Word f n) (slice_get l 1))
+    joined_addresses _ l (or_addresses (element_at (Some (cell.Word f n)) l) l (fetched_from (Some (cell.Word f n)) l) (fetched_addresses (cell.Word f n) (slice_get l 1)))
 begins_addresses (order.FrameHome n) os b =
     let l = order.FrameHome n ∷ os in
-    or_addresses (element_at (Some (cell.Frame n)) l) l (fetched_from (Some (cell.Frame n)) l) (fetched_addresses (cell.Frame n) (slice_get l 1))
+    joined_addresses _ l (or_addresses (element_at (Some (cell.Frame n)) l) l (fetched_from (Some (cell.Frame n)) l) (fetched_addresses (cell.Frame n) (slice_get l 1)))
 begins_addresses (order.Const w) os b = tt
 begins_addresses order.ReadByte os b = tt
 begins_addresses order.WriteByte os b = tt
@@ -247,9 +262,13 @@ begins_addresses (order.ProcCommon d) os b = tt
 begins_addresses (order.SpecialOut k) os b = tt
 begins_addresses _ os b = absurd b
 
--- whatever its jump: a short one saves not all of it
+-- whatever its form: a short one saves not all of it
 single_some_by : (short : Bool) (a : Order) → BeginsStatement a → 0 < block_size short block.Single a
 single_some_by false a b = single_some a b
+single_some_by true (order.Add line) b = absurd b
+single_some_by true (order.Sub line) b = absurd b
+single_some_by true (order.Neg line) b = absurd b
+single_some_by true (order.Mul s line) b = absurd b
 single_some_by true (order.Jump m) b = lit< tt
 single_some_by true (order.JumpIf c m) b = absurd b
 single_some_by true (order.LoopWay marks) b = absurd b
@@ -260,6 +279,8 @@ addresses_some short block.Single a h some = some
 addresses_some short (block.Fetch x) a h some = behind_some (address_pieces x) (load_place x) []
 addresses_some short (block.FetchPart x t b is_signed) a h some = behind_some (address_pieces x) (load_place x) (part_taken t b is_signed)
 addresses_some short (block.FetchElement e) a h some = behind_some (element_address e) (coded.Whole (load ax at_si)) []
+addresses_some short (block.FetchBoth n m) a h some = omega arith
+addresses_some short (block.CompareWord n w c m) a h some = omega arith
 addresses_some short _ a h some = absurd h
 
 begins_some : (short : Bool) (a : Order) (os : List Order) → BeginsStatement a → 0 < block_size short (block_at 0 (a ∷ os)) a
@@ -283,7 +304,7 @@ orders_within : (o : Orders) → own_place o (length o.list) ≤ length (blanks 
 orders_within o =
     let N = names_of o in
     let T = templates N entry_size 0 0 o.list in
-    let R = landings N (landings_place o) o.labels ++ switches N (switches_place o) o.switches in
+    let R = landings N (is_named_label o) (landings_place o) 0 o.labels ++ switches N (is_named_switch o) (switches_place o) 0 o.switches in
     let first = ap length (blanks-append entry_pieces (T ++ R)) ∙ length-append (blanks entry_pieces) (blanks (T ++ R)) in
     let second = ap length (blanks-append T R) ∙ length-append (blanks T) (blanks R) in
     omega (arith, first, second, size_of_templates N entry_size 0 0 o.list)

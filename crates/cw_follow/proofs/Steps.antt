@@ -509,7 +509,7 @@ module _ (known : Given) where
       pub reaches_alone : (o : Order) (m : ℕ) → slice_get s.orders.list place ≡ Some o → jump_of block.Single o ≡ Some m → short_alone o ≡ true → is_close (own_place s.orders place + block_size true block.Single o) (mark_starts s.orders m) ≡ true
       reaches_alone o m e jumps short = closes s.orders place m block.Single o e alone_is jumps short
 
-      pub code : (o : Order) → slice_get s.orders.list place ≡ Some o → HasPiecesFrom (first_of o (behind_start s.orders.list place)) image (all.stands g s.orders s.unit).value (order_place (base_of p g) s.orders place) (template_by (is_short (reach_of s.orders) place block.Single o) (names_of s.orders) (own_place s.orders place) o)
+      pub code : (o : Order) → slice_get s.orders.list place ≡ Some o → HasPiecesFrom (first_of o (behind_start s.orders.list place)) image (all.stands g s.orders s.unit).value (order_place (base_of p g) s.orders place) (template_by (is_short (reach_of s.orders) place block.Single o) (names_of s.orders) (own_place s.orders place) place o)
       code o e =
           let st = all.stands g s.orders s.unit in
           let here = order_place (base_of p g) s.orders place in

@@ -7,12 +7,15 @@ use Rattle.cw_i86.specs.declared.instr.Instr.{Instr}
 use Rattle.cw_i86.specs.declared.instr.Instr.TheVariants as i86
 use Rattle.cw_i86.specs.declared.instr.Imm.TheVariants as imm
 use Rattle.cw_i86.specs.declared.instr.Rm.TheVariants as rms
-use Rattle.cw_i86.specs.declared.instr.Place.TheVariants as places
 use Rattle.cw_run86.specs.Processor.{Processor, processor_step}
 use Rattle.cw_follow.proofs.Watched.{Watched, watched_step}
 use Rattle.cw_run86.specs.Views as view
 use Rattle.cw_run86.specs.Views.{View, Sees, IsTop, register, with_place, with_register, with_result, with_pair, with_overflow, with_cell, with_stack, double_overflows, sum_overflows, difference_overflows, word_sum, word_difference, word_down_signed, shift_overflow, product_low, product_high, product_overflows, sign_of, with_number}
-use Rattle.cw_tmpl.specs.Mnemonics.{at_bx, slot}
+use Rattle.cw_rows86.specs.Acts.{Into, OutOf}
+use Rattle.cw_rows86.specs.Locations.{InData, InStack}
+use Rattle.cw_tmpl.specs.Mnemonics.{at_bx, slot, field, argument, load, store}
+use Rattle.cw_tmpl.proofs.Lengths.{field_loaded, field_stored}
+use Rattle.cw_follow.proofs.Fields.{field_denotes, argument_denotes, argument_some}
 use Rattle.cw_follow.proofs.Standing.{Image, HasAt, HasFrom, HasAll}
 use Rattle.cw_follow.proofs.Rows.{Rows}
 use Rattle.cw_follow.proofs.Chains.{IsAt, Is, Leads, placed, moved, has, more}
@@ -27,7 +30,7 @@ pub data Act : Type 0 where
   Load : (r k w : ℕ) → Act
   Store : (r k : ℕ) → Act
   LoadSlot : (r by k w : ℕ) → Act
-  LoadArgument : (r by k w : ℕ) → Act
+  LoadArgument : (r n k w : ℕ) → Act
   StoreField : (r by k : ℕ) → Act
   LoadWord : (r by k w : ℕ) → Act
   Sum : (r q : ℕ) → Act
@@ -52,9 +55,9 @@ instruction (Push r n) = i86.Push r
 instruction (Load r k w) = i86.Mov true true r at_bx
 instruction (Store r k) = i86.Mov true false r at_bx
 instruction (LoadSlot r by k w) = i86.Mov true true r (slot by)
-instruction (LoadArgument r by k w) = i86.Mov true true r (rms.Mem (record { cs = false; place = places.Far 6 by }))
-instruction (StoreField r by k) = i86.Mov true false r (rms.Mem (record { cs = false; place = places.Far 7 by }))
-instruction (LoadWord r by k w) = i86.Mov true true r (rms.Mem (record { cs = false; place = places.Far 7 by }))
+instruction (LoadArgument r n k w) = load r (argument n)
+instruction (StoreField r by k) = store (field by) r
+instruction (LoadWord r by k w) = load r (field by)
 instruction (SumNumber w) = with_number 0 w
 instruction (DifferenceNumber w) = with_number 5 w
 instruction (Sum r q) = i86.AluRm 0 true true r (rms.Reg q)
@@ -77,9 +80,9 @@ Needs (Push r n) v = (n < 32768) × IsTop v (suc n)
 Needs (Load r k w) v = (k < 32768) × (register v 3 ≡ 2 * k) × (v.cells k ≡ w)
 Needs (Store r k) v = (k < 32768) × (register v 3 ≡ 2 * k)
 Needs (LoadSlot r by k w) v = (k < 32768) × ((register v 5 + sign_extended by) % 65536 ≡ 2 * k) × (v.stack k ≡ w)
-Needs (LoadArgument r by k w) v = (k < 32768) × ((register v 5 + by) % 65536 ≡ 2 * k) × (v.stack k ≡ w)
-Needs (LoadWord r by k w) v = (k < 32768) × ((register v 3 + by) % 65536 ≡ 2 * k) × (v.cells k ≡ w)
-Needs (StoreField r by k) v = (k < 32768) × ((register v 3 + by) % 65536 ≡ 2 * k)
+Needs (LoadArgument r n k w) v = (k < 32768) × ((register v 5 + (4 + 2 * n)) % 65536 ≡ 2 * k) × (v.stack k ≡ w)
+Needs (LoadWord r by k w) v = (k < 32768) × (register v 3 < 65536) × ((register v 3 + by) % 65536 ≡ 2 * k) × (v.cells k ≡ w)
+Needs (StoreField r by k) v = (k < 32768) × (register v 3 < 65536) × ((register v 3 + by) % 65536 ≡ 2 * k)
 Needs (Double r) v = register v r < 32768
 Needs (DownSigned r) v = register v r < 65536
 Needs _ v = Unit {0}
@@ -94,7 +97,7 @@ after (Push r n) v = with_register 4 (2 * n) (with_stack n (register v r) v)
 after (Load r k w) v = with_register r w v
 after (Store r k) v = with_cell k (register v r) v
 after (LoadSlot r by k w) v = with_register r w v
-after (LoadArgument r by k w) v = with_register r w v
+after (LoadArgument r n k w) v = with_register r w v
 after (StoreField r by k) v = with_cell k (register v r) v
 after (LoadWord r by k w) v = with_register r w v
 after (SumNumber w) v = with_result 0 (word_sum (register v 0) w) (sum_overflows (register v 0) w) v
@@ -133,6 +136,9 @@ module _ (rows : Rows) where
   -- one of them takes up some bytes
   takes_bytes : (a : Act) → 0 < length (bytes_of (instruction a))
   takes_bytes (Number r w) = lit< tt
+  takes_bytes (LoadArgument r n k w) = argument_some r n
+  takes_bytes (StoreField r by k) = omega (arith, field_stored r by)
+  takes_bytes (LoadWord r by k w) = omega (arith, field_loaded r by)
   takes_bytes _ = lit< tt
 
   effect : (a : Act) {image : List ℕ} (at : ℕ) (v : View) {p : Processor} → view.Has image (at % 65536) (instruction a) → Needs a v → Sees image (placed at v) p → Sees image (with_place ((at % 65536 + length (bytes_of (instruction a))) % 65536) (after a v)) (processor_step p)
@@ -149,9 +155,12 @@ module _ (rows : Rows) where
   effect (Load r k w) {image} at v {p} h needs s = subst (λ x. Sees image (with_place ((at % 65536 + 2) % 65536) (with_register r x v)) (processor_step p)) needs.2 (rows.load image (placed at v) r k h needs.0 needs.1 p s)
   effect (Store r k) {image} at v {p} h needs s = rows.store image (placed at v) r k h needs.0 needs.1 p s
   effect (LoadSlot r by k w) {image} at v {p} h needs s = subst (λ x. Sees image (with_place ((at % 65536 + 3) % 65536) (with_register r x v)) (processor_step p)) needs.2 (rows.load_slot image (placed at v) r by k h needs.0 needs.1 p s)
-  effect (LoadArgument r by k w) {image} at v {p} h needs s = subst (λ x. Sees image (with_place ((at % 65536 + 4) % 65536) (with_register r x v)) (processor_step p)) needs.2 (rows.load_argument image (placed at v) r by k h needs.0 needs.1 p s)
-  effect (StoreField r by k) {image} at v {p} h needs s = rows.store_field image (placed at v) r by k h needs.0 needs.1 p s
-  effect (LoadWord r by k w) {image} at v {p} h needs s = subst (λ x. Sees image (with_place ((at % 65536 + 4) % 65536) (with_register r x v)) (processor_step p)) needs.2 (rows.load_word image (placed at v) r by k h needs.0 needs.1 p s)
+  effect (LoadArgument r n k w) {image} at v {p} h needs s =
+      (rows.acts image (Into r (argument n) (InStack k) w) (at % 65536) v p h (argument_denotes image v.registers n k needs.0 needs.1, needs.2) s).0
+  effect (StoreField r by k) {image} at v {p} h needs s =
+      (rows.acts image (OutOf r (field by) (InData k)) (at % 65536) v p h (field_denotes image v.registers by k needs.0 needs.1 needs.2, tt) s).0
+  effect (LoadWord r by k w) {image} at v {p} h needs s =
+      (rows.acts image (Into r (field by) (InData k) w) (at % 65536) v p h (field_denotes image v.registers by k needs.0 needs.1 needs.2, needs.3) s).0
   effect (SumNumber w) {image} at v {p} h n s = rows.add_number image (placed at v) w h p s
   effect (DifferenceNumber w) {image} at v {p} h n s = rows.subtract_number image (placed at v) w h p s
   effect (Sum r q) {image} at v {p} h n s = rows.add image (placed at v) r q h p s

@@ -12,6 +12,7 @@ use Rattle.cw_tmpl.specs.Pieces.{Filling, blanks, size_of, target_of, word_befor
 use Rattle.cw_tmpl.specs.Templates.{entry_pieces, landing_pieces, switch_pieces, is_short}
 use Rattle.cw_tmpl.specs.Blocks.{block_at, left_at}
 use Rattle.cw_tmpl.specs.Names.{landing_start, switch_start}
+use Rattle.cw_tmpl.specs.Named.{is_named_label, is_named_switch}
 use Rattle.cw_tmpl.specs.ReferenceCode.{names_of, pieces_of, templates, landings, switches, entry_size, order_places, landings_place, switches_place, reach_of}
 use Rattle.cw_tmpl.proofs.Growing.{blanks-append}
 use Rattle.cw_tmpl.proofs.Sizes.{size_everywhere, own_place}
@@ -36,6 +37,7 @@ one_strong first image w place (coded.Sum reg t) h free = record { there = h; fr
 one_strong first image w place (coded.Fetch reg t) h free = record { there = h; free = free }
 one_strong first image w place (coded.Load t) h free = record { there = h; free = free }
 one_strong first image w place (coded.Store t) h free = record { there = h; free = free }
+one_strong first image w place (coded.PushCode t) h free = record { there = h; free = free }
 one_strong first image w place (coded.Operate op reg t) h free = record { there = h; free = free }
 one_strong first image w place (coded.Change op reg t) h free = record { there = h; free = free }
 one_strong first image w place (coded.Call t) h free = record { there = h; free = free }
@@ -68,6 +70,7 @@ piece_below first image w place (coded.Sum reg t) h = let within = h.there.withi
 piece_below first image w place (coded.Fetch reg t) h = let within = h.there.within in omega arith
 piece_below first image w place (coded.Load t) h = let within = h.there.within in omega arith
 piece_below first image w place (coded.Store t) h = let within = h.there.within in omega arith
+piece_below first image w place (coded.PushCode t) h = let within = h.there.within in omega arith
 piece_below first image w place (coded.Operate op reg t) h = let within = h.there.within in omega arith
 piece_below first image w place (coded.Change op reg t) h = let within = h.there.within in omega arith
 piece_below first image w place (coded.Call t) h = let within = h.there.within in omega arith
@@ -108,7 +111,7 @@ module _ (p : OrderProgram) (image : Image) (coded : Codable p) (stand : PlacesS
 
     entry_within : entry_size ≤ length (blanks (pieces_of o))
     entry_within =
-        let T = templates (names_of o) entry_size 0 0 o.list ++ (landings (names_of o) (landings_place o) o.labels ++ switches (names_of o) (switches_place o) o.switches) in
+        let T = templates (names_of o) entry_size 0 0 o.list ++ (landings (names_of o) (is_named_label o) (landings_place o) 0 o.labels ++ switches (names_of o) (is_named_switch o) (switches_place o) 0 o.switches) in
         omega (arith, ap length (blanks-append entry_pieces T) ∙ length-append (blanks entry_pieces) (blanks T))
 
     -- behind a Start stands an order with which a statement may begin
@@ -139,18 +142,20 @@ module _ (p : OrderProgram) (image : Image) (coded : Codable p) (stand : PlacesS
           let within = entry_within in
           stand.around g (base_of p g + n) o unit (omega arith) (let l : base_of p g + n < base_of p (suc g) = omega arith in l) (inl (let l : base_of p g + n < base_of p g + entry_size = omega arith in l)));
       orders = λ k a listed. pieces_strong (first_of a (behind_start o.list k)) image s.value (order_place (base_of p g) o k) (pieces_at o k a) (s.orders k a listed) (λ n lt none.
-          let long = size_everywhere (names_of o) (own_place o k) (is_short (reach_of o) k (block_at (left_at 0 o.list k) (drop k o.list)) a) (block_at (left_at 0 o.list k) (drop k o.list)) a in
+          let long = size_everywhere (names_of o) (own_place o k) k (is_short (reach_of o) k (block_at (left_at 0 o.list k) (drop k o.list)) a) (block_at (left_at 0 o.list k) (drop k o.list)) a in
           let own = own_is o k a listed in
           let there : base_of p g + slice_index (order_places o) k + n ≡ order_place (base_of p g) o k + n = omega arith in
           ap (lines_at image.places) (sym there) ∙ free_in k a listed n (let l : n < size_at o k a = omega arith in l) none);
-      landings = λ l m listed. pieces_strong false image s.value (base_of p g + landing_start (names_of o) l) (landing_pieces (names_of o) (landing_start (names_of o) l) m) (s.landings l m listed) (λ n lt no.
+      landings = λ l m listed has. pieces_strong false image s.value (base_of p g + landing_start (names_of o) l) (landing_pieces (names_of o) (landing_start (names_of o) l) m) (s.landings l m listed has) (λ n lt no.
           let next = base_next in
-          let within = s.landings_within l m listed in
+          let within = s.landings_within l m listed has in
+          let from = within.0 in
+          let to = within.1 in
           let at = base_of p g + landing_start (names_of o) l + n in
           stand.around g at o unit (omega arith) (let x : at < base_of p (suc g) = omega arith in x) (inr (let x : base_of p g + landings_place o ≤ at = omega arith in x)));
-      switches = λ j gs listed. pieces_strong false image s.value (base_of p g + switch_start (names_of o) j) (switch_pieces (names_of o) (switch_start (names_of o) j) gs) (s.switches j gs listed) (λ n lt no.
+      switches = λ j gs listed named. pieces_strong false image s.value (base_of p g + switch_start (names_of o) j) (switch_pieces (names_of o) (switch_start (names_of o) j) gs) (s.switches j gs listed named) (λ n lt no.
           let next = base_next in
-          let within = s.switches_within j gs listed in
+          let within = s.switches_within j gs listed named in
           let from = within.0 in
           let to = within.1 in
           let at = base_of p g + switch_start (names_of o) j + n in

@@ -37,14 +37,15 @@ use Rattle.cw_follow.proofs.Standing.{HasPieces, order_place, HasAll, HasWord}
 use Rattle.cw_follow.proofs.Chains.{Is, Leads, view, to_place, jump_to, near, last}
 use Rattle.cw_follow.proofs.Straight.{Number, Move, LoadArgument, straight}
 use Rattle.cw_follow.proofs.Routines.{with_ax}
-use Rattle.cw_follow.proofs.Stacks.{control_small, OperandsAre, owner_above, level, record_of, top_is}
+use Rattle.cw_follow.proofs.Named.{shared_switch_named}
+use Rattle.cw_follow.proofs.Stacks.{SwitchNamed, control_small, OperandsAre, owner_above, level, record_of, top_is}
 use Rattle.cw_follow.proofs.Orders.{Kept, further}
 use Rattle.cw_follow.proofs.States.{Given, Sound}
 use Rattle.cw_follow.proofs.Leaving.{past, argument_of}
 use Rattle.cw_follow.proofs.Tables.{goal_word_is, switches_to, switches_stop}
 use Rattle.cw_follow.proofs.Calling.{owned}
 use Rattle.cw_follow.proofs.Jumping.{goes_by_entry}
-use Rattle.cw_follow.proofs.Naming.{argument_stands, goal_number, no_goal, switch_listed, label_small, goal_place, start_is}
+use Rattle.cw_follow.proofs.Naming.{goal_named, own_switch, argument_stands, goal_number, no_goal, switch_listed, label_small, goal_place, start_is}
 use Rattle.cw_follow.proofs.Steps.{Follow, leads_to, step_is, weight_is, line_fits, stuck_here, low_room, Alone, code}
 
 module _ (known : Given) where
@@ -67,11 +68,11 @@ module _ (known : Given) where
     pub kept : Kept p g acts w.memory w.input w.output cells stack left_input told
 
   pub goes_through_switch : {q : Watched} {g place : ℕ} {acts : List OrderActivation} {w : Words} (s : Sound p image g place true acts w q) (by_itself : Alone p image g place true acts w q s.orders) (line steps to n owner : ℕ) (z : ℤ) (rest : List Operand)
-      → line < 65536
+      → line < 65536 → SwitchNamed p to n
       → w.operands ≡ Word z ∷ rest → FitsWord z → ControlStands p g acts (SwitchControl to n owner)
       → step p (at g place true acts w Running) ≡ go_through p line (Some (SwitchControl to n owner)) g place false acts w → steps + 15 ≤ weight p (at g place true acts w Running)
       → Leads w.output steps q (AtSwitch (switch_place p to n) g line acts owner z w) → Follow known (at g place true acts w Running) q
-  goes_through_switch {q} {g} {place} {acts} {w} s by_itself line steps to n owner z rest line_small operands fits stands goes paid way = lists (switch_at p to n) refl
+  goes_through_switch {q} {g} {place} {acts} {w} s by_itself line steps to n owner z rest line_small named operands fits stands goes paid way = lists (switch_at p to n) refl
     where
       S' : OrderState
       S' = at g place true acts w Running
@@ -96,7 +97,7 @@ module _ (known : Given) where
           at_routine = let e : switch_place p to n ≡ place' % 65536 = start_is known to found.0 (λ o. switch_start (names_of o) n) found.1 in omega arith
 
           i : HasPieces image (all.stands to found.0 found.1).value place' (switch_pieces (names_of found.0) (switch_start (names_of found.0) n) gs)
-          i = (all.stands to found.0 found.1).switches n gs found.2
+          i = (all.stands to found.0 found.1).switches n gs found.2 (named found.0 found.1)
 
           -- the numbers of its stop and of its table
           by : ℕ
@@ -138,7 +139,7 @@ module _ (known : Given) where
                   let small = label_small known l.0 l.1 in
                   let whole : label_place p l.0 l.1 ≡ label_place p l.0 l.1 % 65536 = omega arith in
                   let word : HasWord image (place' + 29 + 2 * k.0) (label_place p l.0 l.1 % 65536) = subst (HasWord image (place' + 29 + 2 * k.0)) (goal_place known to found.0 found.1 x l (place' + 29 + 2 * k.0 + 2) isl ∙ whole) goal_word in
-                  goes_by_entry known s by_itself (steps + 10) l.0 l.1 owner (let y : 0 < steps + 10 = omega arith in y) (stands.1 gs z x l is isx isl)
+                  goes_by_entry known s by_itself (steps + 10) l.0 l.1 owner (let y : 0 < steps + 10 = omega arith in y) (goal_named known to n k.0 found.0 gs x l found.1 found.2 (named found.0 found.1) k.2 isl) (stands.1 gs z x l is isx isl)
                   (goes' ∙ ap (λ y. go_to_goal p line y to owner g place false acts w) isx ∙ ap (λ y. go_to p (with_label_owner owner y) g place false acts w) isl) (let y : steps + 10 + 5 ≤ weight p S' = omega arith in y)
                   (past way (λ r a.
                   switches_to rows p image (suc a.below_top) g line acts (length gs) table by z w.memory w.input w.output a.kept routine (to_place at_routine a.is)
@@ -195,17 +196,17 @@ module _ (known : Given) where
 
   -- a switch by itself, wherever it is: the processor comes to its routine in so many instructions, where there is an index
   pub goes_with : {q : Watched} {g place : ℕ} {acts : List OrderActivation} {w : Words} (s : Sound p image g place true acts w q) (by_itself : Alone p image g place true acts w q s.orders) (line steps to n owner : ℕ) (operands : List Operand)
-      → line < 65536 → w.operands ≡ operands
+      → line < 65536 → SwitchNamed p to n → w.operands ≡ operands
       → ControlStands p g acts (SwitchControl to n owner) → step p (at g place true acts w Running) ≡ go_through p line (Some (SwitchControl to n owner)) g place false acts w
       → steps + 15 ≤ weight p (at g place true acts w Running)
       → ((z : ℤ) (rest : List Operand) → w.operands ≡ Word z ∷ rest → Leads w.output steps q (AtSwitch (switch_place p to n) g line acts owner z w)) → Follow known (at g place true acts w Running) q
-  goes_with {q} {g} {place} {acts} {w} s by_itself line steps to n owner [] line_small same stands goes paid way =
+  goes_with {q} {g} {place} {acts} {w} s by_itself line steps to n owner [] line_small named same stands goes paid way =
       absurd (stuck_here known s (goes ∙ no_word line (switch_at p to n) w.operands to owner g place false acts w (λ z rest e. let f : [] ≡ Word z ∷ rest = sym same ∙ e in absurd (cc))))
-  goes_with {q} {g} {place} {acts} {w} s by_itself line steps to n owner (Held c ∷ rest) line_small same stands goes paid way =
+  goes_with {q} {g} {place} {acts} {w} s by_itself line steps to n owner (Held c ∷ rest) line_small named same stands goes paid way =
       absurd (stuck_here known s (goes ∙ no_word line (switch_at p to n) w.operands to owner g place false acts w (λ z others e. let f : Held c ∷ rest ≡ Word z ∷ others = sym same ∙ e in absurd (cc))))
-  goes_with {q} {g} {place} {acts} {w} s by_itself line steps to n owner (Word z ∷ rest) line_small same stands goes paid way =
+  goes_with {q} {g} {place} {acts} {w} s by_itself line steps to n owner (Word z ∷ rest) line_small named same stands goes paid way =
       let fits : FitsWord z = All-head OperandFits (Word z) rest (subst (All OperandFits) same s.fits.operands) in
-      goes_through_switch s by_itself line steps to n owner z rest line_small same fits stands goes paid (way z rest same)
+      goes_through_switch s by_itself line steps to n owner z rest line_small named same fits stands goes paid (way z rest same)
 
   pub switches_own : {q : Watched} {g place : ℕ} {acts : List OrderActivation} {w : Words} (s : Sound p image g place true acts w q) (by_itself : Alone p image g place true acts w q s.orders) (n line : ℕ)
       → slice_get s.orders.list place ≡ Some (order.GoSwitch n line) → Follow known (at g place true acts w Running) q
@@ -217,7 +218,7 @@ module _ (known : Given) where
       let meets = jump_arrives (base_of p g) own 8 (switch_start (names_of s.orders) n) in
       let arrives : (order_place (base_of p g) s.orders place + 8 + by) % 65536 ≡ switch_place p g n % 65536 = omega arith in
       let paid = weight_is known s o e in
-      goes_with s by_itself line 3 g n (length acts) w.operands (line_fits known s o e) refl (switch_stands p coded.callable g n acts) (step_is known s (Some o) e) (omega arith)
+      goes_with s by_itself line 3 g n (length acts) w.operands (line_fits known s o e) (λ u unit. own_switch known s n o e refl u unit) refl (switch_stands p coded.callable g n acts) (step_is known s (Some o) e) (omega arith)
       (λ z rest same. near_switch s by_itself line g n by z rest same arrives (code known s by_itself o e))
 
   pub switches_by_descriptor : {q : Watched} {g place : ℕ} {acts : List OrderActivation} {w : Words} (s : Sound p image g place true acts w q) (by_itself : Alone p image g place true acts w q s.orders) (d line : ℕ)
@@ -237,7 +238,7 @@ module _ (known : Given) where
       let defined : definition_place p (defined_at p g d) ≡ switch_place p to n = ap (definition_place p) is in
       let arrives : (here + 8 + by) % 65536 ≡ switch_place p to n % 65536 = omega arith in
       let paid = weight_is known s o e in
-      goes_with s by_itself line 3 to n (length acts) w.operands (line_fits known s o e) refl (switches_stand p coded.callable g d acts (Some (to, def.Switch n)) is)
+      goes_with s by_itself line 3 to n (length acts) w.operands (line_fits known s o e) (λ u unit. shared_switch_named u n (coded.shared g d to (def.Switch n) u is unit)) refl (switches_stand p coded.callable g d acts (Some (to, def.Switch n)) is)
       (step_is known s (Some o) e ∙ ap (λ x. go_through p line (with_switch_owner (length acts) (switch_of_def x)) g place false acts w) is) (omega arith) (λ z rest same. near_switch s by_itself line to n by z rest same arrives (code known s by_itself o e))
 
   pub switches_by_parameter : {q : Watched} {g place : ℕ} {a : OrderActivation} {acts : List OrderActivation} {w : Words} (s : Sound p image g place true (a ∷ acts) w q) (by_itself : Alone p image g place true (a ∷ acts) w q s.orders) (k line : ℕ)
@@ -257,7 +258,7 @@ module _ (known : Given) where
       let i = code known s by_itself o e in
       let stands = argument_stands p a.segment acts k a.arguments c s.working.3 is in
       let d = by_itself.landed in
-      goes_with s by_itself line 4 to n owner w.operands (line_fits known s o e) refl (stands_above p g a acts c stands) (step_is known s (Some o) e ∙ ap (λ x. go_through p line (control_in x) g place false (a ∷ acts) w) is)
+      goes_with s by_itself line 4 to n owner w.operands (line_fits known s o e) (argument_of p k (Held c) d.kept is).1.1 refl (stands_above p g a acts c stands) (step_is known s (Some o) e ∙ ap (λ x. go_through p line (control_in x) g place false (a ∷ acts) w) is)
       (let paid = weight_is known s o e in let x : 4 + 15 ≤ weight p (at g place true (a ∷ acts) w Running) = omega arith in x) (λ z rest same. from i stands z rest same d.top refl)
     where
       all' : List OrderActivation
@@ -292,11 +293,11 @@ module _ (known : Given) where
           let la : l + 6 + k < 32768 = omega arith in
           let la' : suc (l + 6 + k) < 32768 = omega arith in
           let owner_word = d.stack (suc (l + 6 + k)) in
-          let owner_is : owner_word ≡ record_of (drop (length all' - owner) all') = owner_above p a acts a.segment c owner_word stands arg.1 in
+          let owner_is : owner_word ≡ record_of (drop (length all' - owner) all') = (owner_above p a acts a.segment c owner_word stands arg.1).0 in
           let to_routine = switch_place p to n in
           let small = control_small p c in
           let whole : to_routine ≡ to_routine % 65536 = omega arith in
-          straight rows (Number 2 line ∷ LoadArgument 6 (4 + 2 * (k + 1)) (suc (l + 6 + k)) owner_word ∷ LoadArgument 3 (4 + 2 * k) (l + 6 + k) to_routine ∷ []) {n = 1} d.kept.wrote (i.0, (i.1.0, (i.1.1.0, tt)))
+          straight rows (Number 2 line ∷ LoadArgument 6 (k + 1) (suc (l + 6 + k)) owner_word ∷ LoadArgument 3 k (l + 6 + k) to_routine ∷ []) {n = 1} d.kept.wrote (i.0, (i.1.0, (i.1.1.0, tt)))
           (tt, ((la', there', refl), ((la, there, arg.0), tt))) start (λ u x.
           last rows x d.kept.wrote (record {
             cx = r.cx;

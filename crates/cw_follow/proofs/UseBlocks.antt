@@ -1,21 +1,19 @@
 -- Blocks that save the top operand, put a simple one and use both.
 use Rattle.std.proofs.Common.{◌≡◌, ℕ, suc, ◌+◌, ◌*◌, ◌%◌, ◌<◌, ◌≤◌, Bool, true, false, not, ℤ, pos, ◌+ℤ◌, ◌-ℤ◌, ◌*ℤ◌, List, [], ◌∷◌, ◌++◌, length, drop, None, Some, refl, sym, ap, ap₂, ◌∙◌, subst, arith, lit<, lit≤}
-use Rattle.std.proofs.lemmas.List.{append-nil}
 use Rattle.std.specs.Prelude.{bit_and, bit_or, bit_xor, nat_lt, if◌then◌else◌}
 use borrow.Author.Tests.{ltb-true}
 use Rattle.std.specs.List.{All}
 use Rattle.std.proofs.lemmas.List.Elements.{All-head}
-use Rattle.cw_i86.specs.declared.instr.Instr.{Instr}
 use Rattle.cw_i86.specs.declared.instr.Instr.TheVariants as i86
 use Rattle.cw_i86.specs.declared.instr.Imm.TheVariants as imm
 use Rattle.cw_i86.specs.declared.instr.Rm.TheVariants as rms
 use Rattle.cw_i86.specs.declared.instr.Place.TheVariants as places
-use Rattle.cw_run86.specs.Views.{with_number, with_memory, product_low, product_overflows}
-use Rattle.cw_rows86.specs.Operations.{WordOperation, Add, Or, And, Subtract, Xor, Compare, number_of}
+use Rattle.cw_run86.specs.Views.{product_low, product_overflows}
+use Rattle.cw_rows86.specs.Operations.{Add, Or, And, Subtract, Xor, Compare, number_of}
 use Rattle.cw_word.specs.FixedPoint.{FitsWord, fits_word, scaled_product}
 use Rattle.cw_word.specs.Word.{signed, unsigned}
 use Rattle.cw_unit.specs.declared.unit.LogicOp.TheVariants as logic
-use Rattle.cw_unit.specs.Stop.{Running, Overflow}
+use Rattle.cw_unit.specs.Stop.{Running}
 use Rattle.cw_unit.specs.Words.{Operand, Word, Held, Words, Outcome, Changed, Impossible, put, put_value, word_at, through, is_below, number_of as number_in}
 use Rattle.cw_unit.specs.Operation.{Fetch, Combine, Multiply, perform, holds}
 use Rattle.cw_unit.specs.Operation as operation
@@ -30,30 +28,29 @@ use Rattle.cw_order.specs.OrderState.{OrderActivation, at, operand_words, frame_
 use Rattle.cw_order.specs.OrderMachine.{unrefused, after, carry_with, weight}
 use Rattle.cw_order.specs.OrderCosts.{weight_of}
 use Rattle.cw_order.specs.Loading.{loaded_after}
-use Rattle.cw_tmpl.specs.declared.pieces.Coded.{Coded}
-use Rattle.cw_tmpl.specs.declared.pieces.Coded.TheVariants as pieces
 use Rattle.cw_order.specs.declared.order.Place.TheVariants as cell
-use Rattle.cw_tmpl.specs.declared.blocks.Element.{Element}
 use Rattle.cw_tmpl.specs.declared.blocks.Simple.{Simple}
 use Rattle.cw_tmpl.specs.declared.blocks.Simple.TheVariants as simple
 use Rattle.cw_tmpl.specs.declared.blocks.Use.{Use}
 use Rattle.cw_tmpl.specs.declared.blocks.Use.TheVariants as uses
 use Rattle.cw_tmpl.specs.declared.blocks.Block.TheVariants as block
 use Rattle.cw_tmpl.specs.Blocks.{operand_orders, order_of, block_at}
-use Rattle.cw_tmpl.specs.Library.{overflow_entry, stop_place}
-use Rattle.cw_tmpl.specs.Mnemonics.{ax, bx, cx, slot, base_slot, field, at_si, operate, load, move}
-use Rattle.cw_tmpl.specs.Pieces.{Filling, blanks}
-use Rattle.cw_tmpl.specs.Names.{no_names, mark_place}
-use Rattle.cw_tmpl.specs.Templates.{with_operand, checked, pieces_size, element_size, element_address, operated, block_size, is_short, is_close, branch_by}
+use Rattle.cw_tmpl.specs.Mnemonics.{ax, bx, cx, slot, base_slot, field, load, move}
+use Rattle.cw_tmpl.specs.Names.{no_names, call_place}
+use Rattle.cw_tmpl.specs.Templates.{frame_size, with_operand, product_with, checked_by, check_of, pieces_size, operated, block_size, is_short, is_close, branch_by}
 use Rattle.cw_tmpl.specs.ReferenceCode.{names_of, mark_starts, reach_of}
+use Rattle.cw_i86.specs.Encoding.{bytes_of}
+use Rattle.cw_follow.proofs.Fields.{doubled_small, field_denotes}
 use Rattle.cw_follow.specs.Placing.{base_of}
-use Rattle.cw_tmpl.proofs.Sizes.{own_place, element_long_as, compared_long, size_by}
-use Rattle.cw_follow.proofs.Standing.{HasPieces, appended_long, stand_both, order_place, Has, HasAll, Image}
+use Rattle.cw_tmpl.proofs.Lengths.{field_loaded, field_operated}
+use Rattle.cw_tmpl.proofs.Sizes.{frame_used_long, own_place, size_by}
+use Rattle.cw_tmpl.proofs.Endings.{checked_long}
+use Rattle.cw_follow.proofs.Standing.{HasPieces, order_place, Has, HasAll}
 use Rattle.cw_follow.proofs.Watched.{Watched}
 use Rattle.cw_follow.proofs.Chains.{Is, Leads, view, done, more, load_at, move as moved_to}
 use Rattle.cw_follow.proofs.Straight.{Number, Move, Product, LoadSlot, LoadWord, straight}
 use Rattle.cw_follow.proofs.Stacks.{level, record_of, top_is, base_word}
-use Rattle.cw_follow.proofs.Orders.{Landed, Does, Chooses, Check, below_area, later, sooner}
+use Rattle.cw_follow.proofs.Orders.{Landed, Does, Chooses, Checked, below_area, later, sooner}
 use Rattle.cw_follow.proofs.Operands.{Setting, words, DoesHere}
 use Rattle.cw_follow.proofs.Operating.{Named, number_named, word_named, sum_of, difference_of, mask_of, union_of, difference_in_bits, comparison_of, product_of}
 use Rattle.cw_follow.proofs.Addresses.{product_overflows_is, product_is}
@@ -61,144 +58,11 @@ use Rattle.cw_follow.proofs.Scales.{turned_overflows, turned_is}
 use Rattle.cw_follow.proofs.Indexed.{element_steps, few_element}
 use Rattle.cw_follow.proofs.States.{Given, Sound}
 use Rattle.cw_follow.proofs.InBlocks.{chain}
-use Rattle.cw_follow.proofs.Steps.{Follow, setting, weight_is, line_fits, block_code, block_ends, start_place, order_here, last_does, by, calls, start, last_chooses, two_roomy, way_after, reaches_mark}
+use Rattle.cw_follow.proofs.Steps.{Follow, setting, weight_is, line_fits, block_code, block_ends, start_place, order_here, last_does, start, last_chooses, two_roomy, way_after, reaches_mark}
+use Rattle.cw_follow.proofs.CheckedBlocks.{checked_block}
+use Rattle.cw_follow.proofs.OperandCode.{named_at, named_size, naming, offset_at, operand_code, alone_code, named_end, OneOperation, tested_size, operand_long, compare_size, compared_size}
 use Rattle.cw_follow.proofs.BlockOrders.{WithoutAddress, room_in, operand_puts, block_follows, saved, step_in, number_small}
 use Rattle.cw_follow.proofs.Branches.{branch_size, goes_by, branch_code, jump_word, branch_arrives, branch_stands}
-
--- ---- the code of an operation on AX and a simple operand
-
--- where the operation stands, and how many bytes it has
-abbrev pub named_at : Simple → ℕ → ℕ
-named_at (simple.Number x) from = from
-named_at (simple.Contents (cell.Word f n)) from = from
-named_at (simple.Contents (cell.Frame n)) from = from + 3
-named_at (simple.Element e) from = from + element_size e e.test
-
-abbrev pub named_size : Simple → ℕ
-named_size (simple.Number x) = 3
-named_size (simple.Contents x) = 4
-named_size (simple.Element e) = 2
-
--- the instruction, where a word of a family stands at this offset
-abbrev pub naming : (offset : ℕ) → Simple → WordOperation → Instr
-naming w (simple.Number x) op = with_number (number_of op) x
-naming w (simple.Contents (cell.Word f n)) op = with_memory (number_of op) ax w
-naming w (simple.Contents (cell.Frame n)) op = i86.AluRm (number_of op) true true ax (field (2 * n % 65536))
-naming w (simple.Element e) op = i86.AluRm (number_of op) true true ax at_si
-
--- what comes before it
-abbrev pub Addressed : Image → Filling → Simple → ℕ → Type 0
-Addressed image value (simple.Element e) from = HasPieces image value from (element_address e)
-Addressed image value (simple.Contents (cell.Frame n)) from = HasAll image from (load bx (slot base_slot) ∷ [])
-Addressed image value s from = Unit {0}
-
--- what an instruction at a place has filled in
-abbrev pub offset_at : Filling → Simple → ℕ → ℕ
-offset_at value (simple.Contents (cell.Word f n)) from = value 2 f n (from + 4)
-offset_at value s from = 0
-
--- the bytes of an operation on AX and an element
-element_operation : (e : Element) (op : ℕ) → length (blanks (with_operand op (simple.Element e))) ≡ element_size e e.test + 2
-element_operation e op = omega (arith, appended_long (element_address e) (pieces.Whole (operate op ax at_si) ∷ []), element_long_as e)
-
-pub operand_code : (image : Image) (value : Filling) (from : ℕ) (s : Simple) (op : WordOperation) (rest : List Coded) → HasPieces image value from (with_operand (number_of op) s ++ rest)
-    → Addressed image value s from × Has image (named_at s from) (naming (offset_at value s from) s op) × HasPieces image value (named_at s from + named_size s) rest
-operand_code image value from (simple.Number x) op rest h = (tt, h.0, h.1)
-operand_code image value from (simple.Contents (cell.Word f n)) op rest h = (tt, h.0, h.1)
-operand_code image value from (simple.Contents (cell.Frame n)) op rest h = ((h.0, tt), h.1.0, h.1.1)
-operand_code image value from (simple.Element e) op rest h =
-    let o = number_of op in
-    let both = stand_both image value from (with_operand o (simple.Element e)) rest h in
-    let address = stand_both image value from (element_address e) (pieces.Whole (operate o ax at_si) ∷ []) both.0 in
-    let size : from + length (blanks (with_operand o (simple.Element e))) ≡ from + element_size e e.test + 2 = omega (arith, element_operation e o) in
-    (address.0, subst (λ n. Has image (from + n) (operate o ax at_si)) (element_long_as e) address.1.0, subst (λ n. HasPieces image value n rest) size both.1)
-
--- the same without more behind it
-alone_code : (image : Image) (value : Filling) (from : ℕ) (s : Simple) (op : ℕ) → HasPieces image value from (with_operand op s) → HasPieces image value from (with_operand op s ++ [])
-alone_code image value from (simple.Number x) op h = h
-alone_code image value from (simple.Contents (cell.Word f n)) op h = h
-alone_code image value from (simple.Contents (cell.Frame n)) op h = h
-alone_code image value from (simple.Element e) op h = subst (HasPieces image value from) (sym (append-nil (with_operand op (simple.Element e)))) h
-
--- ---- sizes
-
-abbrev pub operand_size : Simple → ℕ
-operand_size (simple.Number x) = 3
-operand_size (simple.Contents (cell.Word f n)) = 4
-operand_size (simple.Contents (cell.Frame n)) = 7
-operand_size (simple.Element e) = element_size e e.test + 2
-
-pub named_end : (s : Simple) (from : ℕ) → named_at s from + named_size s ≡ from + operand_size s
-named_end (simple.Number x) from = refl
-named_end (simple.Contents (cell.Word f n)) from = refl
-named_end (simple.Contents (cell.Frame n)) from = omega arith
-named_end (simple.Element e) from = omega arith
-
--- the bytes of a test, or of the jumps, behind the operation
-abbrev pub rest_size : Use → ℕ
-rest_size (uses.Add line) = 7
-rest_size (uses.Subtract line) = 7
-rest_size (uses.Multiply line) = 0
-rest_size (uses.Compare c m) = 5
-rest_size u = 0
-
-abbrev pub OneOperation : Use → Type 0
-OneOperation (uses.Multiply line) = ⊥
-OneOperation u = Unit {0}
-
-pub tested_size : (s : Simple) (u : Use) → OneOperation u → block_size false (block.Operate s u) order.Save ≡ operand_size s + rest_size u
-tested_size s (uses.Multiply line) h = absurd h
-tested_size (simple.Number x) u h = number u h
-  where
-    number : (u : Use) → OneOperation u → block_size false (block.Operate (simple.Number x) u) order.Save ≡ 3 + rest_size u
-    number (uses.Multiply line) h = absurd h
-    number (uses.Add line) h = refl
-    number (uses.Subtract line) h = refl
-    number uses.Mask h = refl
-    number uses.Union h = refl
-    number uses.Differ h = refl
-    number (uses.Compare c m) h = refl
-tested_size (simple.Element e) u h = element u h
-  where
-    element : (u : Use) → OneOperation u → block_size false (block.Operate (simple.Element e) u) order.Save ≡ element_size e e.test + 2 + rest_size u
-    element (uses.Multiply line) h = absurd h
-    element (uses.Add line) h = omega (arith, appended_long (with_operand 0 (simple.Element e)) (checked line), element_operation e 0)
-    element (uses.Subtract line) h = omega (arith, appended_long (with_operand 5 (simple.Element e)) (checked line), element_operation e 5)
-    element uses.Mask h = omega (arith, element_operation e 4)
-    element uses.Union h = omega (arith, element_operation e 1)
-    element uses.Differ h = omega (arith, element_operation e 6)
-    element (uses.Compare c m) h =
-        omega (arith, compared_long false (with_operand 7 (simple.Element e)) c (0 + pieces_size (with_operand 7 (simple.Element e))) (mark_place no_names m), element_operation e 7)
-tested_size (simple.Contents (cell.Word f n)) u h = word u h
-  where
-    word : (u : Use) → OneOperation u → block_size false (block.Operate (simple.Contents (cell.Word f n)) u) order.Save ≡ 4 + rest_size u
-    word (uses.Multiply line) h = absurd h
-    word (uses.Add line) h = refl
-    word (uses.Subtract line) h = refl
-    word uses.Mask h = refl
-    word uses.Union h = refl
-    word uses.Differ h = refl
-    word (uses.Compare c m) h = refl
-tested_size (simple.Contents (cell.Frame n)) u h = word u h
-  where
-    word : (u : Use) → OneOperation u → block_size false (block.Operate (simple.Contents (cell.Frame n)) u) order.Save ≡ 7 + rest_size u
-    word (uses.Multiply line) h = absurd h
-    word (uses.Add line) h = refl
-    word (uses.Subtract line) h = refl
-    word uses.Mask h = refl
-    word uses.Union h = refl
-    word uses.Differ h = refl
-    word (uses.Compare c m) h = refl
-
-pub compare_size : (s : Simple) → pieces_size (with_operand 7 s) ≡ operand_size s
-compare_size (simple.Number x) = refl
-compare_size (simple.Element e) = element_operation e 7
-compare_size (simple.Contents (cell.Word f n)) = refl
-compare_size (simple.Contents (cell.Frame n)) = refl
-
-compared_size : (short : Bool) (s : Simple) (c : Comparator) (m : ℕ) → block_size short (block.Operate s (uses.Compare c m)) order.Save ≡ operand_size s + branch_size short
-compared_size true s c m = omega (arith, compared_long true (with_operand 7 s) c (0 + pieces_size (with_operand 7 s)) (mark_place no_names m), compare_size s)
-compared_size false s c m = omega (arith, compared_long false (with_operand 7 s) c (0 + pieces_size (with_operand 7 s)) (mark_place no_names m), compare_size s)
 
 -- ---- outcomes
 
@@ -242,8 +106,7 @@ module _ (c : Setting) (memory : List ℤ) (input output : List ℕ) where
   -- where the operation stands, and where its code ends
   module _ {p : Watched} (at : ℕ) (s : Simple) (to w : ℕ) (y : ℤ) (operands : List Operand) (fy : FitsWord y) (fits : All OperandFits operands) (named : NamedFrom at w s y operands p) where
     -- an operation and its test
-    module _ (by line : ℕ) (small : line < 65536) (e : named_at s at + named_size s + 7 ≡ to) (arrives : (named_at s at + named_size s + 2 + 3 + by) % 65536 ≡ stop_place Overflow % 65536)
-        (i : Check c.image (named_at s at + named_size s) by line) where
+    module _ (line : ℕ) (small : line < 65536) (i : Checked c.image (named_at s at + named_size s) to line) where
       add_used : Has c.image (named_at s at) (naming w s Add) → DoesHere c memory input output 22 to true line p (perform c.program.limits.area operation.Add (put y (words operands memory input output)))
       add_used h = cases operands refl
         where
@@ -253,7 +116,7 @@ module _ (c : Setting) (memory : List ℤ) (input output : List ℕ) where
           cases (Word x ∷ rest) is =
               let few = few_steps s in
               later c.program c.image 15 to c.g true line c.acts (steps_to s) 22 (put_value (x +ℤ y) (words rest memory input output)) (omega arith) (named x rest is)
-              (λ q r. sum_of c memory input output to by line x y rest (top_fits operands fits x rest is) fy small e arrives h i r)
+              (λ q r. sum_of c memory input output to line x y rest (top_fits operands fits x rest is) fy small h i r)
 
       subtract_used : Has c.image (named_at s at) (naming w s Subtract) → DoesHere c memory input output 22 to true line p (perform c.program.limits.area operation.Subtract (put y (words operands memory input output)))
       subtract_used h = cases operands refl
@@ -264,7 +127,7 @@ module _ (c : Setting) (memory : List ℤ) (input output : List ℕ) where
           cases (Word x ∷ rest) is =
               let few = few_steps s in
               later c.program c.image 15 to c.g true line c.acts (steps_to s) 22 (put_value (x -ℤ y) (words rest memory input output)) (omega arith) (named x rest is)
-              (λ q r. difference_of c memory input output to by line x y rest (top_fits operands fits x rest is) fy small e arrives h i r)
+              (λ q r. difference_of c memory input output to line x y rest (top_fits operands fits x rest is) fy small h i r)
 
     -- bits
     module _ (e : named_at s at + named_size s ≡ to) where
@@ -356,21 +219,20 @@ module _ (c : Setting) (memory : List ℤ) (input output : List ℕ) where
         straight c.rows (LoadSlot bx 0xFA (r + 1) twice ∷ []) {n = 0} kept.wrote i ((base, slot_base, kept.piled.0.base_is ∙ base_is), tt) s.is
         (λ q t.
         done
-        (word_named c memory input output 4 k (field (2 * n % 65536)) (word_at memory k) x rest l'.operands.0 (kept.words k within) (refl, refl, k_low, address) (λ op. refl) (lit< tt)
+        (word_named c memory input output (frame_size n + 2) k (field (2 * n % 65536)) (word_at memory k) x rest l'.operands.0 (kept.words k within) (field_denotes c.image.bytes (s.ax ∷ s.cx ∷ s.dx ∷ twice ∷ 2 * l'.top ∷ bp ∷ s.si ∷ c.program.limits.area ∷ []) (2 * n % 65536) k k_low (doubled_small a.frame_base) address)
+        (λ op. field_operated (number_of op) ax (2 * n % 65536)) (let some : 0 < frame_size n + 2 = omega arith in some)
         (some_room x rest l' (subst (λ xs. operand_words xs < level c.acts) is room)) l'.operands.1 kept t))
 
 -- ---- products
 
 module _ (c : Setting) (memory : List ℤ) (input output : List ℕ) {p : Watched} {at : ℕ} (x : ℤ) (rest : List Operand) (fx : FitsWord x) (room : operand_words (Word x ∷ rest) < level c.acts)
-    (l : Landed c.program c.image at c.g true c.acts (words (Word x ∷ rest) memory input output) p) (to by line : ℕ) (small : line < 65536) where
+    (l : Landed c.program c.image at c.g true c.acts (words (Word x ∷ rest) memory input output) p) (to line : ℕ) (small : line < 65536) where
   abbrev Multiplied : (test : ℕ) → ℤ → Type 0
-  Multiplied test y =
-      test + 7 ≡ to → (test + 2 + 3 + by) % 65536 ≡ stop_place Overflow % 65536 → Check c.image test by line
-      → DoesHere c memory input output 24 to true line p (put_value (scaled_product x y (pos 0)) (words rest memory input output))
+  Multiplied test y = Checked c.image test to line → DoesHere c memory input output 24 to true line p (put_value (scaled_product x y (pos 0)) (words rest memory input output))
 
   -- AX times a number
   number_multiplies : (n : ℕ) → n < 65536 → HasAll c.image at (i86.MovImm bx (imm.Word n) ∷ i86.Unary 5 true (rms.Reg bx) ∷ []) → Multiplied (at + 3 + 2) (signed n)
-  number_multiplies n lt h e arrives i =
+  number_multiplies n lt h i =
       let s = l.stacked in
       let y : ℤ = signed n in
       let fy : FitsWord y = c.rows.words.signed_fits n lt in
@@ -379,20 +241,20 @@ module _ (c : Setting) (memory : List ℤ) (input output : List ℕ) {p : Watche
       let low : FitsWord (x *ℤ y) → product_low s.ax n ≡ unsigned (x *ℤ y) = λ f. ap₂ product_low l.operands.0 en ∙ product_is c.rows x y fx fy f in
       later c.program c.image 14 to c.g true line c.acts 2 24 (put_value (scaled_product x y (pos 0)) (words rest memory input output)) (lit≤ tt)
       (straight c.rows (Number bx n ∷ Product bx ∷ []) l.kept.wrote h (tt, (tt, tt)) s.is (λ q t. done t))
-      (λ q t. product_of c memory input output to by line s.ax n x y rest fx fy small e arrives (some_room c memory input output x rest l room) tests low i l.operands.1 l.kept t)
+      (λ q t. product_of c memory input output to line s.ax n x y rest fx fy small (some_room c memory input output x rest l room) tests low i l.operands.1 l.kept t)
 
   -- times a word of the data area that comes to AX, with what AX had in CX
   pub other_multiplies : {q : Watched} {test dx' bx' si' : ℕ} {overflow' : Bool} (y : ℤ) → FitsWord y
       → Is c.image test (view (unsigned y) (unsigned x) dx' bx' (2 * l.top) (record_of c.acts) si' c.program.limits.area overflow' l.cells l.stack l.input l.told) q
-      → Has c.image test (i86.Unary 5 true (rms.Reg cx)) → test + 2 + 7 ≡ to → (test + 2 + 2 + 3 + by) % 65536 ≡ stop_place Overflow % 65536 → Check c.image (test + 2) by line
+      → Has c.image test (i86.Unary 5 true (rms.Reg cx)) → Checked c.image (test + 2) to line
       → DoesHere c memory input output 15 to true line q (put_value (scaled_product x y (pos 0)) (words rest memory input output))
-  other_multiplies {q} {test} y fy t h e arrives i =
+  other_multiplies {q} {test} y fy t h i =
       later c.program c.image 14 to c.g true line c.acts 1 15 (put_value (scaled_product x y (pos 0)) (words rest memory input output)) (lit≤ tt)
       (straight c.rows (Product cx ∷ []) l.kept.wrote (h, tt) (tt, tt) t (λ q t. done t))
-      (λ q t. product_of c memory input output to by line (unsigned y) (unsigned x) x y rest fx fy small e arrives (some_room c memory input output x rest l room) (turned_overflows c memory input output x y fx fy) (turned_is c memory input output x y fx fy) i l.operands.1 l.kept t)
+      (λ q t. product_of c memory input output to line (unsigned y) (unsigned x) x y rest fx fy small (some_room c memory input output x rest l room) (turned_overflows c memory input output x y fx fy) (turned_is c memory input output x y fx fy) i l.operands.1 l.kept t)
 
   word_multiplies : (offset k : ℕ) → k < c.program.limits.area → offset ≡ 2 * k → FitsWord (word_at memory k) → HasAll c.image at (move cx ax ∷ i86.MovAcc false true false offset ∷ i86.Unary 5 true (rms.Reg cx) ∷ []) → Multiplied (at + 2 + 3 + 2) (word_at memory k)
-  word_multiplies offset k within eo fy h e arrives i =
+  word_multiplies offset k within eo fy h i =
       let s = l.stacked in
       let low = c.low in
       let k_low : k < 32768 = omega arith in
@@ -403,11 +265,11 @@ module _ (c : Setting) (memory : List ℤ) (input output : List ℕ) {p : Watche
       other_multiplies (word_at memory k) fy
       (subst (λ n. Is c.image (at + 2 + 3) (view n (unsigned x) s.dx s.bx (2 * l.top) (record_of c.acts) s.si c.program.limits.area s.overflow l.cells l.stack l.input l.told) q) (l.kept.words k within)
       (subst (λ n. Is c.image (at + 2 + 3) (view (l.cells k) n s.dx s.bx (2 * l.top) (record_of c.acts) s.si c.program.limits.area s.overflow l.cells l.stack l.input l.told) q) l.operands.0 t))
-      h.1.1.0 e arrives i)
+      h.1.1.0 i)
 
   frame_multiplies : (a : OrderActivation) (under : List OrderActivation) (n k : ℕ) → c.acts ≡ a ∷ under → k < c.program.limits.area → k ≡ a.frame_base + n → FitsWord (word_at memory k)
-      → HasAll c.image at (move cx ax ∷ load bx (slot base_slot) ∷ load ax (field (2 * n % 65536)) ∷ i86.Unary 5 true (rms.Reg cx) ∷ []) → Multiplied (at + 2 + 3 + 4 + 2) (word_at memory k)
-  frame_multiplies a under n k acts_are within same fy h e arrives i =
+      → HasAll c.image at (move cx ax ∷ load bx (slot base_slot) ∷ load ax (field (2 * n % 65536)) ∷ i86.Unary 5 true (rms.Reg cx) ∷ []) → Multiplied (at + 2 + 3 + length (bytes_of (load ax (field (2 * n % 65536)))) + 2) (word_at memory k)
+  frame_multiplies a under n k acts_are within same fy h i =
       let s = l.stacked in
       let kept = l.kept in
       let low = c.low in
@@ -421,11 +283,11 @@ module _ (c : Setting) (memory : List ℤ) (input output : List ℕ) {p : Watche
       let address : (twice + 2 * n % 65536) % 65536 ≡ 2 * k = omega arith in
       later c.program c.image 15 to c.g true line c.acts 3 24 (put_value (scaled_product x (word_at memory k) (pos 0)) (words rest memory input output)) (lit≤ tt)
       (straight c.rows (Move cx ax ∷ LoadSlot bx 0xFA (r + 1) twice ∷ LoadWord ax (2 * n % 65536) k (unsigned (word_at memory k)) ∷ []) {n = 0} kept.wrote (h.0, (h.1.0, (h.1.1.0, tt)))
-      (tt, ((base, slot_base, kept.piled.0.base_is ∙ base_is), ((k_low, address, kept.words k within), tt))) s.is (λ q t. done t))
+      (tt, ((base, slot_base, kept.piled.0.base_is ∙ base_is), ((k_low, doubled_small a.frame_base, address, kept.words k within), tt))) s.is (λ q t. done t))
       (λ q t.
       other_multiplies (word_at memory k) fy
-      (subst (λ m. Is c.image (at + 2 + 3 + 4) (view (unsigned (word_at memory k)) m s.dx twice (2 * l.top) (record_of c.acts) s.si c.program.limits.area s.overflow l.cells l.stack l.input l.told) q) l.operands.0 t)
-      h.1.1.1.0 e arrives i)
+      (subst (λ m. Is c.image (at + 2 + 3 + length (bytes_of (load ax (field (2 * n % 65536))))) (view (unsigned (word_at memory k)) m s.dx twice (2 * l.top) (record_of c.acts) s.si c.program.limits.area s.overflow l.cells l.stack l.input l.told) q) l.operands.0 t)
+      h.1.1.1.0 i)
 
 -- ---- the blocks
 
@@ -497,48 +359,71 @@ module _ (known : Given) where
 
     -- the code of a block from its operand on
     abbrev pub Code : Simple → Use → Type 0
-    Code o u = HasPieces image (all.stands g s.orders s.unit).value here_at (operated (names_of s.orders) (own_place s.orders s.from) (is_short (reach_of s.orders) s.from (block.Operate o u) order.Save) o u)
+    Code o u = HasPieces image (all.stands g s.orders s.unit).value here_at (operated (names_of s.orders) (own_place s.orders s.from) s.from (is_short (reach_of s.orders) s.from (block.Operate o u) order.Save) o u)
 
     abbrev pub NamedHere : Simple → ℤ → Type 0
     NamedHere o y = NamedFrom (setting known s) s.before.memory s.before.input s.before.output here_at (offset_at (all.stands g s.orders s.unit).value o here_at) o y s.before.operands q
 
+    -- behind so many bytes of the block stands its check, in one of its forms
+    abbrev pub Checks : Simple → Use → Type 0
+    Checks o u =
+        (line n at to : ℕ) (short : Bool) → check_of (block.Operate o u) order.Save ≡ Some line → is_short (reach_of s.orders) s.from (block.Operate o u) order.Save ≡ short → n + (if short then 2 else 7) ≡ block_size short (block.Operate o u) order.Save
+        → at ≡ here_at + n → here_at + block_size short (block.Operate o u) order.Save ≡ to
+        → HasPieces image (all.stands g s.orders s.unit).value at (checked_by short line (own_place s.orders s.from + n) (call_place (names_of s.orders) s.from)) → Checked image at to line
+
+    abbrev short_use : Simple → Use → Bool
+    short_use o u = is_short (reach_of s.orders) s.from (block.Operate o u) order.Save
+
+    -- that of a product
+    pub product_checked : (o : Simple) (line at : ℕ) → Checks o (uses.Multiply line) → here_at + size_by (is_short (reach_of s.orders)) s.from (block.Operate o (uses.Multiply line)) order.Save ≡ block_end → at ≡ here_at + pieces_size (product_with o)
+        → HasPieces image (all.stands g s.orders s.unit).value at (checked_by (short_use o (uses.Multiply line)) line (own_place s.orders s.from + pieces_size (product_with o)) (call_place (names_of s.orders) s.from)) → Checked image at block_end line
+    product_checked o line test checks ends place h =
+        checks line (pieces_size (product_with o)) test block_end (short_use o (uses.Multiply line)) refl refl (sym (checked_long (short_use o (uses.Multiply line)) (product_with o) line (0 + pieces_size (product_with o)) (call_place no_names 0))) place ends h
+
     -- the product with an operand
     abbrev pub Multiplies : Simple → ℤ → Type 0
     Multiplies o y =
-        (line : ℕ) → line < 65536 → Code o (uses.Multiply line) → here_at + block_size false (block.Operate o (uses.Multiply line)) order.Save ≡ block_end
+        (line : ℕ) → line < 65536 → Code o (uses.Multiply line) → Checks o (uses.Multiply line) → here_at + size_by (is_short (reach_of s.orders)) s.from (block.Operate o (uses.Multiply line)) order.Save ≡ block_end
         → Does p image 24 block_end g true line acts s.before.output q (perform p.limits.area (Multiply (pos 0)) (put y s.before))
 
-    abbrev pub call_of : ℕ → ℕ
-    call_of test = by known s overflow_entry (test + 2 + 3)
-
-    pub used_law : (o : Simple) (u : Use) (y : ℤ) → Computes u → FitsWord y → line_of (order_of u) < 65536 → here_at + size_by (is_short (reach_of s.orders)) s.from (block.Operate o u) order.Save ≡ block_end → Code o u → (OneOperation u → NamedHere o y) → Multiplies o y
+    pub used_law : (o : Simple) (u : Use) (y : ℤ) → Computes u → FitsWord y → line_of (order_of u) < 65536 → here_at + size_by (is_short (reach_of s.orders)) s.from (block.Operate o u) order.Save ≡ block_end → Code o u → Checks o u → (OneOperation u → NamedHere o y) → Multiplies o y
         → Ended u (outcome p.limits.area u (put y s.before))
-    used_law o (uses.Add line) y h fy small ends i named product =
-        let k = operand_code image (all.stands g s.orders s.unit).value here_at o Add (checked line) i in
+    used_law o (uses.Add line) y h fy small ends i checks named product =
+        let short = short_use o (uses.Add line) in
+        let n = pieces_size (with_operand 0 o) in
+        let call = call_place (names_of s.orders) s.from in
+        let k = operand_code image (all.stands g s.orders s.unit).value here_at o Add (checked_by short line (own_place s.orders s.from + n) call) i in
         let v = s.before in
         let test = named_at o here_at + named_size o in
-        add_used (setting known s) v.memory v.input v.output here_at o block_end _ y v.operands fy s.fits_before.operands (named tt) (call_of test) line small (omega (arith, ends, tested_size o (uses.Add line) tt, named_end o here_at))
-        (calls known s overflow_entry (test + 2 + 3) (lit< tt)) k.2 k.1
-    used_law o (uses.Subtract line) y h fy small ends i named product =
-        let k = operand_code image (all.stands g s.orders s.unit).value here_at o Subtract (checked line) i in
+        let long = operand_long Add o in
+        let place = named_end o here_at in
+        let sized : n + (if short then 2 else 7) ≡ block_size short (block.Operate o (uses.Add line)) order.Save = sym (checked_long short (with_operand 0 o) line (0 + n) (call_place no_names 0)) in
+        add_used (setting known s) v.memory v.input v.output here_at o block_end _ y v.operands fy s.fits_before.operands (named tt) line small (checks line n test block_end short refl refl sized (omega arith) ends k.2) k.1
+    used_law o (uses.Subtract line) y h fy small ends i checks named product =
+        let short = short_use o (uses.Subtract line) in
+        let n = pieces_size (with_operand 5 o) in
+        let call = call_place (names_of s.orders) s.from in
+        let k = operand_code image (all.stands g s.orders s.unit).value here_at o Subtract (checked_by short line (own_place s.orders s.from + n) call) i in
         let v = s.before in
         let test = named_at o here_at + named_size o in
-        subtract_used (setting known s) v.memory v.input v.output here_at o block_end _ y v.operands fy s.fits_before.operands (named tt) (call_of test) line small (omega (arith, ends, tested_size o (uses.Subtract line) tt, named_end o here_at))
-        (calls known s overflow_entry (test + 2 + 3) (lit< tt)) k.2 k.1
-    used_law o (uses.Multiply line) y h fy small ends i named product = product line small i ends
-    used_law o uses.Mask y h fy small ends i named product =
+        let long = operand_long Subtract o in
+        let place = named_end o here_at in
+        let sized : n + (if short then 2 else 7) ≡ block_size short (block.Operate o (uses.Subtract line)) order.Save = sym (checked_long short (with_operand 5 o) line (0 + n) (call_place no_names 0)) in
+        subtract_used (setting known s) v.memory v.input v.output here_at o block_end _ y v.operands fy s.fits_before.operands (named tt) line small (checks line n test block_end short refl refl sized (omega arith) ends k.2) k.1
+    used_law o (uses.Multiply line) y h fy small ends i checks named product = product line small i checks ends
+    used_law o uses.Mask y h fy small ends i checks named product =
         let k = operand_code image (all.stands g s.orders s.unit).value here_at o And [] (alone_code image (all.stands g s.orders s.unit).value here_at o 4 i) in
         let v = s.before in
         mask_used (setting known s) v.memory v.input v.output here_at o block_end _ y v.operands fy s.fits_before.operands (named tt) (omega (arith, ends, tested_size o uses.Mask tt, named_end o here_at)) k.1
-    used_law o uses.Union y h fy small ends i named product =
+    used_law o uses.Union y h fy small ends i checks named product =
         let k = operand_code image (all.stands g s.orders s.unit).value here_at o Or [] (alone_code image (all.stands g s.orders s.unit).value here_at o 1 i) in
         let v = s.before in
         union_used (setting known s) v.memory v.input v.output here_at o block_end _ y v.operands fy s.fits_before.operands (named tt) (omega (arith, ends, tested_size o uses.Union tt, named_end o here_at)) k.1
-    used_law o uses.Differ y h fy small ends i named product =
+    used_law o uses.Differ y h fy small ends i checks named product =
         let k = operand_code image (all.stands g s.orders s.unit).value here_at o Xor [] (alone_code image (all.stands g s.orders s.unit).value here_at o 6 i) in
         let v = s.before in
         differ_used (setting known s) v.memory v.input v.output here_at o block_end _ y v.operands fy s.fits_before.operands (named tt) (omega (arith, ends, tested_size o uses.Differ tt, named_end o here_at)) k.1
-    used_law o (uses.Compare c m) y h fy small ends i named product = absurd h
+    used_law o (uses.Compare c m) y h fy small ends i checks named product = absurd h
 
     -- ---- products
 
@@ -552,48 +437,51 @@ module _ (known : Given) where
     on_word limit line y does (Word x ∷ rest) room fits l = does x rest (All-head OperandFits (Word x) rest fits) room l
 
     number_product : (n : ℕ) → n < 65536 → Landed p image here_at g true acts s.before q → Multiplies (simple.Number n) (signed n)
-    number_product n lt l line small i ends =
+    number_product n lt l line small i checks ends =
         let v = s.before in
-        let test = here_at + 3 + 2 in
+        let check = product_checked (simple.Number n) line (here_at + 3 + 2) checks ends (omega arith) i.1.1 in
         on_word 24 line (signed n)
-        (λ x rest fx room t. number_multiplies (setting known s) v.memory v.input v.output x rest fx room t block_end (call_of test) line small n lt (i.0, (i.1.0, tt)) (omega (arith, ends)) (calls known s overflow_entry (test + 2 + 3) (lit< tt)) i.1.1)
+        (λ x rest fx room t. number_multiplies (setting known s) v.memory v.input v.output x rest fx room t block_end line small n lt (i.0, (i.1.0, tt)) check)
         v.operands (room_in known s) s.fits_before.operands l
 
     word_product : (f n k : ℕ) → k < p.limits.area → (all.stands g s.orders s.unit).value 2 f n (here_at + 2 + 3) ≡ 2 * k → Landed p image here_at g true acts s.before q
         → Multiplies (simple.Contents (cell.Word f n)) (word_at s.before.memory k)
-    word_product f n k within e l line small i ends =
+    word_product f n k within e l line small i checks ends =
         let v = s.before in
         let offset = (all.stands g s.orders s.unit).value 2 f n (here_at + 2 + 3) in
-        let test = here_at + 2 + 3 + 2 in
+        let check = product_checked (simple.Contents (cell.Word f n)) line (here_at + 2 + 3 + 2) checks ends (omega arith) i.1.1.1 in
         on_word 24 line (word_at v.memory k)
         (λ x rest fx room t.
-        word_multiplies (setting known s) v.memory v.input v.output x rest fx room t block_end (call_of test) line small offset k within e (memory_word k within) (i.0, (i.1.0, (i.1.1.0, tt))) (omega (arith, ends)) (calls known s overflow_entry (test + 2 + 3) (lit< tt)) i.1.1.1)
+        word_multiplies (setting known s) v.memory v.input v.output x rest fx room t block_end line small offset k within e (memory_word k within) (i.0, (i.1.0, (i.1.1.0, tt))) check)
         v.operands (room_in known s) s.fits_before.operands l
 
     frame_product : (a : OrderActivation) (under : List OrderActivation) (n k : ℕ) → acts ≡ a ∷ under → k < p.limits.area → k ≡ a.frame_base + n → Landed p image here_at g true acts s.before q
         → Multiplies (simple.Contents (cell.Frame n)) (word_at s.before.memory k)
-    frame_product a under n k acts_are within same l line small i ends =
+    frame_product a under n k acts_are within same l line small i checks ends =
         let v = s.before in
-        let test = here_at + 2 + 3 + 4 + 2 in
+        let o = simple.Contents (cell.Frame n) in
+        let test = here_at + 2 + 3 + length (bytes_of (load ax (field (2 * n % 65536)))) + 2 in
+        let whole = checked_long false (product_with o) line (0 + pieces_size (product_with o)) (call_place no_names 0) in
+        let there : test ≡ here_at + pieces_size (product_with o) = omega (arith, whole, frame_used_long n (uses.Multiply line), field_loaded ax (2 * n % 65536)) in
+        let check = product_checked o line test checks ends there i.1.1.1.1 in
         on_word 24 line (word_at v.memory k)
         (λ x rest fx room t.
-        frame_multiplies (setting known s) v.memory v.input v.output x rest fx room t block_end (call_of test) line small a under n k acts_are within same (memory_word k within) (i.0, (i.1.0, (i.1.1.0, (i.1.1.1.0, tt))))
-        (omega (arith, ends)) (calls known s overflow_entry (test + 2 + 3) (lit< tt)) i.1.1.1.1)
+        frame_multiplies (setting known s) v.memory v.input v.output x rest fx room t block_end line small a under n k acts_are within same (memory_word k within) (i.0, (i.1.0, (i.1.1.0, (i.1.1.1.0, tt)))) check)
         v.operands (room_in known s) s.fits_before.operands l
 
     -- ---- the last order
 
     -- an operation with a number, with a word of the data area and with one of the frame
-    number_does : (n : ℕ) (u : Use) → Computes u → n < 65536 → line_of (order_of u) < 65536 → here_at + size_by (is_short (reach_of s.orders)) s.from (block.Operate (simple.Number n) u) order.Save ≡ block_end → Code (simple.Number n) u → Landed p image here_at g true acts s.before q
+    number_does : (n : ℕ) (u : Use) → Computes u → n < 65536 → line_of (order_of u) < 65536 → here_at + size_by (is_short (reach_of s.orders)) s.from (block.Operate (simple.Number n) u) order.Save ≡ block_end → Code (simple.Number n) u → Checks (simple.Number n) u → Landed p image here_at g true acts s.before q
         → Ended u (outcome p.limits.area u (put (signed n) s.before))
-    number_does n u h lt small ends i l =
+    number_does n u h lt small ends i checks l =
         let v = s.before in
-        used_law (simple.Number n) u (signed n) h (rows.words.signed_fits n lt) small ends i (λ one. number_from (setting known s) v.memory v.input v.output v.operands (room_in known s) l n lt) (number_product n lt l)
+        used_law (simple.Number n) u (signed n) h (rows.words.signed_fits n lt) small ends i checks (λ one. number_from (setting known s) v.memory v.input v.output v.operands (room_in known s) l n lt) (number_product n lt l)
 
-    word_does : (f n : ℕ) (u : Use) → Computes u → line_of (order_of u) < 65536 → here_at + size_by (is_short (reach_of s.orders)) s.from (block.Operate (simple.Contents (cell.Word f n)) u) order.Save ≡ block_end → Code (simple.Contents (cell.Word f n)) u
+    word_does : (f n : ℕ) (u : Use) → Computes u → line_of (order_of u) < 65536 → here_at + size_by (is_short (reach_of s.orders)) s.from (block.Operate (simple.Contents (cell.Word f n)) u) order.Save ≡ block_end → Code (simple.Contents (cell.Word f n)) u → Checks (simple.Contents (cell.Word f n)) u
         → Landed p image here_at g true acts s.before q
         → Ended u (chain (chain (unrefused (perform p.limits.area (Fetch None) (put (signed (home_word p.addresses g f n)) s.before))) Changed) (outcome p.limits.area u))
-    word_does f n u h small ends i l =
+    word_does f n u h small ends i checks l =
         let v = s.before in
         let st = all.stands g s.orders s.unit in
         let word = home_word p.addresses g f n in
@@ -601,7 +489,7 @@ module _ (known : Given) where
         let second = st.fills.bytes f n (here_at + 2 + 3) in
         fetched_does word (bound u) (line_of (order_of u)) (outcome p.limits.area u) (omega arith)
         (λ k within same.
-        used_law (simple.Contents (cell.Word f n)) u (word_at v.memory k) h (memory_word k within) small ends i
+        used_law (simple.Contents (cell.Word f n)) u (word_at v.memory k) h (memory_word k within) small ends i checks
         (λ one. word_from (setting known s) v.memory v.input v.output v.operands (room_in known s) l f n (st.value 2 f n (here_at + 4)) k within (omega arith))
         (word_product f n k within (omega arith) l))
 
@@ -618,9 +506,9 @@ module _ (known : Given) where
     abbrev fetched_frame : ℕ → Outcome
     fetched_frame n = chain (put_address (frame_word p.limits.area acts n) s.before) (λ v. chain (unrefused (perform p.limits.area (Fetch None) v)) Changed)
 
-    frame_does : (n : ℕ) (u : Use) → Computes u → line_of (order_of u) < 65536 → here_at + size_by (is_short (reach_of s.orders)) s.from (block.Operate (simple.Contents (cell.Frame n)) u) order.Save ≡ block_end → Code (simple.Contents (cell.Frame n)) u
+    frame_does : (n : ℕ) (u : Use) → Computes u → line_of (order_of u) < 65536 → here_at + size_by (is_short (reach_of s.orders)) s.from (block.Operate (simple.Contents (cell.Frame n)) u) order.Save ≡ block_end → Code (simple.Contents (cell.Frame n)) u → Checks (simple.Contents (cell.Frame n)) u
         → Landed p image here_at g true acts s.before q → Ended u (chain (fetched_frame n) (outcome p.limits.area u))
-    frame_does n u h small ends i l = cases acts refl
+    frame_does n u h small ends i checks l = cases acts refl
       where
         cases : (xs : List OrderActivation) → acts ≡ xs → Ended u (chain (chain (put_address (frame_word p.limits.area xs n) s.before) (λ v. chain (unrefused (perform p.limits.area (Fetch None) v)) Changed)) (outcome p.limits.area u))
         cases [] is = tt
@@ -634,7 +522,7 @@ module _ (known : Given) where
                 let inside = ltb-true (a.frame_base + n) p.limits.area is_in in
                 fetched_does (a.frame_base + n) (bound u) (line_of (order_of u)) (outcome p.limits.area u) (omega arith)
                 (λ k within same.
-                used_law (simple.Contents (cell.Frame n)) u (word_at v.memory k) h (memory_word k within) small ends i
+                used_law (simple.Contents (cell.Frame n)) u (word_at v.memory k) h (memory_word k within) small ends i checks
                 (λ one. frame_from (setting known s) v.memory v.input v.output v.operands (room_in known s) l a under n k is within same (addressed n u one i))
                 (frame_product a under n k is within same l))
 
@@ -649,7 +537,8 @@ module _ (known : Given) where
         let cost = costs u in
         let paid : bound u ≤ weight p (at g place loaded acts w Running) = let y = weight_is known s (order_of u) here in omega arith in
         last_does known s true (line_of (order_of u)) (outcome p.limits.area u) (bound u) 2 _ is_done e ends.begins (step_in known s true (order_of u) before.now here ∙ step_goes u h) paid
-        (number_does n u h (number_small known s n (order_of u ∷ rest) e) (line_fits known s (order_of u) here) ends.behind (block_code known s (block.Operate (simple.Number n) u) order.Save os e is) before.landed)
+        (number_does n u h (number_small known s n (order_of u ∷ rest) e) (line_fits known s (order_of u) here) ends.behind (block_code known s (block.Operate (simple.Number n) u) order.Save os e is)
+        (λ line before test to short checks form size there over i. checked_block known s (block.Operate (simple.Number n) u) order.Save os line before test to short e is checks form size there over i) before.landed)
     computes_last (simple.Contents (cell.Word f n)) u rest without h is_done e is =
         let os = order.Home f n ∷ order.Load ∷ order_of u ∷ rest in
         let here = order_here known s 3 (order_of u) _ is_done e refl in
@@ -658,7 +547,8 @@ module _ (known : Given) where
         let cost = costs u in
         let paid : bound u ≤ weight p (at g place loaded acts w Running) = let y = weight_is known s (order_of u) here in omega arith in
         last_does known s true (line_of (order_of u)) (outcome p.limits.area u) (bound u) 3 _ is_done e ends.begins (step_in known s true (order_of u) before.now here ∙ step_goes u h) paid
-        (word_does f n u h (line_fits known s (order_of u) here) ends.behind (block_code known s (block.Operate (simple.Contents (cell.Word f n)) u) order.Save os e is) before.landed)
+        (word_does f n u h (line_fits known s (order_of u) here) ends.behind (block_code known s (block.Operate (simple.Contents (cell.Word f n)) u) order.Save os e is)
+        (λ line before test to short checks form size there over i. checked_block known s (block.Operate (simple.Contents (cell.Word f n)) u) order.Save os line before test to short e is checks form size there over i) before.landed)
     computes_last (simple.Contents (cell.Frame n)) u rest without h is_done e is =
         let os = order.FrameHome n ∷ order.Load ∷ order_of u ∷ rest in
         let here = order_here known s 3 (order_of u) _ is_done e refl in
@@ -667,7 +557,8 @@ module _ (known : Given) where
         let cost = costs u in
         let paid : bound u ≤ weight p (at g place loaded acts w Running) = let y = weight_is known s (order_of u) here in omega arith in
         last_does known s true (line_of (order_of u)) (outcome p.limits.area u) (bound u) 3 _ is_done e ends.begins (step_in known s true (order_of u) before.now here ∙ step_goes u h) paid
-        (frame_does n u h (line_fits known s (order_of u) here) ends.behind (block_code known s (block.Operate (simple.Contents (cell.Frame n)) u) order.Save os e is) before.landed)
+        (frame_does n u h (line_fits known s (order_of u) here) ends.behind (block_code known s (block.Operate (simple.Contents (cell.Frame n)) u) order.Save os e is)
+        (λ line before test to short checks form size there over i. checked_block known s (block.Operate (simple.Contents (cell.Frame n)) u) order.Save os line before test to short e is checks form size there over i) before.landed)
 
     -- ---- comparisons
 

@@ -1,8 +1,10 @@
 -- The steps of orders on words whose code hangs on their numbers, each of which is a block of its own.
-use Rattle.std.proofs.Common.{◌≡◌, ℕ, zero, suc, ◌+◌, ◌-◌, ◌^◌, Bool, true, false, ℤ, pos, negsuc, List, ◌++◌, length, Some, refl, subst, arith, lit<, lit≤}
+use Rattle.std.proofs.Common.{◌≡◌, ℕ, zero, suc, ◌+◌, ◌-◌, ◌^◌, Bool, true, false, ℤ, pos, negsuc, List, [], ◌∷◌, ◌++◌, length, Some, refl, subst, arith, lit<, lit≤}
 use borrow.Author.Tests.{ltb-true}
 use Rattle.std.proofs.lemmas.Bool.{leb-true}
 use Rattle.std.specs.Prelude.{slice_get, nat_le, nat_lt, ◌==◌}
+use Rattle.cw_i86.specs.declared.instr.Instr.TheVariants as i86
+use Rattle.cw_i86.specs.declared.instr.Rm.TheVariants as rms
 use Rattle.cw_unit.specs.Stop.{Running}
 use Rattle.cw_unit.specs.Words.{Words}
 use Rattle.cw_unit.specs.Operation.{perform, Rescale, Multiply, Divide, Indexed, Indexed2, Scaled}
@@ -20,7 +22,8 @@ use Rattle.cw_follow.proofs.Watched.{Watched}
 use Rattle.cw_follow.proofs.Standing.{HasPieces, HasPiecesFrom, first_of, behind_start, Image}
 use Rattle.cw_follow.proofs.States.{Given, Sound}
 use Rattle.cw_follow.proofs.Facts.{not_below}
-use Rattle.cw_follow.proofs.Orders.{Check}
+use Rattle.cw_follow.proofs.Orders.{Check, Checked}
+use Rattle.cw_follow.proofs.CheckedBlocks.{checked_alone}
 use Rattle.cw_follow.proofs.Called.{Then}
 use Rattle.cw_follow.proofs.Addresses.{times_code, test_place}
 use Rattle.cw_follow.proofs.Elements.{forms_element, forms_element_of_two, forms_entry}
@@ -56,11 +59,11 @@ module _ (known : Given) where
       pub stands : HasPieces image words_of (here known s a) (F b)
       pub ends : here known s a + length (blanks (F b)) ≡ next known s a
 
-    tested : (o : Order) (F : Bool → List Coded) (t b : Bool) → first_of o (behind_start s.orders.list place) ≡ false → slice_get s.orders.list place ≡ Some o → template_by (is_short (reach_of s.orders) place block.Single o) (names_of s.orders) (own_place s.orders place) o ≡ F t
+    tested : (o : Order) (F : Bool → List Coded) (t b : Bool) → first_of o (behind_start s.orders.list place) ≡ false → slice_get s.orders.list place ≡ Some o → template_by (is_short (reach_of s.orders) place block.Single o) (names_of s.orders) (own_place s.orders place) place o ≡ F t
         → size_by (is_short (reach_of s.orders)) place block.Single o ≡ length (blanks (F t)) → t ≡ b → Tested F b
     tested o F t b plain e same long is =
         let after_it = behind known s a o e in
-        let code_t : HasPieces image words_of (here known s a) (F t) = subst (HasPieces image words_of (here known s a)) same (subst (λ f. HasPiecesFrom f image words_of (here known s a) (template_by (is_short (reach_of s.orders) place block.Single o) (names_of s.orders) (own_place s.orders place) o)) plain (code known s a o e)) in
+        let code_t : HasPieces image words_of (here known s a) (F t) = subst (HasPieces image words_of (here known s a)) same (subst (λ f. HasPiecesFrom f image words_of (here known s a) (template_by (is_short (reach_of s.orders) place block.Single o) (names_of s.orders) (own_place s.orders place) place o)) plain (code known s a o e)) in
         let end_t : here known s a + length (blanks (F t)) ≡ next known s a = omega arith in
         subst (Tested F) is (record { stands = code_t; ends = end_t })
 
@@ -118,13 +121,18 @@ module _ (known : Given) where
         does known s true line (perform p.limits.area (Multiply (negsuc n)) w) 5 (begins_next known s a o e) (step_is known s (Some o) e) (cheap known s o 5 (lit≤ tt) e)
         (products_far_down (setting known s) w.memory w.input w.output (next known s a) line n w.operands t.ends (not_below n 15 is) (has_code known s o e) (low_room known s) s.fits.operands t.stands a.landed)
 
+    product_code : (line : ℕ) (short : Bool) → slice_get s.orders.list place ≡ Some (order.Mul (pos 0) line) → is_short (reach_of s.orders) place block.Single (order.Mul (pos 0) line) ≡ short
+        → HasPieces image words_of (here known s a) (template_by short (names_of s.orders) (own_place s.orders place) place (order.Mul (pos 0) line))
+        → Then image (here known s a) (i86.Pop 3 ∷ i86.Unary 5 true (rms.Reg 3) ∷ []) (λ k. Checked image k (next known s a) line)
+    product_code line true e form h = (h.0, (h.1.0, checked_alone known s a (order.Mul (pos 0) line) line 3 (here known s a + 1 + 2) true e refl form refl (omega arith) h.1.1))
+    product_code line false e form h = (h.0, (h.1.0, checked_alone known s a (order.Mul (pos 0) line) line 3 (here known s a + 1 + 2) false e refl form refl (omega arith) h.1.1))
+
     pub multiply_follows : (s' : ℤ) (line : ℕ) → slice_get s.orders.list place ≡ Some (order.Mul s' line) → Follow known (at g place true acts w Running) q
     multiply_follows (pos zero) line e =
         let o = order.Mul (pos 0) line in
-        let c = here known s a + 1 + 2 + 2 + 3 in
         does known s true line (perform p.limits.area (Multiply (pos 0)) w) 16 (begins_next known s a o e) (step_is known s (Some o) e) (cheap known s o 16 (lit≤ tt) e)
-        (products (setting known s) w.memory w.input w.output (next known s a) (by known s overflow_entry c) line w.operands (line_fits known s o e) (behind known s a o e) (calls known s overflow_entry c (lit< tt))
-        (low_room known s) s.fits.operands (code known s a o e) a.landed)
+        (products (setting known s) w.memory w.input w.output (next known s a) line w.operands (line_fits known s o e) (low_room known s) s.fits.operands
+        (product_code line (is_short (reach_of s.orders) place block.Single o) e refl (code known s a o e)) a.landed)
     multiply_follows (pos (suc n)) line e = multiplying_up n line e
     multiply_follows (negsuc n) line e = multiplying_down n line e (nat_lt n 15) refl
 

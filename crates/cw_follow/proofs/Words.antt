@@ -7,6 +7,7 @@ use Rattle.std.specs.Prelude.{slice_get, bit_and, bit_or, bit_xor}
 use Rattle.std.specs.Int.Bits.{xor_self}
 use Rattle.cw_i86.specs.declared.instr.Instr.TheVariants as i86
 use Rattle.cw_i86.specs.declared.instr.Imm.TheVariants as imm
+use Rattle.cw_i86.specs.declared.instr.Rm.TheVariants as rms
 use Rattle.cw_word.specs.BitField.{unsigned_field}
 use Rattle.cw_word.specs.Word.{signed, unsigned, word_difference}
 use Rattle.cw_unit.specs.declared.unit.LogicOp.TheVariants as logic
@@ -21,10 +22,14 @@ use Rattle.cw_order.specs.OrderActions.{home_word}
 use Rattle.cw_order.specs.OrderCosts.{weight_of}
 use Rattle.cw_order.specs.FittingWords.{OperandFits}
 use Rattle.cw_order.specs.OrderMachine.{unrefused, after, carry_out, step}
-use Rattle.cw_tmpl.specs.Library.{overflow_entry, address_entry, bounds_entry, read_entry}
+use Rattle.cw_tmpl.specs.Library.{address_entry, bounds_entry, read_entry}
+use Rattle.cw_tmpl.specs.declared.blocks.Block.TheVariants as block
+use Rattle.cw_tmpl.specs.Templates.{is_short, template_by}
+use Rattle.cw_tmpl.specs.ReferenceCode.{names_of, reach_of}
+use Rattle.cw_tmpl.proofs.Sizes.{own_place}
 use Rattle.cw_follow.proofs.Watched.{Watched}
 use Rattle.cw_follow.proofs.Chains.{seen, number, done}
-use Rattle.cw_follow.proofs.Orders.{Landed, Tells, landed, further, puts, saves, adds, subtracts, negates, loads, stores, writes}
+use Rattle.cw_follow.proofs.Orders.{Landed, Tells, Checked, landed, further, puts, saves, adds, subtracts, negates, loads, stores, writes}
 use Rattle.cw_follow.proofs.States.{Given, Sound, went_on, never_on, not_stuck}
 use Rattle.cw_follow.proofs.Straight.{Both, Either, One, straight_from}
 use Rattle.cw_follow.proofs.Operands.{words}
@@ -33,7 +38,8 @@ use Rattle.cw_follow.proofs.Shifts.{part_steps, without_steps}
 use Rattle.cw_follow.proofs.Addresses.{indexes_less, in_areas, BoundsCode, bounds_kept, bounds_from_zero}
 use Rattle.cw_follow.proofs.Inputs.{reads}
 use Rattle.cw_follow.proofs.Steps.{Follow, Alone, leads_to, onward, few_segments, order_is, step_is, sound_at, does, tells, by, calls, setting, cheap, has_code, line_fits, low_room, here, next, code, behind, begins_next, silent, FollowFrom, begins_here, begun_here, landed_here}
-use Rattle.cw_follow.proofs.Standing.{HasAt}
+use Rattle.cw_follow.proofs.Standing.{Has, HasAt, HasPieces}
+use Rattle.cw_follow.proofs.CheckedBlocks.{checked_alone}
 
 module _ (known : Given) where
   open known use {rows, p, image, all, coded, few, low}
@@ -124,29 +130,46 @@ module _ (known : Given) where
             let whole : w ≡ words (Word z ∷ rest) w.memory w.input w.output = ap (λ xs. words xs w.memory w.input w.output) is in
             silent known s a order.Drop false v e on.goes on.room refl refl (λ at l. drops (setting known s) w.memory w.input w.output z rest at (subst (λ x. Landed p image at g true acts x q) whole l))
 
+    -- the code of a sum, a difference and a negative, with the check in one of its forms
+    abbrev form_of : Order → Bool
+    form_of o = is_short (reach_of s.orders) place block.Single o
+
+    abbrev CodeBy : Bool → Order → Type 0
+    CodeBy short o = HasPieces image (all.stands g s.orders s.unit).value (here known s a) (template_by short (names_of s.orders) (own_place s.orders place) place o)
+
+    add_code : (line : ℕ) (short : Bool) → slice_get s.orders.list place ≡ Some (order.Add line) → form_of (order.Add line) ≡ short → CodeBy short (order.Add line)
+        → Has image (here known s a) (i86.Pop 3) × (Has image (here known s a + 1) (i86.AluRm 0 true true 0 (rms.Reg 3)) × Checked image (here known s a + 1 + 2) (next known s a) line)
+    add_code line true e form h = (h.0, (h.1.0, checked_alone known s a (order.Add line) line 3 (here known s a + 1 + 2) true e refl form refl (omega arith) h.1.1))
+    add_code line false e form h = (h.0, (h.1.0, checked_alone known s a (order.Add line) line 3 (here known s a + 1 + 2) false e refl form refl (omega arith) h.1.1))
+
+    subtract_code : (line : ℕ) (short : Bool) → slice_get s.orders.list place ≡ Some (order.Sub line) → form_of (order.Sub line) ≡ short → CodeBy short (order.Sub line)
+        → Has image (here known s a) (i86.Mov true true 3 (rms.Reg 0)) × (Has image (here known s a + 2) (i86.Pop 0) × (Has image (here known s a + 2 + 1) (i86.AluRm 5 true true 0 (rms.Reg 3)) × Checked image (here known s a + 2 + 1 + 2) (next known s a) line))
+    subtract_code line true e form h = (h.0, (h.1.0, (h.1.1.0, checked_alone known s a (order.Sub line) line 5 (here known s a + 2 + 1 + 2) true e refl form refl (omega arith) h.1.1.1)))
+    subtract_code line false e form h = (h.0, (h.1.0, (h.1.1.0, checked_alone known s a (order.Sub line) line 5 (here known s a + 2 + 1 + 2) false e refl form refl (omega arith) h.1.1.1)))
+
+    negate_code : (line : ℕ) (short : Bool) → slice_get s.orders.list place ≡ Some (order.Neg line) → form_of (order.Neg line) ≡ short → CodeBy short (order.Neg line)
+        → Has image (here known s a) (i86.Unary 3 true (rms.Reg 0)) × Checked image (here known s a + 2) (next known s a) line
+    negate_code line true e form h = (h.0, checked_alone known s a (order.Neg line) line 2 (here known s a + 2) true e refl form refl refl h.1)
+    negate_code line false e form h = (h.0, checked_alone known s a (order.Neg line) line 2 (here known s a + 2) false e refl form refl refl h.1)
+
     pub add_follows : (line : ℕ) → slice_get s.orders.list place ≡ Some (order.Add line) → Follow known (at g place true acts w Running) q
     add_follows line e =
         let o = order.Add line in
-        let c = here known s a + 1 + 2 + 2 + 3 in
         does known s true line (perform p.limits.area Add w) 16 (begins_next known s a o e) (step_is known s (Some o) e) (cheap known s o 16 (lit≤ tt) e)
-        (adds rows p image g acts (next known s a) (by known s overflow_entry c) line w.operands w.memory w.input w.output all.library (few_segments known s) (line_fits known s o e) (behind known s a o e)
-        (calls known s overflow_entry c (lit< tt)) s.fits.operands (code known s a o e) a.landed)
+        (adds rows p image g acts (next known s a) line w.operands w.memory w.input w.output all.library (few_segments known s) (line_fits known s o e) s.fits.operands (add_code line (form_of o) e refl (code known s a o e)) a.landed)
 
     pub subtract_follows : (line : ℕ) → slice_get s.orders.list place ≡ Some (order.Sub line) → Follow known (at g place true acts w Running) q
     subtract_follows line e =
         let o = order.Sub line in
-        let c = here known s a + 2 + 1 + 2 + 2 + 3 in
         does known s true line (perform p.limits.area Subtract w) 17 (begins_next known s a o e) (step_is known s (Some o) e) (cheap known s o 17 (lit≤ tt) e)
-        (subtracts rows p image g acts (next known s a) (by known s overflow_entry c) line w.operands w.memory w.input w.output all.library (few_segments known s) (line_fits known s o e) (behind known s a o e)
-        (calls known s overflow_entry c (lit< tt)) s.fits.operands (code known s a o e) a.landed)
+        (subtracts rows p image g acts (next known s a) line w.operands w.memory w.input w.output all.library (few_segments known s) (line_fits known s o e) s.fits.operands (subtract_code line (form_of o) e refl (code known s a o e)) a.landed)
 
     pub negate_follows : (line : ℕ) → slice_get s.orders.list place ≡ Some (order.Neg line) → Follow known (at g place true acts w Running) q
     negate_follows line e =
         let o = order.Neg line in
-        let c = here known s a + 2 + 2 + 3 in
         does known s true line (perform p.limits.area Negate w) 15 (begins_next known s a o e) (step_is known s (Some o) e) (cheap known s o 15 (lit≤ tt) e)
-        (negates rows p image g acts (next known s a) (by known s overflow_entry c) line w.operands w.memory w.input w.output all.library (few_segments known s) (line_fits known s o e) (low_room known s)
-        (behind known s a o e) (calls known s overflow_entry c (lit< tt)) s.fits.operands (code known s a o e) a.landed)
+        (negates rows p image g acts (next known s a) line w.operands w.memory w.input w.output all.library (few_segments known s) (line_fits known s o e) (low_room known s) s.fits.operands
+        (negate_code line (form_of o) e refl (code known s a o e)) a.landed)
 
     pub load_follows : slice_get s.orders.list place ≡ Some order.Load → Follow known (at g place true acts w Running) q
     load_follows e =

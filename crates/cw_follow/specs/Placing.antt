@@ -17,6 +17,7 @@ use Rattle.cw_order.specs.HasCode.{HasCode}
 use Rattle.cw_order.specs.BeginsStatement.{BeginsStatement}
 use Rattle.cw_order.specs.FittingWords.{ConstantsFit, LinesFit}
 use Rattle.cw_order.specs.Spans.{SpansInside}
+use Rattle.cw_order.specs.Sharing.{DefinitionsShared}
 use Rattle.cw_order.specs.Activations.{Callable}
 use Rattle.cw_tmpl.specs.Names.{label_start, switch_start, procedure_start}
 use Rattle.cw_tmpl.specs.Pieces.{Filling, blanks, filled}
@@ -105,6 +106,7 @@ StandsBehind order.Store = Unit {0}
 StandsBehind (order.LoadPart t b is_signed) = Unit {0}
 StandsBehind (order.StorePart t b) = Unit {0}
 StandsBehind (order.Element lower span line) = Unit {0}
+StandsBehind (order.ElementOfTwo lower second width span line) = Unit {0}
 StandsBehind (order.Entry width word span line) = Unit {0}
 StandsBehind (order.InBounds lower upper line) = Unit {0}
 StandsBehind (order.Add line) = Unit {0}
@@ -119,7 +121,7 @@ StandsBehind order.WriteByte = Unit {0}
 StandsBehind _ = ⊥
 
 -- What templates need of the orders: their numbers are words, what those of references count on is in the data area, the unit's lists tell
--- what the tables tell, and an index of a switch is a word with a sign. Calls and control arguments are in order. Each body begins with the
+-- what the tables tell, and an index of a switch is a word with a sign. Calls and control arguments are in order, and what descriptors stand for is shared. Each body begins with the
 -- first order of its list, a mark stands there or at an order that begins a block wherever it stands and no statement, an order with code that may
 -- begin a statement stands behind each Start, the frame area lies in the data area, and operands and records leave room on the control stack.
 pub record Codable (p : OrderProgram) : Type 0 where
@@ -131,6 +133,7 @@ pub record Codable (p : OrderProgram) : Type 0 where
   pub paired : (g : ℕ) (t : Tables) → slice_get p.tables g ≡ Some t → (o : Orders) × (slice_get p.units g ≡ Some o)
   pub switches : (g n : ℕ) (o : Orders) (gs : List Goal) → slice_get p.units g ≡ Some o → slice_get o.switches n ≡ Some gs → length gs < 32768
   pub callable : Callable p
+  pub shared : DefinitionsShared p
   pub entries : (g : ℕ) (o : Orders) → slice_get p.units g ≡ Some o → o.entry ≡ 0
   pub marks : (g m place : ℕ) → place_of p g m ≡ Some place
       → (place ≡ 0) ⊎ ((o : Order) × (order_at p g place ≡ Some o) × (StandsBehind o → ⊥) × (BeginsStatement o → ⊥))

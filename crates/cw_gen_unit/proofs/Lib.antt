@@ -2,3 +2,4 @@ pub mod Layers
 pub mod Chains
 pub mod PlacedLabels
 pub mod WholeUnits
+pub mod SwitchMarks

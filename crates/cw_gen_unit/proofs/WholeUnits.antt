@@ -5,6 +5,7 @@ use Rattle.std.proofs.lemmas.List.{length-replicate, drop_all}
 use Rattle.cw_unit.specs.declared.unit.Unit.{Unit as SourceUnit}
 use Rattle.cw_unit.specs.declared.unit.Proc.{Proc}
 use Rattle.cw_unit.specs.declared.unit.Goal.{Goal}
+use Rattle.cw_unit.specs.declared.unit.Def.{Def}
 use Rattle.cw_unit.specs.declared.layout.Layout.{Layout}
 use Rattle.cw_unit.specs.Storage.{layout_of}
 use Rattle.cw_order.specs.declared.order.Order.{Order}
@@ -18,7 +19,7 @@ use Rattle.cw_gen_expr.specs.ReferenceEntries.{scope_of}
 use Rattle.cw_gen_expr.specs.UnitTables.{procedure_mark, first_mark}
 use Rattle.cw_gen_expr.proofs.Making.{two_steps}
 use Rattle.cw_gen_unit.specs.ReferenceStatements.{statement_piece}
-use Rattle.cw_gen_unit.specs.ReferenceUnits.{body_piece, procedure_piece, procedures_piece, entries_of, procedure_labels, label_places, definition_places, label_marks, procedure_marks, switch_lists, unit_orders}
+use Rattle.cw_gen_unit.specs.ReferenceUnits.{body_piece, procedure_piece, procedures_piece, entries_of, procedure_labels, label_places, definition_places, label_marks, procedure_marks, switch_lists, shared, unit_orders}
 use Rattle.cw_gen_unit.specs.LabelPlaces.{labels_placed}
 use Rattle.cw_gen_unit.proofs.PlacedLabels.{placed-body}
 
@@ -158,11 +159,12 @@ module _ (u : SourceUnit) (f : ℕ) (o0 o1 o2 : List Order) (m0 m1 m2 : List ℕ
         ems ∙ ap₂ (λ z e. definition_places z e u.defined ++ (z ++ (e ++ drop f m2))) places entries
         ∙ ap (λ t. definition_places zs es u.defined ++ (zs ++ (es ++ t))) own-marks
 
-abbrev told : List Order → List ℕ → List LabelMark → List ℕ → List (List Goal) → Orders
-told os ms ls ps ss = record { list = os; entry = 0; marks = ms; labels = ls; procedures = ps; switches = ss }
+abbrev told : List Order → List ℕ → List LabelMark → List ℕ → List (List Goal) → List Def → Orders
+told os ms ls ps ss ds = record { list = os; entry = 0; marks = ms; labels = ls; procedures = ps; switches = ss; shared = ds }
 
--- with the marks of its labels and procedures, and its switches
-pub whole : (u : SourceUnit) (os : List Order) (ms : List ℕ) (ls : List LabelMark) (ps : List ℕ) (ss : List (List Goal)) → os ≡ (unit_orders u).list → ms ≡ (unit_orders u).marks → ls ≡ label_marks u 0 u.labels → ps ≡ procedure_marks u 0 u.procs → ss ≡ switch_lists u.switches → told os ms ls ps ss ≡ unit_orders u
-whole u os ms ls ps ss eo em el ep es =
-    ap₂ (λ o m. told o m ls ps ss) eo em ∙ ap₂ (λ l q. told (unit_orders u).list (unit_orders u).marks l q ss) el ep
-    ∙ ap (told (unit_orders u).list (unit_orders u).marks (label_marks u 0 u.labels) (procedure_marks u 0 u.procs)) es
+-- with the marks of its labels and procedures, its switches, and what it defines in common
+pub whole : (u : SourceUnit) (os : List Order) (ms : List ℕ) (ls : List LabelMark) (ps : List ℕ) (ss : List (List Goal)) (ds : List Def) → os ≡ (unit_orders u).list → ms ≡ (unit_orders u).marks → ls ≡ label_marks u 0 u.labels → ps ≡ procedure_marks u 0 u.procs
+    → ss ≡ switch_lists u.switches → ds ≡ shared u.defined → told os ms ls ps ss ds ≡ unit_orders u
+whole u os ms ls ps ss ds eo em el ep es ed =
+    ap₂ (λ o m. told o m ls ps ss ds) eo em ∙ ap₂ (λ l q. told (unit_orders u).list (unit_orders u).marks l q ss ds) el ep
+    ∙ ap₂ (told (unit_orders u).list (unit_orders u).marks (label_marks u 0 u.labels) (procedure_marks u 0 u.procs)) es ed

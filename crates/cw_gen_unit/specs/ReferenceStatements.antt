@@ -1,5 +1,5 @@
 -- The orders of statements.
-use Rattle.std.specs.Prelude.{ℕ, zero, suc, ◌+◌, ℤ, pos, negsuc, List, [], ◌∷◌, ◌++◌, map, length, Bool, true, false, not, ◌&&◌, Option, Some, None, slice_get, if◌then◌else◌}
+use Rattle.std.specs.Prelude.{ℕ, zero, suc, ◌+◌, nat_lt, ℤ, pos, negsuc, List, [], ◌∷◌, ◌++◌, map, length, Bool, true, false, not, ◌&&◌, Option, Some, None, slice_get, if◌then◌else◌}
 use Rattle.cw_order.specs.declared.order.Order.{Order}
 use Rattle.cw_order.specs.declared.order.Order.TheVariants as order
 use Rattle.cw_order.specs.declared.order.Place.{Place}
@@ -7,6 +7,7 @@ use Rattle.cw_order.specs.declared.order.Place.TheVariants as cell
 use Rattle.cw_order.specs.declared.order.Comparator.TheVariants as comparator
 use Rattle.cw_word.specs.Word.{unsigned}
 use Rattle.cw_unit.specs.Operation.{is_past}
+use Rattle.cw_unit.specs.Step.{switch_in}
 use Rattle.cw_unit.specs.declared.layout.Layout.{Layout}
 use Rattle.cw_unit.specs.declared.unit.Unit.{Unit as SourceUnit}
 use Rattle.cw_unit.specs.declared.unit.Label.{Label}
@@ -58,10 +59,38 @@ abbrev pub goal_order : SourceUnit → (who : Option ℕ) → Goal → Order
 goal_order u who (goal.Own l) = own_order who (slice_get u.labels l) (label_mark u l)
 goal_order u who (goal.Common d) = order.GoCommon d
 
+-- where an order goes that is a plain jump
+abbrev pub plain_mark : Order → Option ℕ
+plain_mark (order.Jump m) = Some m
+plain_mark _ = None
+
+abbrev pub mark_before : Option ℕ → Option (List ℕ) → Option (List ℕ)
+mark_before (Some m) (Some ms) = Some (m ∷ ms)
+mark_before _ _ = None
+
+-- the marks of goals, where a plain jump goes to each of them
+abbrev pub plain_marks : SourceUnit → (who : Option ℕ) → List Goal → Option (List ℕ)
+plain_marks u who [] = Some []
+plain_marks u who (g ∷ gs) = mark_before (plain_mark (goal_order u who g)) (plain_marks u who gs)
+
+-- those of a table in the body, which has one mark at least and 32 at most
+abbrev pub table_marks : SourceUnit → (who : Option ℕ) → Option (List Goal) → Option (List ℕ)
+table_marks u who None = None
+table_marks u who (Some gs) = if nat_lt 0 (length gs) && nat_lt (length gs) 33 then plain_marks u who gs else None
+
+-- the marks of the labels of a switch, where the body owns them all and a table has room for them
+abbrev pub owned_marks : SourceUnit → (who : Option ℕ) → (switch : ℕ) → Option (List ℕ)
+owned_marks u who n = table_marks u who (switch_in (Some u) n)
+
+-- by the table, or by the list of the unit
+abbrev pub switch_order : Option (List ℕ) → (switch line : ℕ) → Order
+switch_order None n line = order.GoSwitch n line
+switch_order (Some ms) n line = order.SwitchWay ms line
+
 abbrev pub jump_order : Scope → (who : Option ℕ) → Dest → Order
 jump_order s who (dest.Goal g) = goal_order s.unit who g
 jump_order s who (dest.Special k) = order.GoSpecial (control_place s.parameters k)
-jump_order s who (dest.Switch n e) = order.GoSwitch n s.line
+jump_order s who (dest.Switch n e) = switch_order (owned_marks s.unit who n) n s.line
 jump_order s who (dest.CommonSwitch d e) = order.GoSwitchCommon d s.line
 jump_order s who (dest.SpecialSwitch k e) = order.GoSwitchSpecial (control_place s.parameters k) s.line
 
@@ -69,7 +98,7 @@ jump_order s who (dest.SpecialSwitch k e) = order.GoSwitchSpecial (control_place
 abbrev pub jump_piece : Scope → (who : Option ℕ) → Dest → Piece
 jump_piece s who (dest.Goal g) = plain (goal_order s.unit who g ∷ [])
 jump_piece s who (dest.Special k) = plain (order.GoSpecial (control_place s.parameters k) ∷ [])
-jump_piece s who (dest.Switch n e) = followed_by (expression_piece s e 0) (plain (order.GoSwitch n s.line ∷ []))
+jump_piece s who (dest.Switch n e) = followed_by (expression_piece s e 0) (plain (switch_order (owned_marks s.unit who n) n s.line ∷ []))
 jump_piece s who (dest.CommonSwitch d e) = followed_by (expression_piece s e 0) (plain (order.GoSwitchCommon d s.line ∷ []))
 jump_piece s who (dest.SpecialSwitch k e) = followed_by (expression_piece s e 0) (plain (order.GoSwitchSpecial (control_place s.parameters k) s.line ∷ []))
 

@@ -123,6 +123,11 @@ abbrev pub switch_lists : List Switch → List (List Goal)
 switch_lists [] = []
 switch_lists (s ∷ ss) = s.list ∷ switch_lists ss
 
+-- what a unit defines in common
+abbrev pub shared : List (ℕ × Def) → List Def
+shared [] = []
+shared (d ∷ ds) = d.1 ∷ shared ds
+
 abbrev pub unit_orders : SourceUnit → Orders
 unit_orders u =
     let first = first_mark u in
@@ -137,6 +142,7 @@ unit_orders u =
       labels = label_marks u 0 u.labels;
       procedures = procedure_marks u 0 u.procs;
       switches = switch_lists u.switches;
+      shared = shared u.defined;
     }
 
 -- ---- programs

@@ -9,6 +9,7 @@ mod procedures;
 mod simple;
 mod simple_orders;
 mod statements;
+mod switches;
 mod unit;
 
 pub use unit::orders;

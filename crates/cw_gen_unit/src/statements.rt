@@ -9,6 +9,7 @@ ghost use Rattle.cw_gen_unit.specs.ReferenceStatements.{begin_orders, after_stat
 ghost use Rattle.cw_gen_unit.specs.Endings.{is_empty as spec_is_empty, ends_behind as spec_ends_behind, comes_to_end};
 
 use crate::begun::{begin_loop, end_loop};
+use crate::switches::{owned_marks, switch_order};
 use cw_gen_expr::expressions::{
     emit_address, emit_arguments, emit_call, emit_condition, emit_expression,
 };
@@ -91,7 +92,7 @@ pub fn label_mark(unit: &Unit, label: u32) -> Result<u32, NoMemory>
 }
 
 /// The order that jumps to a label of the unit, from the segment's body or that of a procedure.
-fn own_order(unit: &Unit, who: Option<u16>, label: u32, mark: u32) -> Order
+pub fn own_order(unit: &Unit, who: Option<u16>, label: u32, mark: u32) -> Order
     ensures { result ≡ spec_own_order who (slice_get unit.now.labels label) mark }
 {
     match who {
@@ -121,6 +122,7 @@ fn emit_goal(out: &mut Output, unit: &Unit, who: Option<u16>, goal: Goal) -> Res
 
 /// Adds the orders of a jump.
 fn emit_go(
+    alloc: Global,
     out: &mut Output,
     unit: &Unit,
     layout: &Layout,
@@ -139,11 +141,9 @@ fn emit_go(
             out.push(Order::GoSpecial(place))
         }
         Dest::Switch(switch, e) => {
+            let marks = owned_marks(alloc, unit, who, *switch)?;
             emit_expression(out, unit, layout, parameters, line, e, 0)?;
-            out.push(Order::GoSwitch {
-                switch: *switch,
-                line,
-            })
+            out.push(switch_order(marks, *switch, line))
         }
         Dest::CommonSwitch(descriptor, e) => {
             emit_expression(out, unit, layout, parameters, line, e, 0)?;
@@ -269,7 +269,7 @@ pub fn emit_statement(
             Ok(true)
         }
         Stmt::Go(line, dest) => {
-            emit_go(out, unit, layout, parameters, who, *line, dest)?;
+            emit_go(alloc, out, unit, layout, parameters, who, *line, dest)?;
             Ok(false)
         }
         Stmt::Call(line, target, arguments) => {

@@ -4,7 +4,7 @@ ghost use Rattle.cw_unit.specs.Storage.{layout_of};
 ghost use Rattle.cw_gen_expr.specs.Output.{made};
 ghost use Rattle.cw_gen_expr.specs.UnitTables.{first_mark};
 ghost use Rattle.cw_gen_expr.specs.UnitTables as tables;
-ghost use Rattle.cw_gen_unit.specs.ReferenceUnits.{body_piece, procedure_piece, procedures_piece, entries_of, procedure_labels, label_places, definition_place as spec_definition_place, definition_places as spec_definition_places, label_marks as spec_label_marks, procedure_marks as spec_procedure_marks, switch_lists as spec_switch_lists, unit_orders};
+ghost use Rattle.cw_gen_unit.specs.ReferenceUnits.{body_piece, procedure_piece, procedures_piece, entries_of, procedure_labels, label_places, definition_place as spec_definition_place, definition_places as spec_definition_places, label_marks as spec_label_marks, procedure_marks as spec_procedure_marks, switch_lists as spec_switch_lists, shared as spec_shared, unit_orders};
 ghost use Rattle.cw_gen_unit.specs.LabelPlaces.{labels_placed};
 
 use crate::labels::place_labels;
@@ -215,6 +215,17 @@ fn switch_lists(alloc: Global, switches: &[Switch]) -> Result<List<List<Goal>>, 
     Ok(lists)
 }
 
+/// What the unit defines in common, without the descriptors that name it.
+fn shared(alloc: Global, defined: &[(u16, Def)]) -> Result<List<Def>, NoMemory>
+    ensures { IfOk result (λ list. list ≡ spec_shared defined.now) }
+{
+    let mut list = List::new(alloc);
+    for (_, definition) in defined {
+        list.push(*definition)?;
+    }
+    Ok(list)
+}
+
 /// The places of the unit's marks: of its definitions, its labels, its procedures, and of the orders' own, which are behind the first so many.
 fn all_marks(
     alloc: Global,
@@ -277,6 +288,7 @@ fn whole(
     let labels = label_marks(alloc, unit)?;
     let procedures = procedure_marks(alloc, unit)?;
     let switches = switch_lists(alloc, unit.switches.as_slice())?;
+    let shared = shared(alloc, unit.defined.as_slice())?;
     Ok(Orders {
         list,
         entry: 0,
@@ -284,6 +296,7 @@ fn whole(
         labels,
         procedures,
         switches,
+        shared,
     })
 }
 

@@ -22,6 +22,7 @@ pub(crate) fn loaded_after(order: &Order, loaded: bool) -> Option<bool> {
         | Order::JumpIf { .. }
         | Order::Exhausted(_)
         | Order::LoopWay(_)
+        | Order::SwitchWay { .. }
         | Order::GoSwitch { .. }
         | Order::GoSwitchCommon { .. }
         | Order::GoSwitchSpecial { .. } => from(true, false, loaded),
@@ -68,6 +69,7 @@ pub(crate) fn line_of(order: &Order) -> u16 {
         | Order::AddStep(line)
         | Order::PutVariable(line)
         | Order::NextStep { line, .. }
+        | Order::SwitchWay { line, .. }
         | Order::GoSwitch { line, .. }
         | Order::GoSwitchCommon { line, .. }
         | Order::GoSwitchSpecial { line, .. }

@@ -294,17 +294,29 @@ fn of_steps(word: Spelled<'_>, line: u16) -> Option<Order> {
     }
 }
 
-fn loop_way(alloc: Global, word: Spelled<'_>) -> Option<Order> {
+fn marks(alloc: Global, word: Spelled<'_>) -> Option<List<u32>> {
     let mut marks = List::new(alloc);
     for part in word.numbers.split(':') {
         marks.push(part.parse::<u32>().ok()?).ok()?;
     }
-    Some(Order::LoopWay(marks))
+    Some(marks)
+}
+
+// Orders that go on by a number, each with a list of marks.
+fn of_marks(alloc: Global, word: Spelled<'_>, line: u16) -> Option<Order> {
+    match word.name {
+        "LoopWay" => Some(Order::LoopWay(marks(alloc, word)?)),
+        "SwitchWay" => Some(Order::SwitchWay {
+            marks: marks(alloc, word)?,
+            line,
+        }),
+        _ => None,
+    }
 }
 
 fn order(alloc: Global, word: Spelled<'_>, line: u16) -> Option<Order> {
-    if word.name == "LoopWay" {
-        return loop_way(alloc, word);
+    if let Some(order) = of_marks(alloc, word, line) {
+        return Some(order);
     }
     if let Some(order) = bare(word.name) {
         return Some(order);
@@ -351,6 +363,7 @@ impl Segment {
             labels: List::new(alloc),
             procedures: List::new(alloc),
             switches: List::new(alloc),
+            shared: List::new(alloc),
         };
         Some(Segment {
             orders,
@@ -474,6 +487,22 @@ impl Program {
         }
         Some(())
     }
+
+    // What the descriptors of segments stand for is shared by the segments that have it.
+    fn share(&mut self, alloc: Global) -> Option<()> {
+        let mut named = Vec::new(alloc);
+        for segment in self.segments.iter() {
+            for (_, to, definition) in segment.defined.iter() {
+                named.push((*to, *definition)).ok()?;
+            }
+        }
+        for (to, definition) in named.iter() {
+            if let Some(segment) = self.segments.get_mut(*to) {
+                segment.orders.shared.push(*definition).ok()?;
+            }
+        }
+        Some(())
+    }
 }
 
 /// The program of a text; none where the text is none.
@@ -483,5 +512,6 @@ pub fn program(alloc: Global, text: &str) -> Option<Program> {
         limits: LIMITS,
     };
     program.add_all(alloc, text)?;
+    program.share(alloc)?;
     Some(program)
 }

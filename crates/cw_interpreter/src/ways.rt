@@ -3,6 +3,7 @@ use crate::machine::{Control, End, Machine, OVERFLOW, SWITCH};
 use crate::words::{holds, is_past};
 use cw_order::{Order, Place};
 use cw_unit::unit::{Def, Goal};
+use cw_word::List;
 
 impl<'a> Machine<'a> {
     // Ways within a body.
@@ -45,12 +46,14 @@ impl<'a> Machine<'a> {
             Order::Exhausted(mark) => self.test_turn(*mark),
             Order::NextStep { looped, mark, .. } => self.next_step(*looped, *mark),
             Order::LoopWay(marks) => {
-                let number = self.take_number();
-                let index = usize::try_from(number.wrapping_sub(1)).unwrap_or(usize::MAX);
-                if let Some(mark) = marks.as_slice().get(index) {
-                    self.go_to_mark(*mark);
+                if let Some(mark) = self.mark_of_number(marks) {
+                    self.go_to_mark(mark);
                 }
             }
+            Order::SwitchWay { marks, .. } => match self.mark_of_number(marks) {
+                Some(mark) => self.go_to_mark(mark),
+                None => self.stop(SWITCH),
+            },
             _ => self.name(order),
         }
     }
@@ -103,6 +106,13 @@ impl<'a> Machine<'a> {
                 self.go_to_mark(mark);
             }
         }
+    }
+
+    // The mark of the number that is taken, from 1; none where it has none.
+    fn mark_of_number(&mut self, marks: &List<u32>) -> Option<u32> {
+        let number = self.take_number();
+        let index = usize::try_from(number.wrapping_sub(1)).unwrap_or(usize::MAX);
+        marks.as_slice().get(index).copied()
     }
 
     fn go_to_mark(&mut self, mark: u32) {

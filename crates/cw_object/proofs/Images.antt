@@ -148,7 +148,7 @@ zeros-end (w ∷ ws) = unless-ends w (without_last_zeros ws) (zeros-end ws)
 -- ---- the code
 
 some-library : 1 ≤ length library_bytes
-some-library = let size : 430 ≡ length library_bytes = refl in subst (λ n. 1 ≤ n) size (lit≤ tt)
+some-library = let size : 438 ≡ length library_bytes = refl in subst (λ n. 1 ≤ n) size (lit≤ tt)
 
 goes-on : (start : ℕ) (cs : List Contents) → start ≤ code_end start cs
 goes-on start [] = omega arith

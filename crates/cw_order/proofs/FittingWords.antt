@@ -22,7 +22,7 @@ use Rattle.cw_order.specs.declared.order.Order.TheVariants as order
 use Rattle.cw_order.specs.declared.order.Orders.{Orders}
 use Rattle.cw_order.specs.OrderProgram.{LabelEntry, ProcedureEntry, OrderProgram, order_at, place_of, label_at, procedure_at, switch_at, label_of}
 use Rattle.cw_order.specs.OrderState.{OrderActivation, OrderState, at, operand_words, stack_words, argument_behind, argument_at, frame_word, frame_end, control_at}
-use Rattle.cw_order.specs.OrderChanges.{put_index, from_base, put_address, bind, if_inside, Way, Onward, ToMark, Barred, Nowhere, way_of_one, way_of_two, to_mark_if, to_mark_in, way_past_limit, way_behind, turn_if, turned, stepped_if, stepped_inside, next_step, mark_of_number, comparison}
+use Rattle.cw_order.specs.OrderChanges.{put_index, from_base, put_address, bind, if_inside, Way, Onward, ToMark, Barred, Nowhere, way_of_one, way_of_two, to_mark_if, to_mark_in, to_mark_of_switch, way_past_limit, way_behind, turn_if, turned, stepped_if, stepped_inside, next_step, mark_of_number, comparison}
 use Rattle.cw_order.specs.Loading.{loaded_after}
 use Rattle.cw_order.specs.OrderActions.{Action, Perform, Access, Alter, AlterWithin, Pass, Branch, GoMain, GoLabel, GoSwitch, Call, Enter, Return, EndBody, home_word, common_label, common_switch, common_procedure, place_address, action_of}
 use Rattle.cw_order.specs.OrderMachine.{go_on, go_at, after, unrefused, leave_for, dropped_by, called, call_at, enter_with, return_with, next_body, branch, go_to_entry, go_to, go_to_goal, go_by_list, go_through, call_entry, call, enter, come_back, end_body, act, carry_with, carry_out, step}
@@ -316,6 +316,10 @@ to_mark_in-fits : (m : Option ℕ) → Leads (to_mark_in m)
 to_mark_in-fits None w fits = fits
 to_mark_in-fits (Some m) w fits = fits
 
+to_mark_of_switch-fits : (m : Option ℕ) → Leads (to_mark_of_switch m)
+to_mark_of_switch-fits None w fits = tt
+to_mark_of_switch-fits (Some m) w fits = fits
+
 way_past_limit-fits : (b : Bool) (m : ℕ) (x : ℤ) (a : ℕ) → Leads (way_past_limit b m x a)
 way_past_limit-fits true m x a w fits = to_mark_if-fits _ m w fits
 way_past_limit-fits false m x a w fits = tt
@@ -411,6 +415,8 @@ action-fits p g acts (order.PutVariable line) all =
     (variable-put-fits p.limits.area (number_of a) a fa))
 action-fits p g acts (order.LoopWay marks) all = λ w fits.
     way_of_one-fits (λ i v. to_mark_in (mark_of_number marks i) v) (λ i. to_mark_in-fits (mark_of_number marks i)) w.operands fits.operands w fits
+action-fits p g acts (order.SwitchWay marks line) all = λ w fits.
+    way_of_one-fits (λ i v. to_mark_of_switch (mark_of_number marks i) v) (λ i. to_mark_of_switch-fits (mark_of_number marks i)) w.operands fits.operands w fits
 action-fits p g acts (order.LabelOut l) all = held-fits (Some (LabelControl g l (length acts)))
 action-fits p g acts (order.LabelCommon d) all = held-fits (common_label p g (length acts) d)
 action-fits p g acts (order.SwitchOut n) all = held-fits (Some (SwitchControl g n (length acts)))

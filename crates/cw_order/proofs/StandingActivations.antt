@@ -21,7 +21,7 @@ use Rattle.cw_order.specs.declared.order.Order.TheVariants as order
 use Rattle.cw_order.specs.declared.order.Orders.{Orders}
 use Rattle.cw_order.specs.OrderProgram.{LabelEntry, ProcedureEntry, OrderProgram, order_at, place_of, label_at, procedure_at, switch_at, label_of, defined_at}
 use Rattle.cw_order.specs.OrderState.{OrderActivation, OrderState, at, operand_words, stack_words, argument_behind, argument_at, frame_word, frame_end, control_in, control_at}
-use Rattle.cw_order.specs.OrderChanges.{put_index, from_base, put_address, bind, if_inside, Way, Onward, ToMark, Barred, Nowhere, way_of_one, way_of_two, to_mark_if, to_mark_in, way_past_limit, way_behind, turn_if, turned, stepped_if, stepped_inside, next_step, mark_of_number, comparison}
+use Rattle.cw_order.specs.OrderChanges.{put_index, from_base, put_address, bind, if_inside, Way, Onward, ToMark, Barred, Nowhere, way_of_one, way_of_two, to_mark_if, to_mark_in, to_mark_of_switch, way_past_limit, way_behind, turn_if, turned, stepped_if, stepped_inside, next_step, mark_of_number, comparison}
 use Rattle.cw_order.specs.Loading.{loaded_after}
 use Rattle.cw_order.specs.OrderActions.{Action, Perform, Access, Alter, AlterWithin, Pass, Branch, GoMain, GoLabel, GoSwitch, Call, Enter, Return, EndBody, home_word, common_label, common_switch, common_procedure, place_address, action_of}
 use Rattle.cw_order.specs.OrderMachine.{go_on, go_at, after, unrefused, leave_for, dropped_by, called, call_at, enter_with, return_with, next_body, branch, go_to_entry, go_to, go_to_goal, go_by_list, go_through, call_entry, call, enter, come_back, end_body, act, carry_with, carry_out, step}
@@ -231,6 +231,10 @@ module _ (P : Operand → Type 0) (plain : (z : ℤ) → P (Word z)) where
   to_mark_in-stands None n w l = l
   to_mark_in-stands (Some m) n w l = l
 
+  to_mark_of_switch-stands : (m : Option ℕ) → Leads (to_mark_of_switch m)
+  to_mark_of_switch-stands None n w l = tt
+  to_mark_of_switch-stands (Some m) n w l = l
+
   way_past_limit-stands : (b : Bool) (m : ℕ) (x : ℤ) (a : ℕ) → Leads (way_past_limit b m x a)
   way_past_limit-stands true m x a n w l = to_mark_if-stands _ m n w l
   way_past_limit-stands false m x a n w l = tt
@@ -423,6 +427,8 @@ module _ (p : OrderProgram) where
           (variable-put-stands P plain p.limits.area (number_of a) a))
       action-stands (order.LoopWay marks) = λ n w l.
           way_of_one-stands P plain (λ i v. to_mark_in (mark_of_number marks i) v) (λ i. to_mark_in-stands P plain (mark_of_number marks i)) w.operands n w l
+      action-stands (order.SwitchWay marks line) = λ n w l.
+          way_of_one-stands P plain (λ i v. to_mark_of_switch (mark_of_number marks i) v) (λ i. to_mark_of_switch-stands P plain (mark_of_number marks i)) w.operands n w l
       action-stands (order.LabelOut l) = held-stands P plain (Some (LabelControl g l (length acts))) (label_stands g l acts)
       action-stands (order.LabelCommon d) = held-stands P plain (common_label p g (length acts) d) (labels_stand g d acts (defined_at p g d) refl)
       action-stands (order.SwitchOut n) = held-stands P plain (Some (SwitchControl g n (length acts))) (switch_stands g n acts)

@@ -33,6 +33,7 @@ overflowing = record {
         labels = [];
         procedures = [];
         switches = [];
+        shared = [];
       }
       ∷ [];
   tables = no_tables ∷ [];
@@ -75,6 +76,7 @@ calling = record {
         labels = [];
         procedures = 0 ∷ [];
         switches = [];
+        shared = [];
       }
       ∷ [];
   tables = record no_tables { procedure = λ q. Some (record { mark = 0; arguments = 1 }) } ∷ [];

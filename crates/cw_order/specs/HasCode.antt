@@ -55,6 +55,7 @@ HasCode (order.GoSpecial k) = k < 256
 HasCode (order.GoSwitchSpecial k line) = k < 256
 -- an element's number is a word with a sign
 HasCode (order.LoopWay marks) = length marks < 32768
+HasCode (order.SwitchWay marks line) = length marks < 32768
 HasCode (order.Exhausted m) = Unit {0}
 HasCode (order.NextStep x line m) = Unit {0}
 HasCode (order.SetVariable line) = Unit {0}

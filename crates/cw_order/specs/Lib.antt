@@ -13,4 +13,5 @@ pub mod Example
 pub mod FittingWords
 pub mod Activations
 pub mod NamesAgree
+pub mod Sharing
 pub mod Spans

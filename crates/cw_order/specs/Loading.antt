@@ -57,6 +57,7 @@ loaded_after (order.JumpIf c mark) m = from_loaded false m
 loaded_after (order.Exhausted mark) m = from_loaded false m
 loaded_after (order.NextStep x line mark) m = from_free false m
 loaded_after (order.LoopWay marks) m = from_loaded false m
+loaded_after (order.SwitchWay marks line) m = from_loaded false m
 loaded_after order.Mark m = Some m
 loaded_after (order.Start line) m = Some m
 -- jumps to labels, the index of a switch in the accumulator

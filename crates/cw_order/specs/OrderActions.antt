@@ -12,7 +12,7 @@ use Rattle.cw_order.specs.declared.order.Order.{Order}
 use Rattle.cw_order.specs.declared.order.Order.TheVariants as order
 use Rattle.cw_order.specs.OrderProgram.{OrderProgram, defined_at}
 use Rattle.cw_order.specs.OrderState.{OrderActivation, argument_at, control_at, frame_word}
-use Rattle.cw_order.specs.OrderChanges.{index, from_base, difference, without_top, put_address, bind, Way, ToMark, way_of_one, way_of_two, to_mark_if, to_mark_in, comparison, set_variable, add_step, put_variable, way_past_limit, next_step, mark_of_number}
+use Rattle.cw_order.specs.OrderChanges.{index, from_base, difference, without_top, put_address, bind, Way, ToMark, way_of_one, way_of_two, to_mark_if, to_mark_in, to_mark_of_switch, comparison, set_variable, add_step, put_variable, way_past_limit, next_step, mark_of_number}
 
 -- Perform does an operation, which may stop at a line. Access does one that never stops, or not on an address that has been tested or is
 -- that of an item. Alter changes the words, and may stop; AlterWithin changes them and never stops. Branch goes on here or there, or stops at a line. GoMain
@@ -93,6 +93,7 @@ module _ (p : OrderProgram) where
       Branch 0 (way_of_two (λ x a v. way_past_limit (is_below a (p.limits.area - 2)) m x (number_of a) v))
   action_of g acts (order.NextStep x line m) = Branch line (next_step p.limits.area m (place_address g acts x))
   action_of g acts (order.LoopWay marks) = Branch 0 (λ w. way_of_one (λ i v. to_mark_in (mark_of_number marks i) v) w.operands w)
+  action_of g acts (order.SwitchWay marks line) = Branch line (λ w. way_of_one (λ i v. to_mark_of_switch (mark_of_number marks i) v) w.operands w)
   action_of g acts order.Mark = Pass
   action_of g acts (order.Start n) = Pass
   action_of g acts order.NextBody = EndBody

@@ -4,7 +4,7 @@ use Rattle.cw_word.specs.FixedPoint.{fits_word}
 use Rattle.cw_word.specs.Word.{signed, unsigned, word_difference}
 use Rattle.cw_unit.specs.declared.unit.CompareOp.{CompareOp}
 use Rattle.cw_unit.specs.declared.unit.CompareOp.TheVariants as compare
-use Rattle.cw_unit.specs.Stop.{StopKind, AddressRange}
+use Rattle.cw_unit.specs.Stop.{StopKind, AddressRange, SwitchRange}
 use Rattle.cw_unit.specs.Words.{Operand, Word, Words, Outcome, Changed, Refused, Impossible, with_operands, with_memory, put, put_if, is_below, number_of, on_one, on_two, word_at, at_address}
 use Rattle.cw_unit.specs.Operation.{Addressing, form_address, SetVariable, AddStep, perform, is_past}
 use Rattle.cw_order.specs.declared.order.Comparator.{Comparator}
@@ -85,6 +85,10 @@ to_mark_if false m w = Onward w
 abbrev pub to_mark_in : Option ℕ → Words → Way
 to_mark_in None w = Onward w
 to_mark_in (Some m) w = ToMark m w
+
+abbrev pub to_mark_of_switch : Option ℕ → Words → Way
+to_mark_of_switch None w = Barred SwitchRange
+to_mark_of_switch (Some m) w = ToMark m w
 
 abbrev pub comparison : Comparator → CompareOp
 comparison comparator.Less = compare.Less

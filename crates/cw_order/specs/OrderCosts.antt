@@ -46,8 +46,8 @@ weight_of (order.Element lower span line) = 26
 weight_of (order.ElementOfTwo lower second width span line) = 40
 weight_of (order.Entry width word span line) = 32
 weight_of (order.InArea line) = 18
--- two comparisons
-weight_of (order.InBounds lower upper line) = 20
+-- two comparisons; or one, behind that of another index
+weight_of (order.InBounds lower upper line) = 22
 -- ways within a body
 weight_of (order.Jump m) = 1
 -- an operand, a comparison, a short jump over a near one
@@ -63,6 +63,8 @@ weight_of (order.AddStep line) = 30
 weight_of (order.NextStep x line m) = 48
 -- the number is tested, and the way found in a table
 weight_of (order.LoopWay marks) = 12
+-- and a number that has none stops
+weight_of (order.SwitchWay marks line) = 26
 weight_of order.Mark = 0
 weight_of (order.Start n) = 1
 weight_of order.NextBody = 22

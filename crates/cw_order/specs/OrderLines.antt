@@ -20,6 +20,7 @@ line_of (order.SetVariable line) = line
 line_of (order.AddStep line) = line
 line_of (order.PutVariable line) = line
 line_of (order.NextStep x line m) = line
+line_of (order.SwitchWay marks line) = line
 line_of (order.GoSwitch n line) = line
 line_of (order.GoSwitchCommon d line) = line
 line_of (order.GoSwitchSpecial k line) = line

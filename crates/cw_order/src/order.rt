@@ -8,7 +8,7 @@
 //! The top operand is in the accumulator, or all operands are on the stack and the accumulator is free. An order that puts
 //! a word wants it free and loads it, one that takes the last word frees it, and `Save` frees it for the next operand.
 //! Arguments are put on the stack. An order that can stop, and one that calls, names the line that the stop tells.
-use cw_unit::unit::Goal;
+use cw_unit::unit::{Def, Goal};
 use cw_word::List;
 
 /// The comparisons of two words as signed numbers, the operand below with the top one.
@@ -168,6 +168,12 @@ pub enum Order {
     /// Takes the number of a loop's element, from 1, and goes on at the mark of that number; further on where it has
     /// none.
     LoopWay(List<u32>),
+    /// Takes the index of a switch, from 1, whose labels all stand in the body at work, and goes on at the mark of that
+    /// number; stops with Switch where it has none.
+    SwitchWay {
+        marks: List<u32>,
+        line: u16,
+    },
     /// The place of a mark. Does nothing.
     Mark,
     /// Puts a label of this unit, with the activation that owns it, as an argument.
@@ -259,7 +265,8 @@ pub struct LabelMark {
 
 /// The orders of a unit: the segment's body begins at place `entry` of the list, and `marks` tells the place of each
 /// mark. `labels` tells the mark of each label, `procedures` that of the first order of each procedure, and `switches`
-/// the labels of each switch.
+/// the labels of each switch. `shared` are the labels, switches and procedures that the unit defines in common: descriptors
+/// of other segments may stand for them.
 #[derive(Drop)]
 pub struct Orders {
     pub list: List<Order>,
@@ -268,4 +275,5 @@ pub struct Orders {
     pub labels: List<LabelMark>,
     pub procedures: List<u32>,
     pub switches: List<List<Goal>>,
+    pub shared: List<Def>,
 }

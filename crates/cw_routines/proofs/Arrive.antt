@@ -2,7 +2,8 @@
 use Rattle.std.proofs.Common.{◌≡◌, ℕ, ◌+◌, ◌%◌, ◌<◌, ◌≤◌, true, false, List, length, refl, sym, ap, subst, ◌∙◌, arith}
 use Rattle.cw_i86.specs.Encoding.{bytes_of}
 use Rattle.cw_i86.specs.State.{State, sign_extended}
-use Rattle.cw_i86.specs.Effect.{holds as meets, jumped_if}
+use Rattle.std.specs.Prelude.{slice_index, ◌==◌}
+use Rattle.cw_i86.specs.Effect.{holds as meets, jumped_if, looped}
 use Rattle.cw_i86.specs.declared.flags.Flags.{Flags}
 use Rattle.cw_i86.specs.declared.instr.Instr.{Instr}
 use Rattle.cw_i86.specs.declared.instr.Instr.TheVariants as i86
@@ -60,6 +61,25 @@ module _ (finds : Finds) {code : List ℕ} {at : ℕ} {v : View} {f : Flags} {p 
   passes_if cond by h is s =
       let j = i86.JumpIf cond by in
       let met : meets p.state.flags cond ≡ false = ap (λ f. meets f cond) s.flags ∙ is in
+      arrives finds {w = v} {t = jumped_if (behind j p.state) false by} j (omega arith) (omega arith) h s
+      (ap (λ b. with_state (jumped_if (behind j p.state) b by) p) met)
+      (held s) refl s.sees.registers (past_it _ at 2 s.sees.place) s.flags refl refl
+
+  -- JCXZ
+  pub jumps_if_none : (by : ℕ) → Has code at (i86.Loop 3 by) → slice_index v.registers 1 ≡ 0 → At code at v f p → At code (at + 2 + sign_extended by) v f (processor_step p)
+  unfolding looped
+  jumps_if_none by h is s =
+      let j = i86.Loop 3 by in
+      let met : (slice_index p.state.registers 1 == 0) ≡ true = ap (λ rs. slice_index rs 1 == 0) s.sees.registers ∙ ap (λ n. n == 0) is in
+      arrives finds {w = v} {t = jumped_if (behind j p.state) true by} j (omega arith) (omega arith) h s
+      (ap (λ b. with_state (jumped_if (behind j p.state) b by) p) met)
+      (held s) refl s.sees.registers (past_by _ at 2 (sign_extended by) s.sees.place) s.flags refl refl
+
+  pub passes_if_some : (by : ℕ) → Has code at (i86.Loop 3 by) → (slice_index v.registers 1 == 0) ≡ false → At code at v f p → At code (at + 2) v f (processor_step p)
+  unfolding looped
+  passes_if_some by h is s =
+      let j = i86.Loop 3 by in
+      let met : (slice_index p.state.registers 1 == 0) ≡ false = ap (λ rs. slice_index rs 1 == 0) s.sees.registers ∙ is in
       arrives finds {w = v} {t = jumped_if (behind j p.state) false by} j (omega arith) (omega arith) h s
       (ap (λ b. with_state (jumped_if (behind j p.state) b by) p) met)
       (held s) refl s.sees.registers (past_it _ at 2 s.sees.place) s.flags refl refl

@@ -34,10 +34,10 @@ tells_of {bp = bp} {r = r} i =
     record { there = (let e : (bp + 65534) % 65536 ≡ 2 * (r + 3) = omega arith in e); low = (let e : r + 3 < 32768 = omega arith in e); number = i.number; few = i.few }
 
 -- the slots of a record
-calls_there : {stack : ℕ → ℕ} {bp r segment calls base rest : ℕ} → RecordIs stack bp r segment calls base rest → (r + 2 < 32768) × ((bp + 65532) % 65536 ≡ 2 * (r + 2))
+pub calls_there : {stack : ℕ → ℕ} {bp r segment calls base rest : ℕ} → RecordIs stack bp r segment calls base rest → (r + 2 < 32768) × ((bp + 65532) % 65536 ≡ 2 * (r + 2))
 calls_there i = let there = i.there in let low = i.low in (omega arith, omega arith)
 
-rest_there : {stack : ℕ → ℕ} {bp r segment calls base rest : ℕ} → RecordIs stack bp r segment calls base rest → (r < 32768) × ((bp + 65528) % 65536 ≡ 2 * r)
+pub rest_there : {stack : ℕ → ℕ} {bp r segment calls base rest : ℕ} → RecordIs stack bp r segment calls base rest → (r < 32768) × ((bp + 65528) % 65536 ≡ 2 * r)
 rest_there i = let there = i.there in let low = i.low in (omega arith, omega arith)
 
 -- four words on the stack
@@ -62,14 +62,14 @@ four_3 stack n a b c d =
     ∙ put_off (put_word (put_word stack (n + 3) a) (n + 2) b) (n + 1) c (n + 3) (λ e. omega arith)
     ∙ put_off (put_word stack (n + 3) a) (n + 2) b (n + 3) (λ e. omega arith) ∙ put_at stack (n + 3) a
 
-four_above : (stack : ℕ → ℕ) (n a b c d k : ℕ) → n + 3 < k → four stack n a b c d k ≡ stack k
+pub four_above : (stack : ℕ → ℕ) (n a b c d k : ℕ) → n + 3 < k → four stack n a b c d k ≡ stack k
 four_above stack n a b c d k lt =
     put_off (put_word (put_word (put_word stack (n + 3) a) (n + 2) b) (n + 1) c) n d k (λ e. omega arith)
     ∙ put_off (put_word (put_word stack (n + 3) a) (n + 2) b) (n + 1) c k (λ e. omega arith)
     ∙ put_off (put_word stack (n + 3) a) (n + 2) b k (λ e. omega arith) ∙ put_off stack (n + 3) a k (λ e. omega arith)
 
 -- a new record on top
-new_record : (stack : ℕ → ℕ) (n segment calls base rest : ℕ) → n < 32765 → segment < 256
+pub new_record : (stack : ℕ → ℕ) (n segment calls base rest : ℕ) → n < 32765 → segment < 256
     → RecordIs (four stack n segment calls base rest) (2 * (n + 4) % 65536) n segment calls base rest
 new_record stack n segment calls base rest low few = record {
   there = refl;
@@ -81,11 +81,11 @@ new_record stack n segment calls base rest low few = record {
   rest_is = four_0 stack n segment calls base rest;
 }
 
-none_left : (n : ℕ) → nat_lt 0 n ≡ false → n ≡ 0
+pub none_left : (n : ℕ) → nat_lt 0 n ≡ false → n ≡ 0
 none_left zero e = refl
 none_left (suc n) e = absurd (grind (arith, nat_tests))
 
-not_within : (a b : ℕ) → nat_le a b ≡ false → b < a
+pub not_within : (a b : ℕ) → nat_le a b ≡ false → b < a
 not_within a b e = grind (arith, nat_tests)
 
 -- of AL and itself
@@ -106,8 +106,8 @@ tested_none : (w : ℕ) (f : Flags) → w % 256 ≡ 0 → meets (logic_flags 128
 unfolding meets
 tested_none w f e = ap (λ n. not (bit_and n n == 0)) e
 
-module _ (finds : Finds) (Quiet : ℕ → Type 0) (code : List ℕ) (stands : Stands code) (library : (k : ℕ) → k < 430 → Quiet k) where
-  quiet : {at : ℕ} (to : ℕ) → to ≤ 430 → (k : ℕ) → at ≤ k → k < to → Quiet k
+module _ (finds : Finds) (Quiet : ℕ → Type 0) (code : List ℕ) (stands : Stands code) (library : (k : ℕ) → k < 438 → Quiet k) where
+  quiet : {at : ℕ} (to : ℕ) → to ≤ 438 → (k : ℕ) → at ≤ k → k < to → Quiet k
   quiet {at} to le = run finds Quiet code stands library {at = at} to le
 
   -- ---- the start of a body

@@ -8,6 +8,7 @@ pub mod Stops
 pub mod Loops
 pub mod NextStep
 pub mod Begins
+pub mod Frames
 pub mod Numbers
 pub mod Quotients
 pub mod Valid

@@ -39,8 +39,8 @@ turned_value a lt = grind (arith, ints, nat_tests)
 turned_order : (x y : ℤ) → int_le (negsuc 0 -ℤ x) (negsuc 0 -ℤ y) ≡ not (int_lt x y)
 turned_order x y = grind (arith, ints, nat_tests)
 
-module _ (finds : Finds) (laws : WordLaws) (Quiet : ℕ → Type 0) (code : List ℕ) (stands : Stands code) (library : (k : ℕ) → k < 430 → Quiet k) where
-  quiet : {at : ℕ} (to : ℕ) → to ≤ 430 → (k : ℕ) → at ≤ k → k < to → Quiet k
+module _ (finds : Finds) (laws : WordLaws) (Quiet : ℕ → Type 0) (code : List ℕ) (stands : Stands code) (library : (k : ℕ) → k < 438 → Quiet k) where
+  quiet : {at : ℕ} (to : ℕ) → to ≤ 438 → (k : ℕ) → at ≤ k → k < to → Quiet k
   quiet {at} to le = run finds Quiet code stands library {at = at} to le
 
   module _ (area a line bp n r segment back : ℕ) (stack : ℕ → ℕ) (input : List ℕ) (told : Told) (inside_area : a < area) (line_small : line < 65536) (way : stack n ≡ back)

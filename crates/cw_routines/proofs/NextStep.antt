@@ -35,7 +35,7 @@ use Rattle.cw_routines.proofs.Places.{to_place, next_step_stands, stepped_stands
 use Rattle.cw_routines.proofs.Stops.{step_address_stops, step_sum_stops, run}
 use Rattle.cw_routines.proofs.Loops.{not_greater}
 
-module _ (finds : Finds) (laws : WordLaws) (Quiet : ℕ → Type 0) (code : List ℕ) (stands : Stands code) (library : (k : ℕ) → k < 430 → Quiet k) where
+module _ (finds : Finds) (laws : WordLaws) (Quiet : ℕ → Type 0) (code : List ℕ) (stands : Stands code) (library : (k : ℕ) → k < 438 → Quiet k) where
   module _ (area a mark line bp n r segment back dx : ℕ) (stack : ℕ → ℕ) (input : List ℕ) (told : Told) (small : a + 3 < area)
       (line_there : HasWord code (back + 5) line) (line_small : line < 65536) (n_low : n < 32767) (way : stack n ≡ back) (back_small : back < 65536) (record_is : Tells stack bp r segment) where
     abbrev On : Way → Processor → Type 0
@@ -44,7 +44,7 @@ module _ (finds : Finds) (laws : WordLaws) (Quiet : ℕ → Type 0) (code : List
     abbrev Here : (at ax cx si : ℕ) → Flags → (ℕ → ℕ) → Processor → Type 0
     Here at ax cx si f cells p = At code at (view ax cx dx (2 * a) (2 * n) bp si area cells stack input told) f p
 
-    quiet : {at : ℕ} (to : ℕ) → to ≤ 430 → (k : ℕ) → at ≤ k → k < to → Quiet k
+    quiet : {at : ℕ} (to : ℕ) → to ≤ 438 → (k : ℕ) → at ≤ k → k < to → Quiet k
     quiet {at} to le = run finds Quiet code stands library {at = at} to le
 
     -- the first three words of the loop, which are the address of the control variable, the step and the limit; and the sum of the step and the word at
@@ -91,7 +91,7 @@ module _ (finds : Finds) (laws : WordLaws) (Quiet : ℕ → Type 0) (code : List
     answered true w t = t
     answered false w t = t
 
-    returned : (b : Bool) {at ax cx si : ℕ} {f : Flags} {cells : ℕ → ℕ} {p : Processor} (w : Words) → at < 430 → Has code at i86.Ret → meets f 14 ≡ b
+    returned : (b : Bool) {at ax cx si : ℕ} {f : Flags} {cells : ℕ → ℕ} {p : Processor} (w : Words) → at < 438 → Has code at i86.Ret → meets f 14 ≡ b
         → Holds area w.memory cells → Here at ax cx si f cells p → Leads Quiet code told.output 1 p (On (to_mark_if b mark w))
     returned b {at} {ax} {cx} {si} {f} {cells} {p} w lt i e h s =
         let whole : back ≡ back % 65536 = omega arith in
@@ -121,7 +121,7 @@ module _ (finds : Finds) (laws : WordLaws) (Quiet : ℕ → Type 0) (code : List
     abbrev Compared : (at ax cx : ℕ) → List ℤ → (ℕ → ℕ) → Processor → Type 0
     Compared at ax cx memory cells p = Here at ax cx (unsigned (variable memory)) (difference_flags 32768 (unsigned (variable memory)) area false) cells p
 
-    compares : (at by : ℕ) → HasAll code at (addressed by) → at + 6 ≤ 430 → {ax cx si : ℕ} {f : Flags} {cells : ℕ → ℕ} {p : Processor} {memory : List ℤ}
+    compares : (at by : ℕ) → HasAll code at (addressed by) → at + 6 ≤ 438 → {ax cx si : ℕ} {f : Flags} {cells : ℕ → ℕ} {p : Processor} {memory : List ℤ}
         → Holds area memory cells → Here at ax cx si f cells p → Leads Quiet code told.output 2 p (Compared (at + 2 + 2) ax cx memory cells)
     compares at by g low {memory = memory} h s =
         let e : a < 32768 = below_half h (omega arith) in
@@ -130,7 +130,7 @@ module _ (finds : Finds) (laws : WordLaws) (Quiet : ℕ → Type 0) (code : List
         ((lit< tt, lit≤ tt), (refl, e, refl, h.words a (omega arith)), ((lit< tt, lit≤ tt), tt, tt)) s (λ q u. done Quiet code told.output u)
 
     -- outside the area
-    outside_stops : (at by : ℕ) → HasAll code at (addressed by) → at + 6 ≤ 430 → (at + 2 + 2 + 2 + sign_extended by) % 65536 ≡ 416
+    outside_stops : (at by : ℕ) → HasAll code at (addressed by) → at + 6 ≤ 438 → (at + 2 + 2 + 2 + sign_extended by) % 65536 ≡ 416
         → {ax cx si : ℕ} {f : Flags} {cells : ℕ → ℕ} {p : Processor} {memory : List ℤ} → Holds area memory cells → is_below (variable memory) area ≡ false
         → Here at ax cx si f cells p → Leads Quiet code told.output 16 p (Over told.output AddressRange segment line)
     outside_stops at by g low there {memory = memory} h is s =
@@ -141,7 +141,7 @@ module _ (finds : Finds) (laws : WordLaws) (Quiet : ℕ → Type 0) (code : List
         bad_address u))
 
     -- within it
-    inside_passes : (at by : ℕ) → HasAll code at (addressed by) → at + 6 ≤ 430 → {ax cx si : ℕ} {f : Flags} {cells : ℕ → ℕ} {p : Processor} {memory : List ℤ}
+    inside_passes : (at by : ℕ) → HasAll code at (addressed by) → at + 6 ≤ 438 → {ax cx si : ℕ} {f : Flags} {cells : ℕ → ℕ} {p : Processor} {memory : List ℤ}
         → Holds area memory cells → is_below (variable memory) area ≡ true → Here at ax cx si f cells p
         → Leads Quiet code told.output 3 p (Compared (at + 2 + 2 + 2) ax cx memory cells)
     inside_passes at by g low {memory = memory} h is s =

@@ -5,7 +5,7 @@ use Rattle.cw_i86.specs.declared.flags.Flags.{Flags}
 use Rattle.cw_i86.specs.declared.instr.Instr.{Instr}
 use Rattle.cw_run86.specs.Processor.{Processor}
 use Rattle.cw_run86.specs.Views.{View, Sees}
-use Rattle.cw_tmpl.specs.Library.{routines, joined, start_routine, stop_routine, line_taken, tell, told_stop, enter_routine, read_routine, set_variable_routine, add_step_routine, put_variable_routine, exhausted_routine, product_routine, too_large, quotient_down_routine, quotient_up_routine, quotient_end, next_step_test, stepped, left, stepped_any, turned, step_address_stop, step_sum_stop, step_line}
+use Rattle.cw_tmpl.specs.Library.{routines, joined, start_routine, stop_routine, line_taken, tell, told_stop, enter_routine, read_routine, set_variable_routine, add_step_routine, put_variable_routine, exhausted_routine, product_routine, too_large, quotient_down_routine, quotient_up_routine, quotient_end, next_step_test, stepped, left, stepped_any, turned, step_address_stop, step_sum_stop, step_line, enter_stop}
 use Rattle.cw_routines.specs.Ways.{At, HasAll}
 use Rattle.cw_routines.specs.Results.{Stands}
 
@@ -213,3 +213,9 @@ module _ (code : List ℕ) (stands : Stands code) where
 
   pub step_line_stands : HasAll code 422 step_line
   step_line_stands = has_front code 422 step_line (joined (drop 31 routines)) from_30
+
+  from_31 : HasAll code 430 (joined (drop 31 routines))
+  from_31 = has_back code 422 step_line (joined (drop 31 routines)) from_30
+
+  pub enter_stop_stands : HasAll code 430 enter_stop
+  enter_stop_stands = has_front code 430 enter_stop (joined (drop 32 routines)) from_31

@@ -63,8 +63,8 @@ rest_of k few = omega arith
 rest_low : (k : ℕ) → k ≤ 16 → word_sum (word_difference 0 k) 16 % 256 ≡ 16 - k
 rest_low k few = omega arith
 
-module _ (finds : Finds) (laws : NumberLaws) (Quiet : ℕ → Type 0) (code : List ℕ) (stands : Stands code) (library : (k : ℕ) → k < 430 → Quiet k) where
-  quiet : {at : ℕ} (to : ℕ) → to ≤ 430 → (k : ℕ) → at ≤ k → k < to → Quiet k
+module _ (finds : Finds) (laws : NumberLaws) (Quiet : ℕ → Type 0) (code : List ℕ) (stands : Stands code) (library : (k : ℕ) → k < 438 → Quiet k) where
+  quiet : {at : ℕ} (to : ℕ) → to ≤ 438 → (k : ℕ) → at ≤ k → k < to → Quiet k
   quiet {at} to le = run finds Quiet code stands library {at = at} to le
 
   -- ---- the ends
@@ -86,7 +86,7 @@ module _ (finds : Finds) (laws : NumberLaws) (Quiet : ℕ → Type 0) (code : Li
     remade {at} {to} {x} {y} {cx} {dx} {bx} {b} {si} {m} {f} {p} ea ex eb em s = subst (λ n. Here n y cx dx b m f p) ea
         (subst (λ n. Here at n cx dx b m f p) ex (subst (λ n. Here at x cx dx n m f p) eb (subst (λ n. Here at x cx dx bx n f p) em s)))
 
-    returned : (P : ℕ → Flags → Type 0) (at ax cx dx bx si : ℕ) (f : Flags) {p : Processor} → at < 430 → Has code at i86.Ret → P ax f → Here at ax cx dx bx si f p
+    returned : (P : ℕ → Flags → Type 0) (at ax cx dx bx si : ℕ) (f : Flags) {p : Processor} → at < 438 → Has code at i86.Ret → P ax f → Here at ax cx dx bx si f p
         → Leads Quiet code told.output 1 p (Answer P)
     returned P at ax cx dx bx si f lt i holds s =
         let whole : back ≡ back % 65536 = omega arith in

@@ -53,9 +53,9 @@ same_shown kind o output k s segment l line eo ek es el =
     ap (λ x. made x (end_told k s l)) eo ∙ ap (λ x. made output (end_told x s l)) ek ∙ ap (λ x. made output (end_told (stop_number kind) x l)) es
     ∙ ap (λ x. made output (end_told (stop_number kind) segment x)) el ∙ ap (made output) (kind_shows kind segment line)
 
-module _ (finds : Finds) (Quiet : ℕ → Type 0) (code : List ℕ) (stands : Stands code) (library : (k : ℕ) → k < 430 → Quiet k) where
+module _ (finds : Finds) (Quiet : ℕ → Type 0) (code : List ℕ) (stands : Stands code) (library : (k : ℕ) → k < 438 → Quiet k) where
   -- places from one on, up to another
-  pub run : {at : ℕ} (to : ℕ) → to ≤ 430 → (k : ℕ) → at ≤ k → k < to → Quiet k
+  pub run : {at : ℕ} (to : ℕ) → to ≤ 438 → (k : ℕ) → at ≤ k → k < to → Quiet k
   run to le k lo hi = library k (omega arith)
 
   -- the kind in AL is told, with the segment of the record and the line in DX
@@ -87,7 +87,7 @@ module _ (finds : Finds) (Quiet : ℕ → Type 0) (code : List ℕ) (stands : St
   -- a stop with the line in DX
   pub told_stops : (kind : StopKind) (place by r segment : ℕ) {ax cx line bx sp bp si di : ℕ} {cells stack : ℕ → ℕ} {input : List ℕ} {told : Told} {f : Flags} {p : Processor}
       → HasAll code place (told_stop (stop_number kind) by)
-      → place + 4 ≤ 430 → (place + 2 + 2 + sign_extended by) % 65536 ≡ 55 → Tells stack bp r segment → line < 65536
+      → place + 4 ≤ 438 → (place + 2 + 2 + sign_extended by) % 65536 ≡ 55 → Tells stack bp r segment → line < 65536
       → At code place (view ax cx line bx sp bp si di cells stack input told) f p → Leads Quiet code told.output 10 p (Over told.output kind segment line)
   told_stops kind place by r segment {ax} {told = told} h low there t small s =
       let e : (place + 2) % 65536 ≡ place + 2 = omega arith in
@@ -109,7 +109,7 @@ module _ (finds : Finds) (Quiet : ℕ → Type 0) (code : List ℕ) (stands : St
       tells kind r segment is t small u)
 
   -- the routine of a stop with the line behind its call
-  pub line_stops : (kind : StopKind) (from ahead : ℕ) → HasAll code from (stop_routine (stop_number kind) ahead) → from + 4 ≤ 430
+  pub line_stops : (kind : StopKind) (from ahead : ℕ) → HasAll code from (stop_routine (stop_number kind) ahead) → from + 4 ≤ 438
       → (from + 2 + 2 + sign_extended ahead) % 65536 ≡ 51
       → (place line n r segment : ℕ) {ax cx dx bx bp si di : ℕ} {f : Flags} {cells stack : ℕ → ℕ} {input : List ℕ} {told : Told} {p : Processor} → n < 32768 → stack n ≡ place
       → HasWord code place line → line < 65536

@@ -6,6 +6,7 @@ use Rattle.cw_i86.specs.declared.flags.Flags.{Flags}
 use Rattle.cw_i86.specs.declared.instr.Instr.{Instr}
 use Rattle.cw_i86.specs.declared.instr.Instr.TheVariants as i86
 use Rattle.cw_run86.specs.Processor.{Processor, Told}
+use Rattle.cw_run86.specs.Views.{with_number}
 use Rattle.cw_word.specs.FixedPoint.{FitsWord, fits_word}
 use Rattle.cw_word.specs.Word.{unsigned}
 use Rattle.cw_unit.specs.Stop.{StopKind, AddressRange, DepthReached, FramesFull}
@@ -126,6 +127,28 @@ EnterRoutine Silent code place bound =
     → Within Silent code told.output bound p
     (Begins code told.output (nat_lt 0 calls) (nat_le size rest) line segment
     (Entered code (at + 4) m bp number (calls - 1) (2 * (area - rest) % 65536) (rest - size) area cells stack input told))
+
+-- What begins an activation whose frame has so many words. The number of the segment stands in the code at a place, and the way to the stop of
+-- the library is a distance.
+abbrev pub begin : (size place by : ℕ) → List Instr
+begin size place by =
+    short.load short.cx (short.slot short.calls_slot) ∷ short.jump_if_cx_zero 14
+    ∷ short.load short.ax (short.slot short.rest_slot) ∷ short.move short.bx short.di ∷ short.subtract short.bx short.ax ∷ short.double short.bx
+    ∷ with_number 5 size ∷ short.jump_if_not_below 3 ∷ i86.Jump by
+    ∷ short.decrease short.cx ∷ i86.Push short.bp ∷ short.move short.bp short.sp ∷ i86.PushRm (short.code_at place)
+    ∷ i86.Push short.cx ∷ i86.Push short.bx ∷ i86.Push short.ax ∷ []
+
+-- Such an activation, with the line in DX and the way back on top of the stack. The frame begins where the caller's ends. It takes one instruction,
+-- and no more than so many further ones.
+abbrev pub Beginning : (Silent : ℕ → Type 0) → (code : List ℕ) → (at size number bound : ℕ) → Type 0
+Beginning Silent code at size number bound =
+    (m line r segment calls base rest ax cx bx bp si area : ℕ) (flags : Flags) (cells stack : ℕ → ℕ) (input : List ℕ) (told : Told) (p : Processor)
+    → m + 4 < 32767 → line < 65536 → calls < 65536 → number < 256 → size < 65536 → rest ≤ area → area ≤ 32768
+    → RecordIs stack bp r segment calls base rest
+    → At code at (view ax cx line bx (2 * suc (m + 4)) bp si area cells stack input told) flags p
+    → Leads Silent code told.output 1 p (λ q. Within Silent code told.output bound q
+    (Begins code told.output (nat_lt 0 calls) (nat_le size rest) line segment
+    (Entered code (at + 34) m bp number (calls - 1) (2 * (area - rest) % 65536) (rest - size) area cells stack input told)))
 
 -- what ends an activation, and drops so many words of arguments
 abbrev pub leave : (words : ℕ) → List Instr

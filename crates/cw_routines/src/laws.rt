@@ -1,6 +1,6 @@
 //! Laws of the routines. Each holds of every code in which the library stands, and counts the instructions. At each of them the processor is
 //! at work at a place of the library, or of the code that the law names, and has told no more output.
-ghost use Rattle.std.specs.Prelude.{◌≡◌, ◌≢◌, ◌≤◌, ◌<◌, ℕ, suc, ◌+◌, ℤ, pos, negsuc, Bool, true, unsigned_abs, int_rem, length, List, ◌++◌};
+ghost use Rattle.std.specs.Prelude.{◌≡◌, ◌≢◌, ◌≤◌, ◌<◌, ℕ, suc, ◌+◌, ◌%◌, ℤ, pos, negsuc, Bool, true, unsigned_abs, int_rem, length, List, ◌++◌};
 ghost use Rattle.cw_word.specs.Word.{unsigned};
 ghost use Rattle.cw_word.specs.FixedPoint.{FitsWord, scaled_product, scaled_quotient};
 ghost use Rattle.cw_run86.specs.Processor.{Processor, processor_step, with_end};
@@ -9,9 +9,9 @@ ghost use Rattle.cw_i86.specs.MachineRun.{Bad};
 ghost use Rattle.cw_i86.specs.declared.instr.Instr.TheVariants as i86;
 ghost use Rattle.cw_unit.specs.Stop.{Overflow, ZeroDivisor, SwitchRange, AddressRange, IndexRange};
 ghost use Rattle.cw_tmpl.specs.Mnemonics.{divide_signed};
-ghost use Rattle.cw_tmpl.specs.Library.{library_bytes, retired_place, start_place, stop_place, enter_place, read_place, set_variable_place, add_step_place, put_variable_place, exhausted_place, next_step_place, product_place, quotient_down_place, quotient_up_place};
-ghost use Rattle.cw_routines.specs.Ways.{HasAll, QuietAll};
-ghost use Rattle.cw_routines.specs.Results.{Stands, Quiet, InLibrary, StartRoutine, StopRoutine, ToldStop, EnterRoutine, leave, Leaving, ReadRoutine, SetRoutine, StepRoutine, PutRoutine, ExhaustedRoutine, NextStepRoutine, WordRoutine, divisor_test, DivisorTest};
+ghost use Rattle.cw_tmpl.specs.Library.{library_bytes, retired_place, start_place, stop_place, enter_place, read_place, set_variable_place, add_step_place, put_variable_place, exhausted_place, next_step_place, product_place, quotient_down_place, quotient_up_place, enter_stop_place};
+ghost use Rattle.cw_routines.specs.Ways.{HasAll, HasWord, QuietAll};
+ghost use Rattle.cw_routines.specs.Results.{Stands, Quiet, InLibrary, StartRoutine, StopRoutine, ToldStop, EnterRoutine, begin, Beginning, leave, Leaving, ReadRoutine, SetRoutine, StepRoutine, PutRoutine, ExhaustedRoutine, NextStepRoutine, WordRoutine, divisor_test, DivisorTest};
 
 use cw_run86::laws::fetching;
 use cw_word::laws::{many_places, products, quotients, readings, scaling, sums};
@@ -41,9 +41,11 @@ pub fn bodies()
     fetching();
 }
 
-/// Activations begin, or stop with Depth or Frames, and end in the code of a segment. A byte is read.
+/// Activations begin, by the routine or by the code of a segment, or stop with Depth or Frames, and end in the code of a segment. A byte is read.
 pub fn calls()
     ensures enter { (quiet : ℕ → Bool) (code : List ℕ) → Stands code → InLibrary quiet → EnterRoutine (Quiet quiet) code enter_place 18 }
+    ensures beginning { (quiet : ℕ → Bool) (code : List ℕ) → Stands code → InLibrary quiet → (at size place number by : ℕ) → (at + 22 + by) % 65536 ≡ enter_stop_place →
+        HasWord code place number → QuietAll (Quiet quiet) at (begin size place by) → HasAll code at (begin size place by) → Beginning (Quiet quiet) code at size number 20 }
     ensures leaving { (quiet : ℕ → Bool) (code : List ℕ) (at words : ℕ) → QuietAll (Quiet quiet) at (leave words) → HasAll code at (leave words) →
         Leaving (Quiet quiet) code at words }
     ensures read { (quiet : ℕ → Bool) (code : List ℕ) → Stands code → InLibrary quiet → ReadRoutine (Quiet quiet) code read_place 6 }

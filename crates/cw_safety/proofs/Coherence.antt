@@ -23,7 +23,7 @@ use Rattle.cw_safety.specs.WellFormed.{WellFormed, is_at, sets_in_procedure, rea
 use Rattle.cw_safety.specs.Depth.{owner_of, operands_held, depth_at, depth_of_unit, depth_of_procedure}
 use Rattle.cw_safety.specs.Coherent.{argument_words, stack_words, words_held, IsOwned, Names, Coherent, IsCoherent}
 use Rattle.cw_safety.proofs.Truth.{no, both, nat_same}
-use Rattle.cw_safety.proofs.Typing.{onto, ControlFits, HaveKinds, CanJump, Typed, Calls, Holds, Safe}
+use Rattle.cw_safety.proofs.Typing.{onto, Pop, ControlFits, HaveKinds, CanJump, Typed, Calls, Holds, Safe}
 use Rattle.cw_safety.proofs.Jumping.{label-of, switch-of, control-fits, goal_at-reached, named-here, switched-here}
 use Rattle.cw_safety.proofs.Calling.{kinds-same, kinds-length, unit_of-procedure, suited}
 use Rattle.cw_safety.proofs.Stepping.{run-safe, held-weighs}
@@ -120,6 +120,13 @@ module _ (p : Program) where
     nothing-held acts [] ks e h = refl
     nothing-held acts (x ∷ xs) ks e h = absurd (subst (HaveKinds p acts (x ∷ xs)) e h)
 
+    nothing-left : (ks : List Kind) → Pop (λ r. r ≡ []) ks → length ks ≡ 1
+    nothing-left [] h = absurd h
+    nothing-left (WordKind ∷ ks) h = ap (λ r. suc (length r)) h
+    nothing-left (LabelKind ∷ ks) h = absurd h
+    nothing-left (SwitchKind ∷ ks) h = absurd h
+    nothing-left (ProcedureKind ts ∷ ks) h = absurd h
+
     no-calls : (acts : List Activation) → owner_of acts ≡ None → acts ≡ []
     no-calls [] e = refl
     no-calls (a ∷ acts) e = absurd (none-some (a.segment, a.procedure) (sym e))
@@ -135,6 +142,7 @@ module _ (p : Program) where
       arguments = λ t line wanted next e h n q callee found.
           let j = subst (λ x. Holds p s x acts w) e i in enough s (Enter t line wanted next) acts w t wanted j.6.0 j.6.1 h n q j j.6.2 j.6.3 callee found;
       empty = λ g line e. let j = subst (λ x. Holds p s x acts w) e i in nothing-held acts w.operands j.3 j.6.0 j.4;
+      alone = λ n a line e. let j = subst (λ x. Holds p s x acts w) e i in kinds-length p acts w.operands j.3 j.4 ∙ nothing-left j.3 j.6.0;
       owners = λ d line e h label owner n. let j = subst (λ x. Holds p s x acts w) e i in jump-owned d s acts j.3 j.2 j.6 h label owner n;
       ends = λ e. let j = subst (λ x. Holds p s x acts w) e i in (no-calls acts j.6.1, nothing-held acts w.operands j.3 j.6.0 j.4);
     }

@@ -229,7 +229,7 @@ module _ (p : Program) (g : ℕ) (o : Option (ℕ × ℕ)) where
     go-typed (dest.Goal l) line e b = (refl, e)
     go-typed (dest.Special k) line e b = e
     go-typed (dest.Switch n a) line e b =
-        let parts = both (is_expression p g o a) (formed.reaches_switch p o (Some (g, n))) e in (parts.0, omega (arith, b), (tt, parts.1))
+        let parts = both (is_expression p g o a) (formed.reaches_switch p o (Some (g, n))) e in (parts.0, omega (arith, b), (refl, parts.1))
     go-typed (dest.CommonSwitch m a) line e b =
         let parts = both (is_expression p g o a) (formed.reaches_switch p o (switch_of_def (definition_of p g m))) e in (parts.0, omega (arith, b), (tt, parts.1))
     go-typed (dest.SpecialSwitch k a) line e b =

@@ -43,6 +43,14 @@ switch-of (Some LabelKind) h = no h
 switch-of (Some SwitchKind) h = refl
 switch-of (Some (ProcedureKind ts)) h = no h
 
+-- a word that is alone is taken
+alone-taken : (ks : List Kind) → Pop (λ r. r ≡ []) ks → Pop (λ r. Unit {0}) ks
+alone-taken [] h = absurd h
+alone-taken (WordKind ∷ ks) h = tt
+alone-taken (LabelKind ∷ ks) h = absurd h
+alone-taken (SwitchKind ∷ ks) h = absurd h
+alone-taken (ProcedureKind ts ∷ ks) h = absurd h
+
 module _ (p : Program) where
   pub calls-drop : (n s : ℕ) (acts : List Activation) → Calls p s acts → Calls p s (drop n acts)
   calls-drop zero s acts c = c
@@ -189,7 +197,7 @@ module _ (p : Program) where
         let f = control-fits s acts i.2 k LabelKind (label-of (slice_get (controls_of p (owner_of acts)) k) j) in
         subst (λ x. Safe p (jump_to_control p x s now acts w)) (sym f.1) (jump_to_control-safe f.0 s now acts w i f.2)
     jump_step-safe (dest.Switch n e) s line now acts w i j =
-        let x : Option (ℕ × ℕ) = Some (segment_of s acts, n) in jump_by_switch-safe x (length acts) s line now acts w i j.0 (switched-here acts x j.1)
+        let x : Option (ℕ × ℕ) = Some (segment_of s acts, n) in jump_by_switch-safe x (length acts) s line now acts w i (alone-taken i.3 j.0) (switched-here acts x j.1)
     jump_step-safe (dest.CommonSwitch d e) s line now acts w i j =
         let x : Option (ℕ × ℕ) = switch_of_def (definition_of p (segment_of s acts) d) in
         jump_by_switch-safe x (length acts) s line now acts w i j.0 (switched-here acts x j.1)

@@ -119,7 +119,7 @@ module _ (p : Program) where
     abbrev pub CanJump : Dest → List Kind → Type 0
     CanJump (dest.Goal l) ks = (ks ≡ []) × IsTrue (reaches p o (label_of_goal p g l))
     CanJump (dest.Special k) ks = IsTrue (is_label (slice_get (controls_of p o) k))
-    CanJump (dest.Switch n e) ks = Pop (λ r. Unit {0}) ks × IsTrue (reaches_switch p o (Some (g, n)))
+    CanJump (dest.Switch n e) ks = Pop (λ r. r ≡ []) ks × IsTrue (reaches_switch p o (Some (g, n)))
     CanJump (dest.CommonSwitch d e) ks = Pop (λ r. Unit {0}) ks × IsTrue (reaches_switch p o (switch_of_def (definition_of p g d)))
     CanJump (dest.SpecialSwitch k e) ks = Pop (λ r. Unit {0}) ks × IsTrue (is_switch (slice_get (controls_of p o) k))
 

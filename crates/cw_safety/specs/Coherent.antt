@@ -6,6 +6,7 @@ use Rattle.cw_unit.specs.declared.unit.Label.{Label}
 use Rattle.cw_unit.specs.declared.unit.Goal.{Goal}
 use Rattle.cw_unit.specs.declared.unit.Dest.{Dest}
 use Rattle.cw_unit.specs.declared.unit.Dest.TheVariants as dest
+use Rattle.cw_unit.specs.declared.unit.Expr.{Expr}
 use Rattle.cw_unit.specs.declared.unit.Target.{Target}
 use Rattle.cw_unit.specs.Program.{Program, definition_of}
 use Rattle.cw_unit.specs.Words.{LabelControl, SwitchControl, Operand, Words}
@@ -52,6 +53,8 @@ module _ (p : Program) where
     pub arguments : (t : Target) (line : ℕ) (wanted : Bool) (next : Work) → k ≡ Enter t line wanted next → (h n : ℕ) (q : Proc) → callee_of p (segment_of s acts) acts t ≡ Calling h n → procedure_at p h n ≡ Some q → length q.params ≤ length w.operands
     -- a jump to a label that is named leaves nothing in hand
     pub empty : (g : Goal) (line : ℕ) → k ≡ Jump (dest.Goal g) line → w.operands ≡ []
+    -- a jump through a switch of the unit finds its index alone
+    pub alone : (n : ℕ) (e : Expr) (line : ℕ) → k ≡ Jump (dest.Switch n e) line → length w.operands ≡ 1
     -- each label that a jump may go to has its owner at work
     pub owners : (d : Dest) (line : ℕ) → k ≡ Jump d line → (h label owner : ℕ) → Names s acts d h label owner → IsOwned acts h label owner
     -- a segment's body ends with no call, and nothing in hand

@@ -24,8 +24,8 @@ pub fn operands_within_depth()
     ensures { (p : Program) (input : List ℕ) (m : ℕ) → WellFormed p → operands_held (words_of (configuration_after p input m)).operands ≤ depth_in p (configuration_after p input m) }
 {}
 
-/// In each configuration that such a run reaches, a call finds its arguments, labels have their owners at work, and a jump to a label and
-/// the end of a body find nothing in hand.
+/// In each configuration that such a run reaches, a call finds its arguments, labels have their owners at work, a jump to a label and the
+/// end of a body find nothing in hand, and a jump through a switch of the unit its index alone.
 pub fn coherent()
     ensures { (p : Program) (input : List ℕ) (m : ℕ) → WellFormed p → IsCoherent p (configuration_after p input m) }
 {}

@@ -21,9 +21,9 @@ use Rattle.cw_gen_expr.proofs.Layers.{value_layer, value-made, spot-made, refere
 use Rattle.cw_gen_expr.proofs.Layers as made
 use Rattle.cw_gen_unit.specs.ReferenceStatements.{parted_piece}
 use Rattle.cw_tokens.specs.LeastTokens.{separated, part, expression_tokens, argument_tokens, condition_tokens, reference_tokens}
-use Rattle.cw_tmpl.specs.Templates.{listed_size, listed_sizes}
+use Rattle.cw_tmpl.specs.Sizes.{listed_size, listed_sizes}
 use Rattle.cw_size.proofs.Short.{word_short, one_short, sizes-append, first_short, Short, plainly, both_short, ended_short, eased}
-use Rattle.cw_size.proofs.OrderSizes.{item-first, item-load, saved-item, saved-table, bounds-short, take-short, load-part-short, element-short, of-two-short, entry-short, rescale-short, rescale-whole, rescale-same, logic-short, product-short, call-short, label-short}
+use Rattle.cw_size.proofs.OrderSizes.{item-first, item-load, saved-item, saved-table, bounds-short, take-short, load-part-short, element-short, of-two-short, entry-short, rescale-short, rescale-whole, rescale-same, logic-short, product-short, call-short, label-short, hand-short}
 use Rattle.cw_size.proofs.TokenLayers.{expression_layer, expression-tokens, argument_layer, argument-tokens, condition_layer, condition-tokens, spot_layer, spot-tokens, reference-tokens, separated-within}
 
 pub parted_short : {m k n : ℕ} {i j : ℕ} (c : ConditionPiece) (between : ℕ → List Order) (a b : Piece) → ((when : Bool) (mark : ℕ) → Short (c when mark) 0 m) → ((end : ℕ) → listed_sizes (between end) ≤ 3) → Short a i k → Short b j n → Short (parted_piece c between a b) (i + j) (m + k + n + 3)
@@ -240,7 +240,7 @@ module _ (s : Scope) where
     argument_short (layer.CommonSwitch d) le = argument (order.SwitchCommon d ∷ []) (let z : 5 + 0 ≤ 38 = omega arith in z)
     argument_short (layer.Proc q) le = argument (order.ProcOut q ∷ []) (let z : 5 + 0 ≤ 38 = omega arith in z)
     argument_short (layer.CommonProc d) le = argument (order.ProcCommon d ∷ []) (let z : 5 + 0 ≤ 38 = omega arith in z)
-    argument_short (layer.Special k) le = argument (order.SpecialOut (control_place s.parameters k) ∷ []) (let z : 10 + 0 ≤ 38 = omega arith in z)
+    argument_short (layer.Special k) le = argument (order.SpecialOut (control_place s.parameters k) ∷ []) (one_short (order.SpecialOut (control_place s.parameters k)) 38 (let z : listed_size (order.SpecialOut (control_place s.parameters k)) ≤ 38 = omega (arith, hand-short (control_place s.parameters k)) in z))
 
     all_short : (args : List Arg) → total (map argument_size args) < n → Short (sequence (map (argument_piece s) args)) 0 (32 * separated (map argument_tokens args))
     all_short [] lt = plainly [] (32 * 0) (let z : 0 ≤ 32 * 0 = omega arith in z)

@@ -22,14 +22,16 @@ use Rattle.cw_unit.specs.declared.unit.Target.{Target}
 use Rattle.cw_unit.specs.declared.unit.Target.TheVariants as target
 use Rattle.cw_unit.specs.declared.unit.Goal.{Goal}
 use Rattle.cw_unit.specs.declared.unit.Goal.TheVariants as goal
-use Rattle.cw_gen_expr.specs.ReferenceExpressions.{Scope, argument_words, placed_by, placed_in, item_order, table_orders, bounds_orders, store_orders, rescale_orders, logic_order, number_order, call_order, label_order}
+use Rattle.cw_gen_expr.specs.ReferenceExpressions.{Scope, argument_words, placed_by, placed_in, item_order, table_orders, bounds_orders, store_orders, rescale_orders, logic_order, number_order, call_order, control_place, label_order}
 use Rattle.cw_gen_expr.specs.ReferenceEntries.{bound_by, bound_in, bound_order, parameter_orders, bind_orders}
 use Rattle.cw_gen_expr.specs.UnitTables.{label_mark}
 use Rattle.cw_gen_unit.specs.declared.simple.Simple.{Simple}
 use Rattle.cw_gen_unit.specs.declared.simple.Simple.TheVariants as simple
 use Rattle.cw_gen_unit.specs.declared.simple.SimpleStep.{SimpleStep}
 use Rattle.cw_gen_unit.specs.ReferenceStatements.{after_statement_call, from_procedure, own_order, goal_order, keep_orders, number_orders, set_orders, bump_orders, value_orders, limit_orders, past_orders, turn_orders, simple_orders, simple_beginning}
-use Rattle.cw_tmpl.specs.Templates.{loop_ways_size, shift_size, lowest_size, part_size, times_size, width_size, bound_size, word_size, listed_size, sizes_behind, listed_sizes}
+use Rattle.cw_tmpl.proofs.Lengths.{frame_few, argument_few}
+use Rattle.cw_tmpl.specs.Templates.{loop_ways_size}
+use Rattle.cw_tmpl.specs.Sizes.{shift_size, lowest_size, part_size, times_size, width_size, bound_size, word_size, listed_size, sizes_behind, listed_sizes}
 use Rattle.cw_word.specs.Word.{unsigned}
 use Rattle.cw_order.specs.declared.order.Comparator.TheVariants as comparator
 use Rattle.cw_size.proofs.Short.{word_short, one_short, all-behind, sizes-append, first_short}
@@ -259,7 +261,7 @@ product-short line (negsuc n) = picked (nat_lt n 15)
 pub call-short : (s : Scope) (t : Target) → listed_size (call_order s t) ≤ 13
 call-short s (target.Own q) = omega arith
 call-short s (target.Common d) = omega arith
-call-short s (target.Special k f) = omega arith
+call-short s (target.Special k f) = omega (arith, argument_few (control_place s.parameters k))
 call-short s target.Read = omega arith
 call-short s target.Write = omega arith
 
@@ -269,6 +271,16 @@ after-short (target.Common d) = omega arith
 after-short (target.Special k f) = omega arith
 after-short target.Read = omega arith
 after-short target.Write = omega arith
+
+-- a control parameter that is handed on, or that a jump goes to
+pub hand-short : (k : ℕ) → listed_size (order.SpecialOut k) ≤ 10
+hand-short k = omega (arith, argument_few (k + 1), argument_few k)
+
+pub go-short : (k : ℕ) → listed_size (order.GoSpecial k) ≤ 17
+go-short k = omega (arith, argument_few (k + 1), argument_few k)
+
+pub through-short : (k line : ℕ) → listed_size (order.GoSwitchSpecial k line) ≤ 13
+through-short k line = omega (arith, argument_few (k + 1), argument_few k)
 
 pub label-short : (s : Scope) (g : Goal) → listed_size (label_order s g) ≤ 5
 label-short s (goal.Own l) = omega arith
@@ -380,13 +392,13 @@ bound-short : (y : Layout) (k i : ℕ) → listed_size (bound_order y k i) ≤ 1
 bound-short y k i = at_family (slice_get y.families (slice_index_or y.homes i (0, 0)).0) (slice_index_or y.homes i (0, 0)).0 (slice_index_or y.homes i (0, 0)).1
   where
     at_sort : (x : Sort) (f o : ℕ) → listed_size (bound_by k x f o) ≤ 13
-    at_sort (sort.Frame base) f o = omega arith
-    at_sort (sort.Common d) f o = omega arith
-    at_sort sort.Own f o = omega arith
-    at_sort (sort.Absolute a) f o = omega arith
+    at_sort (sort.Frame base) f o = omega (arith, argument_few k, frame_few ((base + o) % 65536))
+    at_sort (sort.Common d) f o = omega (arith, argument_few k)
+    at_sort sort.Own f o = omega (arith, argument_few k)
+    at_sort (sort.Absolute a) f o = omega (arith, argument_few k)
 
     at_family : (x : Option Family) (f o : ℕ) → listed_size (bound_in k x f o) ≤ 13
-    at_family None f o = omega arith
+    at_family None f o = omega (arith, argument_few k)
     at_family (Some x) f o = at_sort x.sort f o
 
 one-bound : (y : Layout) (k i : ℕ) → listed_sizes (bound_order y k i ∷ []) ≤ 13

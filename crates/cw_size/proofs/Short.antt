@@ -3,7 +3,7 @@ use Rattle.std.proofs.Common.{ℕ, zero, suc, ◌+◌, ◌≤◌, List, [], ◌�
 use Rattle.cw_order.specs.declared.order.Order.{Order}
 use Rattle.cw_order.specs.declared.order.Order.TheVariants as order
 use Rattle.cw_gen_expr.specs.Pieces.{Piece, plain, followed_by, with_end, with_labels}
-use Rattle.cw_tmpl.specs.Templates.{number_size, listed_size, size_in_list, owed, size_behind, sizes_behind, listed_sizes}
+use Rattle.cw_tmpl.specs.Sizes.{number_size, listed_size, size_in_list, owed, size_behind, sizes_behind, listed_sizes}
 
 -- an order takes no more behind others than what these owe
 behind-within : (second first : Option Order) (o : Order) → size_behind second first o ≤ owed first + size_in_list o

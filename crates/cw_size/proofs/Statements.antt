@@ -16,15 +16,17 @@ use Rattle.cw_gen_expr.specs.ReferenceExpressions.{Scope, at_line, argument_word
 use Rattle.cw_gen_expr.proofs.Layers.{total}
 use Rattle.cw_gen_unit.specs.Endings.{comes_to_end}
 use Rattle.cw_gen_unit.proofs.Layers.{statement_layer, statement-made, jump-holds}
-use Rattle.cw_gen_unit.specs.ReferenceStatements.{begin_orders, after_statement_call, goal_order, jump_piece, with_middle, keep_orders, number_orders, set_orders, bump_orders, turn_piece, while_values, step_values, element_piece, elements_piece, element_ways, ring_piece, loop_place, simple_beginning, only_step, first_turn, stepped_piece, elements_loop, begun_loop, loop_piece, jump_past, statement_piece}
+use Rattle.cw_gen_unit.proofs.SwitchMarks.{few-marks}
+use Rattle.cw_gen_unit.specs.ReferenceStatements.{begin_orders, after_statement_call, goal_order, owned_marks, switch_order, jump_piece, with_middle, keep_orders, number_orders, set_orders, bump_orders, turn_piece, while_values, step_values, element_piece, elements_piece, element_ways, ring_piece, loop_place, simple_beginning, only_step, first_turn, stepped_piece, elements_loop, begun_loop, loop_piece, jump_past, statement_piece}
 use Rattle.cw_gen_unit.specs.declared.simple.SimpleStep.{SimpleStep}
 use Rattle.cw_gen_unit.specs.SimpleLoops.{simple_step}
 use Rattle.cw_tokens.specs.LeastTokens as least
 use Rattle.cw_tokens.specs.LeastTokens.{separated, arguments, expression_tokens, argument_tokens, condition_tokens, reference_tokens, each_argument, element_tokens, each_element, jump_tokens, statement_tokens}
-use Rattle.cw_tmpl.specs.Templates.{loop_ways_size, listed_size, listed_sizes}
+use Rattle.cw_tmpl.specs.Templates.{loop_ways_size}
+use Rattle.cw_tmpl.specs.Sizes.{listed_size, listed_sizes}
 use Rattle.cw_tokens.specs.SetLabels.{together, set_step, set_labels}
 use Rattle.cw_size.proofs.Short.{one_short, first_short, Short, plainly, both_short, ended_short, labels_short, eased}
-use Rattle.cw_size.proofs.OrderSizes.{item-load, item-keep, store-part-short, store-short, call-short, after-short, goal-short, number-short, set-short, bump-short, turn-short, limited-short, stepped-short, ways-short, simple-short}
+use Rattle.cw_size.proofs.OrderSizes.{item-load, item-keep, store-part-short, store-short, call-short, after-short, goal-short, number-short, set-short, bump-short, turn-short, limited-short, stepped-short, ways-short, simple-short, go-short, through-short}
 use Rattle.cw_size.proofs.TokenLayers.{each-argument, separated-within}
 use Rattle.cw_size.proofs.Expressions.{parted_short, saved_short, expression_short, condition_ended_short, address_short, arguments_short}
 
@@ -210,18 +212,23 @@ module _ (s : Scope) where
 -- ---- statements
 
 module _ (s : Scope) (who : Option ℕ) (answer : ℕ) where
-  -- the index of a switch, and the way to it
-  switched : (line : ℕ) (e : Expr) (o : Order) → listed_size o ≤ 13 → Short (followed_by (expression_piece (at_line line s) e 0) (plain (o ∷ []))) 0 (32 * (3 + expression_tokens e))
+  -- the index of a switch, and the way to its label
+  switched : (line : ℕ) (e : Expr) (o : Order) → listed_size o ≤ 84 → Short (followed_by (expression_piece (at_line line s) e 0) (plain (o ∷ []))) 0 (32 * (3 + expression_tokens e))
   switched line e o h =
-      eased (both_short (expression_short (at_line line s) e 0) (plainly (o ∷ []) 13 (one_short o 13 h)))
-      (let z : 32 * expression_tokens e + 5 + 13 + 0 ≤ 32 * (3 + expression_tokens e) + (0 + 0) = omega arith in z)
+      eased (both_short (expression_short (at_line line s) e 0) (plainly (o ∷ []) 84 (one_short o 84 h)))
+      (let z : 32 * expression_tokens e + 5 + 84 + 0 ≤ 32 * (3 + expression_tokens e) + (0 + 0) = omega arith in z)
+
+  -- a table in the body has few labels
+  way_short : (n line : ℕ) (ways : Option (List ℕ)) → owned_marks s.unit who n ≡ ways → listed_size (switch_order ways n line) ≤ 84
+  way_short n line None is = omega arith
+  way_short n line (Some ms) is = let few = few-marks s.unit who n ms is in let most = few.1 in omega arith
 
   jump_short : (line : ℕ) (d : Dest) → Short (jump_piece (at_line line s) who d) 0 (32 * jump_tokens d)
   jump_short line (dest.Goal g) = let h = goal-short s.unit who g in plainly (goal_order s.unit who g ∷ []) (32 * 1) (one_short (goal_order s.unit who g) (32 * 1) (let z : listed_size (goal_order s.unit who g) ≤ 32 * 1 = omega (arith, h) in z))
-  jump_short line (dest.Special k) = plainly (order.GoSpecial (control_place s.parameters k) ∷ []) (32 * 1) (let z : 17 + 0 ≤ 32 * 1 = omega arith in z)
-  jump_short line (dest.Switch n e) = switched line e (order.GoSwitch n line) (let z : 8 ≤ 13 = omega arith in z)
-  jump_short line (dest.CommonSwitch d e) = switched line e (order.GoSwitchCommon d line) (let z : 8 ≤ 13 = omega arith in z)
-  jump_short line (dest.SpecialSwitch k e) = switched line e (order.GoSwitchSpecial (control_place s.parameters k) line) (let z : 13 ≤ 13 = omega arith in z)
+  jump_short line (dest.Special k) = plainly (order.GoSpecial (control_place s.parameters k) ∷ []) (32 * 1) (one_short (order.GoSpecial (control_place s.parameters k)) (32 * 1) (let z : listed_size (order.GoSpecial (control_place s.parameters k)) ≤ 32 * 1 = omega (arith, go-short (control_place s.parameters k)) in z))
+  jump_short line (dest.Switch n e) = switched line e (switch_order (owned_marks s.unit who n) n line) (way_short n line (owned_marks s.unit who n) refl)
+  jump_short line (dest.CommonSwitch d e) = switched line e (order.GoSwitchCommon d line) (let z : 8 ≤ 84 = omega arith in z)
+  jump_short line (dest.SpecialSwitch k e) = switched line e (order.GoSwitchSpecial (control_place s.parameters k) line) (let few = through-short (control_place s.parameters k) line in let z : listed_size (order.GoSwitchSpecial (control_place s.parameters k) line) ≤ 84 = omega (arith, few) in z)
 
   -- with the landings of its labels
   abbrev pub ShortStatement : Stmt → Type 0

@@ -1,5 +1,5 @@
 -- The code of a unit is short by the tokens that a text of it has at least.
-use Rattle.std.proofs.Common.{◌≡◌, ℕ, suc, ◌+◌, ◌*◌, ◌≤◌, List, [], ◌∷◌, length, Some, None, slice_index, refl, ap, arith}
+use Rattle.std.proofs.Common.{◌≡◌, ℕ, zero, suc, ◌+◌, ◌*◌, ◌≤◌, List, [], ◌∷◌, length, Some, None, slice_index, refl, ap, arith}
 use Rattle.cw_order.specs.declared.order.Order.TheVariants as order
 use Rattle.cw_order.specs.declared.order.Orders.{Orders}
 use Rattle.cw_unit.specs.declared.unit.Unit.{Unit as SourceUnit}
@@ -14,7 +14,8 @@ use Rattle.cw_gen_unit.proofs.Layers.{leave-holds}
 use Rattle.cw_tokens.specs.LeastTokens.{statement_tokens, procedure_tokens, procedures_tokens, switches_tokens, least_tokens}
 use Rattle.cw_tmpl.specs.Names.{landing_size}
 use Rattle.cw_tmpl.specs.Pieces.{blanks}
-use Rattle.cw_tmpl.specs.Templates.{listed_sizes}
+use Rattle.cw_tmpl.specs.Templates.{entered_size}
+use Rattle.cw_tmpl.specs.Sizes.{listed_sizes}
 use Rattle.cw_tmpl.specs.ReferenceCode.{entry_size, switch_sizes, pieces_of, orders_code}
 use Rattle.cw_tokens.specs.SetLabels.{set_labels, set_in_procedures, LabelsStand}
 use Rattle.cw_size.proofs.Short.{first_short, Short, plainly, both_short, eased}
@@ -32,13 +33,17 @@ switches-short (s ∷ ss) =
     let z : 29 + 2 * length s.list + switch_sizes (switch_lists ss) ≤ 32 * (3 + 2 * length s.list + switches_tokens ss) = omega (arith, h) in
     z
 
+entered-short : (size : ℕ) → entered_size size ≤ 34
+entered-short zero = omega arith
+entered-short (suc n) = omega arith
+
 module _ (u : SourceUnit) where
   procedure_short : (p : ℕ) (q : Proc) → Short (procedure_piece u p q) (15 * set_labels q.body) (32 * procedure_tokens q)
   procedure_short p q =
       eased
-      (both_short (plainly (entry_orders u p q) (9 + 13 * length q.params) (first_short (order.Enter (slice_index (layout_of u).frames p)) (bind_orders (layout_of u) q.params) 9 (13 * length q.params) (let z : 7 ≤ 9 = omega arith in z) (bind-short (layout_of u) q.params)))
+      (both_short (plainly (entry_orders u p q) (34 + 13 * length q.params) (first_short (order.Enter (slice_index (layout_of u).frames p)) (bind_orders (layout_of u) q.params) 34 (13 * length q.params) (entered-short (slice_index (layout_of u).frames p)) (bind-short (layout_of u) q.params)))
       (both_short (statement_short (scope_of u (Some p)) (Some p) (answer_of u (Some p)) q.body) (plainly (leave_orders q) 9 (leave-holds (λ os. listed_sizes os ≤ 9) q (let z : 2 + (6 + 0) ≤ 9 = omega arith in z) (let z : 0 ≤ 9 = omega arith in z)))))
-      (let z : 9 + 13 * length q.params + (32 * statement_tokens q.body + 9) + 15 * set_labels q.body ≤ 32 * (4 + (2 * length q.params + statement_tokens q.body)) + (0 + (15 * set_labels q.body + 0)) = omega arith in z)
+      (let z : 34 + 13 * length q.params + (32 * statement_tokens q.body + 9) + 15 * set_labels q.body ≤ 32 * (4 + (2 * length q.params + statement_tokens q.body)) + (0 + (15 * set_labels q.body + 0)) = omega arith in z)
 
   procedures_short : (p : ℕ) (qs : List Proc) → Short (procedures_piece u p qs) (15 * set_in_procedures qs) (32 * procedures_tokens qs)
   procedures_short p [] = eased (plainly [] 0 (let z : 0 ≤ 0 = omega arith in z)) (let z : 0 + 15 * 0 ≤ 32 * 0 + 0 = omega arith in z)

@@ -4,7 +4,7 @@ ghost use Rattle.cw_unit.specs.declared.unit.Unit.{Unit as SourceUnit};
 ghost use Rattle.cw_unit.specs.declared.unit.Expr.{Expr};
 ghost use Rattle.cw_unit.specs.declared.unit.Stmt.{Stmt};
 ghost use Rattle.cw_tokens.specs.LeastTokens.{expression_tokens, statement_tokens, least_tokens};
-ghost use Rattle.cw_tmpl.specs.Templates.{listed_sizes};
+ghost use Rattle.cw_tmpl.specs.Sizes.{listed_sizes};
 ghost use Rattle.cw_tmpl.specs.ReferenceCode.{orders_code, switch_sizes};
 ghost use Rattle.cw_gen_expr.specs.ReferenceExpressions.{Scope, expression_piece};
 ghost use Rattle.cw_gen_unit.specs.ReferenceStatements.{statement_piece};

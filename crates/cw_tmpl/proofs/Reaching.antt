@@ -7,9 +7,10 @@ use Rattle.cw_order.specs.declared.order.Order.{Order}
 use Rattle.cw_order.specs.declared.order.Orders.{Orders}
 use Rattle.cw_tmpl.specs.declared.blocks.Block.{Block}
 use Rattle.cw_tmpl.specs.Blocks.{block_at, orders_left, left_at}
-use Rattle.cw_tmpl.specs.Templates.{Forms, all_near, block_size, distance, short_distance, is_close, reaches, is_short, jump_of}
+use Rattle.cw_tmpl.specs.Templates.{Forms, all_near, block_size, distance, short_distance, is_close, reaches, is_short, jump_of, check_of}
 use Rattle.cw_tmpl.specs.ReferenceCode.{places_from, places_by, longest_places, entry_size, reach_of, order_places, mark_starts}
-use Rattle.cw_tmpl.proofs.Sizes.{size_to, size_by, size_next, shorter_by, places_are, own_place, jump_arrives}
+use Rattle.cw_tmpl.proofs.Endings.{shorter_by}
+use Rattle.cw_tmpl.proofs.Sizes.{size_to, size_by, size_next, places_are, own_place, jump_arrives}
 
 -- ---- places that are close
 
@@ -109,7 +110,7 @@ stays forms os k m le c = cases (nat_le m (length os)) refl
         let here : slice_index (places_by forms os) m ≡ 0 = places_end forms entry_size 0 0 os m past in
         record { back = omega (arith, longest, ours, there, here, back, no_longer forms 0 0 os k); ahead = omega (arith, here) }
 
-next_within : (os : List Order) (k : ℕ) (x : Order) → slice_get os k ≡ Some x → k + 1 ≤ length os
+pub next_within : (os : List Order) (k : ℕ) (x : Order) → slice_get os k ≡ Some x → k + 1 ≤ length os
 next_within [] k x e = absurd (cc)
 next_within (y ∷ ys) zero x e = omega arith
 next_within (y ∷ ys) (suc k) x e = omega (arith, next_within ys k x e)
@@ -117,7 +118,8 @@ next_within (y ∷ ys) (suc k) x e = omega (arith, next_within ys k x e)
 pub close : (o : Orders) (k m : ℕ) (x : Order) → slice_get o.list k ≡ Some x → jump_of (block_at (left_at 0 o.list k) (drop k o.list)) x ≡ Some m
     → is_short (reach_of o) k (block_at (left_at 0 o.list k) (drop k o.list)) x ≡ true → is_close (slice_index (order_places o) (k + 1)) (mark_starts o m) ≡ true
 close o k m x listed jumps short =
-    let chosen : reaches (reach_of o) k (Some m) ≡ true = ap (reaches (reach_of o) k) (sym jumps) ∙ short in
+    let check = check_of (block_at (left_at 0 o.list k) (drop k o.list)) x in
+    let chosen : reaches (reach_of o) k (Some m) check ≡ true = ap (λ j. reaches (reach_of o) k j check) (sym jumps) ∙ short in
     let far = close_is (slice_index (longest_places o.list) (k + 1)) (slice_index (longest_places o.list) (slice_index o.marks m)) chosen in
     is_close_where (slice_index (order_places o) (k + 1)) (mark_starts o m) (stays (is_short (reach_of o)) o.list (k + 1) (slice_index o.marks m) (next_within o.list k x listed) far)
 

@@ -1,5 +1,5 @@
 -- The orders of a block stand at the front of the list that it begins.
-use Rattle.std.proofs.Common.{◌≡◌, ℕ, zero, suc, ◌+◌, ℤ, pos, List, [], ◌∷◌, ◌++◌, length, drop, Bool, true, false, Option, Some, None, refl, sym, ap, ◌∙◌, subst, arith, append_assoc, length-append}
+use Rattle.std.proofs.Common.{◌≡◌, ℕ, zero, suc, ◌+◌, ℤ, pos, List, [], ◌∷◌, ◌++◌, length, drop, Bool, true, false, Option, Some, None, refl, sym, ap, ap₂, ◌∙◌, subst, arith, append_assoc, length-append}
 use Rattle.std.proofs.lemmas.Bool.Decides.{nat_tests}
 use Rattle.std.specs.Prelude.{slice_get, if◌then◌else◌, negsuc, ◌==◌, ◌&&◌, int_le, ◌-ℤ◌}
 use Rattle.cw_order.specs.declared.order.Order.{Order}
@@ -15,11 +15,14 @@ use Rattle.cw_tmpl.specs.declared.blocks.Bounds.{Bounds}
 use Rattle.cw_tmpl.specs.declared.blocks.Form.{Form}
 use Rattle.cw_tmpl.specs.declared.blocks.Form.TheVariants as form
 use Rattle.cw_tmpl.specs.declared.blocks.Bounded.{Bounded}
+use Rattle.cw_tmpl.specs.declared.rows.Column.{Column}
+use Rattle.cw_tmpl.specs.declared.rows.Column.TheVariants as column
+use Rattle.cw_tmpl.specs.declared.rows.Row.{Row}
 use Rattle.cw_tmpl.specs.declared.blocks.Use.{Use}
 use Rattle.cw_tmpl.specs.declared.blocks.Use.TheVariants as uses
 use Rattle.cw_tmpl.specs.declared.blocks.Block.{Block}
 use Rattle.cw_tmpl.specs.declared.blocks.Block.TheVariants as block
-use Rattle.cw_tmpl.specs.Blocks.{address_orders, element_orders, operand_orders, order_of, count_order, orders_before, last_order, place_at, use_of, zero_word, is_within, address_test, is_save, is_load, element_addressed, element_bounded, element_with, element_of, element_at, with_use, fetched, fetched_from, assigned, is_part, TestsWithin, OperandWithin, NamesParts, block_at, is_plain_divisor, halving_places, halved, divided, number_scaled, number_used, with_number, saved, saved_from, element_fetched, element_used, element_saved, fetched_or, saved_or, orders_to_form, form_order, form_of, form_within, bounded_as, behind_bounds, block_if_saved, block_from, block_of}
+use Rattle.cw_tmpl.specs.Blocks.{address_orders, element_orders, operand_orders, order_of, count_order, orders_before, last_order, place_at, use_of, zero_word, is_within, address_test, is_save, is_load, element_addressed, element_bounded, element_with, element_of, element_at, with_use, fetched, fetched_from, assigned, is_part, TestsWithin, OperandWithin, NamesParts, block_at, is_plain_divisor, halving_places, halved, divided, number_scaled, number_used, with_number, saved, saved_from, element_fetched, element_used, element_saved, fetched_or, saved_or, orders_to_form, form_order, form_of, form_within, bounded_as, behind_bounds, column_orders, orders_in_row, orders_to_row, row_order, bounds_at, column_at, same_bound, row_within, item_of, row_made, row_formed, row_behind, row_saved, row_at, row_or, block_if_saved, block_from, block_alone, compared_or, both_or, fetched_behind, joined, block_of}
 
 pub front_is : (list : List Order) (k : ℕ) (o : Order) → slice_get list k ≡ Some o → drop k list ≡ o ∷ drop (suc k) list
 front_is [] k o e = absurd (cc)
@@ -55,6 +58,7 @@ IsBlock (block.Operate s u) os = BeginsWith (order.Save ∷ operand_orders s) (o
 IsBlock (block.FetchPart x t b is_signed) os = BeginsWith (address_orders x) (order.LoadPart t b is_signed) os × (is_part t b ≡ true)
 IsBlock (block.AssignPart x t b) os = BeginsWith (order.Save ∷ address_orders x) (order.StorePart t b) os × (is_part t b ≡ true)
 IsBlock (block.Bounded b) os = BeginsWith (orders_to_form b) (form_order b.bounds.lower b.form) os × (form_within b.bounds b.first b.form ≡ true)
+IsBlock (block.Row r) os = BeginsWith (orders_to_row r) (row_order r) os × (row_within r ≡ true)
 IsBlock b os = BeginsWith (orders_before b) (last_order b) os
 
 with_last : (before os : List Order) (o : Order) → os ≡ before ++ drop (length before) os → slice_get os (length before) ≡ Some o → BeginsWith before o os
@@ -369,6 +373,111 @@ bounded_shape os b (Some order.Save) (Some (order.Home f n)) forms e0 e1 e2 = ca
         (first ∙ ap (λ l. order.Save ∷ order.Home f n ∷ l) (front_is os 2 (form_order b.lower w) (e2 ∙ form_shape b.lower forms w is))))
 bounded_shape os b _ _ forms e0 e1 e2 = tt
 
+-- an element of two dimensions
+column_shape : (os : List Order) (c : Column) → column_at os ≡ Some c → os ≡ column_orders c ++ drop (length (column_orders c)) os
+column_shape (order.Const w ∷ os) c is =
+    let same : column.Number w ≡ c = cc in
+    subst (λ y. order.Const w ∷ os ≡ column_orders y ++ drop (length (column_orders y)) (order.Const w ∷ os)) same refl
+column_shape (order.Home f n ∷ order.Load ∷ os) c is =
+    let same : column.Contents (cell.Word f n) ≡ c = cc in
+    subst (λ y. order.Home f n ∷ order.Load ∷ os ≡ column_orders y ++ drop (length (column_orders y)) (order.Home f n ∷ order.Load ∷ os)) same refl
+column_shape (order.FrameHome n ∷ order.Load ∷ os) c is =
+    let same : column.Contents (cell.Frame n) ≡ c = cc in
+    subst (λ y. order.FrameHome n ∷ order.Load ∷ os ≡ column_orders y ++ drop (length (column_orders y)) (order.FrameHome n ∷ order.Load ∷ os)) same refl
+column_shape (_ ∷ _) c is = absurd (cc)
+column_shape [] c is = absurd (cc)
+
+-- bounds that an order compares an index with
+bounds_there : (o : Option Order) (b : Bounds) → bounds_at o ≡ Some b → o ≡ Some (order.InBounds b.lower b.upper b.line)
+bounds_there (Some (order.InBounds l u line)) b is =
+    let same : record { lower = l; upper = u; line = line } ≡ b = cc in
+    ap (λ y. Some (order.InBounds y.lower y.upper y.line)) same
+bounds_there None b is = absurd (cc)
+bounds_there (Some _) b is = absurd (cc)
+
+-- what is known of an element of two dimensions that the orders at the front of a list make
+abbrev IsRow : List Order → Row → Type 0
+IsRow os r = BeginsWith (orders_to_row r) (row_order r) os × (row_within r ≡ true)
+
+row_made_shape : (rows : Bounds) (c : Column) (os : List Order) (columns : Bounds) (puts forms : Option Order) (r : Row) → os ≡ column_orders c ++ drop (length (column_orders c)) os
+    → slice_get os (length (column_orders c)) ≡ Some (order.InBounds columns.lower columns.upper columns.line) → slice_get os (length (column_orders c) + 1) ≡ Some order.Save
+    → slice_get os (length (column_orders c) + 2) ≡ puts → slice_get os (length (column_orders c) + 3) ≡ forms
+    → row_made rows c columns (item_of puts forms) ≡ Some r → IsRow (order.InBounds rows.lower rows.upper rows.line ∷ order.Save ∷ os) r
+row_made_shape rows c os columns (Some (order.Home f n)) (Some (order.ElementOfTwo l1 l2 width span line)) r there e0 e1 e2 e3 is =
+    cases (same_bound rows.lower l1) (same_bound columns.lower l2) refl refl (row_within R) refl is
+  where
+    k : ℕ
+    k = length (column_orders c)
+
+    R : Row
+    R = record { rows = rows; column = c; columns = columns; family = f; first = n; width = width; span = span; line = line }
+
+    next : (i j : ℕ) (o : Order) → j ≡ suc i → slice_get os i ≡ Some o → drop i os ≡ o ∷ drop j os
+    next i j o one e = front_is os i o e ∙ ap (λ m. o ∷ drop m os) (sym one)
+
+    listed : (l m : ℤ) → rows.lower ≡ l → columns.lower ≡ m → slice_get os (k + 3) ≡ Some (order.ElementOfTwo l m width span line) → BeginsWith (orders_to_row R) (row_order R) (order.InBounds rows.lower rows.upper rows.line ∷ order.Save ∷ os)
+    listed l m el em at =
+        let o = row_order R in
+        let same : order.ElementOfTwo l m width span line ≡ o = ap₂ (λ x y. order.ElementOfTwo x y width span line) (sym el) (sym em) in
+        let long : length (column_orders c ++ orders_in_row R) ≡ k + 3 = length-append (column_orders c) (orders_in_row R) in
+        let behind : drop k os ≡ orders_in_row R ++ o ∷ drop (k + 4) os =
+        next k (k + 1) (order.InBounds columns.lower columns.upper columns.line) (omega arith) e0
+        ∙ ap (λ x. order.InBounds columns.lower columns.upper columns.line ∷ x)
+        (next (k + 1) (k + 2) order.Save (omega arith) e1 ∙ ap (λ x. order.Save ∷ x)
+        (next (k + 2) (k + 3) (order.Home f n) (omega arith) e2 ∙ ap (λ x. order.Home f n ∷ x) (next (k + 3) (k + 4) o (omega arith) (at ∙ ap Some same)))) in
+        let end : k + 4 ≡ suc (length (column_orders c ++ orders_in_row R)) = omega (arith, long) in
+        ap (λ x. order.InBounds rows.lower rows.upper rows.line ∷ order.Save ∷ x)
+        (there ∙ ap (λ x. column_orders c ++ x) behind ∙ sym (append_assoc (column_orders c) (orders_in_row R) (o ∷ drop (k + 4) os))
+        ∙ ap (λ m. (column_orders c ++ orders_in_row R) ++ o ∷ drop m os) end)
+
+    cases : (a b : Bool) → same_bound rows.lower l1 ≡ a → same_bound columns.lower l2 ≡ b → (w : Bool) → row_within R ≡ w → (if (a && b) && w then Some R else None) ≡ Some r
+        → IsRow (order.InBounds rows.lower rows.upper rows.line ∷ order.Save ∷ os) r
+    cases true true same same' true within is =
+        let made : R ≡ r = cc in
+        subst (λ y. IsRow (order.InBounds rows.lower rows.upper rows.line ∷ order.Save ∷ os) y) made (listed l1 l2 (both_bounds rows.lower l1 same) (both_bounds columns.lower l2 same') e3, within)
+    cases true true same same' false within is = absurd (cc)
+    cases true false same same' w within is = absurd (cc)
+    cases false b same same' w within is = absurd (cc)
+row_made_shape rows c os columns _ _ r there e0 e1 e2 e3 is = absurd (cc)
+
+row_formed_shape : (rows : Bounds) (c : Column) (os : List Order) (columns : Option Bounds) (saves : Bool) (r : Row) → os ≡ column_orders c ++ drop (length (column_orders c)) os
+    → bounds_at (slice_get os (length (column_orders c))) ≡ columns → is_save (slice_get os (length (column_orders c) + 1)) ≡ saves
+    → (let k = length (column_orders c) in row_formed rows c columns (slice_get os (k + 1)) (slice_get os (k + 2)) (slice_get os (k + 3)) ≡ Some r) → IsRow (order.InBounds rows.lower rows.upper rows.line ∷ order.Save ∷ os) r
+row_formed_shape rows c os None saves r there e0 e1 is = absurd (cc)
+row_formed_shape rows c os (Some columns) saves r there e0 e1 is = cases saves e1 (sym (ap (λ b. if b then row_made rows c columns (item_of (slice_get os (k + 2)) (slice_get os (k + 3))) else None) e1) ∙ is)
+  where
+    k : ℕ
+    k = length (column_orders c)
+
+    cases : (b : Bool) → is_save (slice_get os (k + 1)) ≡ b → (if b then row_made rows c columns (item_of (slice_get os (k + 2)) (slice_get os (k + 3))) else None) ≡ Some r → IsRow (order.InBounds rows.lower rows.upper rows.line ∷ order.Save ∷ os) r
+    cases true e is =
+        row_made_shape rows c os columns (slice_get os (k + 2)) (slice_get os (k + 3)) r there (bounds_there (slice_get os k) columns e0) (is_a_save (slice_get os (k + 1)) e) refl refl is
+    cases false e is = absurd (cc)
+
+row_behind_shape : (rows : Bounds) (c : Option Column) (os : List Order) (r : Row) → column_at os ≡ c → row_behind rows c os ≡ Some r → IsRow (order.InBounds rows.lower rows.upper rows.line ∷ order.Save ∷ os) r
+row_behind_shape rows None os r there is = absurd (cc)
+row_behind_shape rows (Some c) os r there is =
+    let k = length (column_orders c) in
+    row_formed_shape rows c os (bounds_at (slice_get os k)) (is_save (slice_get os (k + 1))) r (column_shape os c there) refl refl is
+
+row_saved_shape : (rows : Bounds) (os : List Order) (r : Row) → row_saved rows os ≡ Some r → IsRow (order.InBounds rows.lower rows.upper rows.line ∷ os) r
+row_saved_shape rows (order.Save ∷ os) r is = row_behind_shape rows (column_at os) os r refl is
+row_saved_shape rows (_ ∷ _) r is = absurd (cc)
+row_saved_shape rows [] r is = absurd (cc)
+
+row_shape : (os : List Order) (r : Row) → row_at os ≡ Some r → IsRow os r
+row_shape (order.InBounds l u line ∷ os) r is = row_saved_shape (record { lower = l; upper = u; line = line }) os r is
+row_shape (_ ∷ _) r is = absurd (cc)
+row_shape [] r is = absurd (cc)
+
+-- and another block where there is none
+row_or_shape : (os : List Order) (other : Block) → IsBlock other os → IsBlock (row_or (row_at os) other) os
+row_or_shape os other is = cases (row_at os) refl
+  where
+    cases : (x : Option Row) → row_at os ≡ x → IsBlock (row_or x other) os
+    cases None none = is
+    cases (Some r) there = row_shape os r there
+
 if_saved_shape : (os : List Order) → IsBlock (block_if_saved os) os
 if_saved_shape [] = tt
 if_saved_shape (order.Save ∷ os) = saved_or_shape os (saved_from (place_at os) os) (saved_shape os)
@@ -376,12 +485,42 @@ if_saved_shape (order.InBounds l u line ∷ os) =
     bounded_shape os (record { lower = l; upper = u; line = line }) (slice_get os 0) (slice_get os 1) (slice_get os 2) refl refl refl
 if_saved_shape (_ ∷ os) = tt
 
-pub shape : (os : List Order) → IsBlock (block_of os) os
-shape os = cases (place_at os) refl
+alone_shape : (os : List Order) → IsBlock (block_alone os) os
+alone_shape os = cases (place_at os) refl
   where
     cases : (x : Option Place) → place_at os ≡ x → IsBlock (block_from x os) os
-    cases None is = if_saved_shape os
+    cases None is = row_or_shape os (block_if_saved os) (if_saved_shape os)
     cases (Some x) is = subst (λ y. IsBlock (fetched_or (element_at y os) os (fetched_from y os)) os) is (fetched_or_shape os (fetched_from (place_at os) os) (fetched_shape os))
+
+-- a word of the frame that is fetched, and a comparison behind it
+compared_shape : (n : ℕ) (os : List Order) (saves puts jumps : Option Order) (other : Block) → slice_get os 2 ≡ saves → slice_get os 3 ≡ puts → slice_get os 4 ≡ jumps → IsBlock (block.Fetch (cell.Frame n)) os
+    → IsBlock other os → IsBlock (compared_or n saves puts jumps other) os
+compared_shape n os (Some order.Save) (Some (order.Const w)) (Some (order.JumpIf c m)) other e2 e3 e4 is else_is =
+    is ∙ ap (λ l. order.FrameHome n ∷ order.Load ∷ l)
+    (front_is os 2 order.Save e2 ∙ ap (λ l. order.Save ∷ l) (front_is os 3 (order.Const w) e3 ∙ ap (λ l. order.Const w ∷ l) (front_is os 4 (order.JumpIf c m) e4)))
+compared_shape n os _ _ _ other e2 e3 e4 is else_is = else_is
+
+-- or another word
+dropped : (os : List Order) → drop 2 (drop 3 os) ≡ drop 5 os
+dropped [] = refl
+dropped (x ∷ []) = refl
+dropped (x ∷ y ∷ []) = refl
+dropped (x ∷ y ∷ z ∷ os) = refl
+
+both_shape : (n : ℕ) (os : List Order) (saves : Option Order) (saved next : Block) → slice_get os 2 ≡ saves → block_alone (drop 3 os) ≡ next → IsBlock (block.Fetch (cell.Frame n)) os
+    → IsBlock (both_or n saves saved next (block.Fetch (cell.Frame n))) os
+both_shape n os (Some order.Save) block.Single (block.Fetch (cell.Frame m)) e2 e3 is =
+    let second : drop 3 os ≡ order.FrameHome m ∷ order.Load ∷ drop 2 (drop 3 os) = subst (λ b. IsBlock b (drop 3 os)) e3 (alone_shape (drop 3 os)) in
+    is ∙ ap (λ l. order.FrameHome n ∷ order.Load ∷ l) (front_is os 2 order.Save e2 ∙ ap (λ l. order.Save ∷ l) (second ∙ ap (λ l. order.FrameHome m ∷ order.Load ∷ l) (dropped os)))
+both_shape n os _ _ _ e2 e3 is = is
+
+joined_shape : (b : Block) (os : List Order) → IsBlock b os → IsBlock (joined b os) os
+joined_shape (block.Fetch (cell.Frame n)) os is =
+    compared_shape n os (slice_get os 2) (slice_get os 3) (slice_get os 4) (fetched_behind n os) refl refl refl is (both_shape n os (slice_get os 2) (block_alone (drop 2 os)) (block_alone (drop 3 os)) refl refl is)
+joined_shape b os is = is
+
+pub shape : (os : List Order) → IsBlock (block_of os) os
+shape os = joined_shape (block_alone os) os (alone_shape os)
 
 -- the parts that a block names, and the indexes between bounds
 pub names_parts : (left : ℕ) (os : List Order) → NamesParts (block_at left os)
@@ -403,4 +542,5 @@ names_parts zero os = cases (block_of os) (shape os)
     cases (block.FetchElement e) h = element e e.test h.1
     cases (block.AssignElement e) h = element e e.test h.1
     cases (block.Bounded b) h = h.1
+    cases (block.Row r) h = h.1
     cases _ h = tt

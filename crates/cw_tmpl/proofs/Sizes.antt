@@ -1,6 +1,5 @@
 -- The sizes of the code, and the places in it.
 use Rattle.std.proofs.Common.{◌≡◌, ℕ, zero, suc, ◌+◌, ◌*◌, ◌≤◌, List, [], ◌∷◌, ◌++◌, length, drop, get_or, Option, Some, None, refl, sym, ap, ap₂, ◌∙◌, subst, arith, append_assoc, length-append}
-use Rattle.std.proofs.lemmas.List.{append-nil}
 use Rattle.std.specs.Prelude.{◌%◌, ◌-◌, ◌-ℤ◌, ◌^◌, ◌==◌, nat_le, nat_lt, ℤ, pos, negsuc, Bool, true, false, if◌then◌else◌, slice_get, slice_index}
 use Rattle.cw_order.specs.declared.order.Order.{Order}
 use Rattle.cw_order.specs.declared.order.Order.TheVariants as order
@@ -13,7 +12,7 @@ use Rattle.cw_run86.specs.Views.{with_number}
 use Rattle.cw_word.specs.BitField.{field_mask}
 use Rattle.cw_order.specs.declared.order.Comparator.{Comparator}
 use Rattle.cw_tmpl.specs.declared.pieces.Coded.TheVariants as coded
-use Rattle.cw_tmpl.specs.Mnemonics.{ax, bx, cx, si, di, at_bx, at_si, set_word, move, load, store, compare, double, multiply, operate, change, shift_up, shift_down, shift_down_signed, shift_up_once, shift_down_once, shift_down_signed_once, jump_if_below}
+use Rattle.cw_tmpl.specs.Mnemonics.{add, field, compare_number, ax, bx, cx, si, di, at_si, set_word, load, store, compare, double, multiply, operate, change, shift_up, shift_down_signed, shift_up_once, shift_down_signed_once, jump_if_below}
 use Rattle.cw_order.specs.declared.order.Place.{Place}
 use Rattle.cw_order.specs.declared.order.Place.TheVariants as cell
 use Rattle.cw_tmpl.specs.declared.blocks.Element.{Element}
@@ -24,6 +23,9 @@ use Rattle.cw_tmpl.specs.declared.blocks.Simple.TheVariants as simple
 use Rattle.cw_tmpl.specs.declared.blocks.Form.{Form}
 use Rattle.cw_tmpl.specs.declared.blocks.Form.TheVariants as form
 use Rattle.cw_tmpl.specs.declared.blocks.Bounded.{Bounded}
+use Rattle.cw_tmpl.specs.declared.rows.Column.{Column}
+use Rattle.cw_tmpl.specs.declared.rows.Column.TheVariants as column
+use Rattle.cw_tmpl.specs.declared.rows.Row.{Row}
 use Rattle.cw_tmpl.specs.declared.blocks.Use.{Use}
 use Rattle.cw_tmpl.specs.declared.blocks.Use.TheVariants as uses
 use Rattle.cw_tmpl.specs.declared.blocks.Block.{Block}
@@ -31,15 +33,17 @@ use Rattle.cw_tmpl.specs.declared.blocks.Block.TheVariants as block
 use Rattle.cw_tmpl.specs.declared.pieces.Target.TheVariants as target
 use Rattle.cw_unit.specs.declared.unit.Goal.{Goal}
 use Rattle.cw_unit.specs.declared.unit.Goal.TheVariants as goal
-use Rattle.cw_order.specs.declared.order.LabelMark.{LabelMark}
 use Rattle.cw_tmpl.specs.Pieces.{blanks}
 use Rattle.cw_tmpl.specs.Names.{Names, no_names, mark_place, switch_size}
-use Rattle.cw_tmpl.specs.Blocks.{address_orders, bounds_orders, element_orders, orders_to_form, form_order, operand_orders, order_of, count_order, element_at, element_fetched, fetched_or, block_of, block_at, orders_left, left_at}
+use Rattle.cw_tmpl.specs.Blocks.{address_orders, bounds_orders, element_orders, orders_to_form, form_order, operand_orders, order_of, count_order, element_at, element_fetched, fetched_or, joined, compared_or, both_or, fetched_behind, block_alone, block_of, block_at, orders_left, left_at, column_orders, orders_in_row, orders_to_row, row_order}
 use Rattle.cw_tmpl.proofs.Shapes.{IsBlock, shape}
-use Rattle.cw_tmpl.specs.Library.{overflow_entry, address_entry}
-use Rattle.cw_tmpl.specs.Templates.{Forms, is_short, jump_of, saved, template, template_by, mark_words, goal_words, landing_pieces, switch_pieces, times_if, rescale_if, product_start, product_down, times, less_bound, plus_word, times_width, based, element, in_row, element_of_two, entry, address_pieces, load_place, store_place, pieces_size, operated, block_pieces, block_size, order_size, times_size, width_size, bound_size, word_size, listed_size, size_behind, sizes_behind, listed_sizes, distance, entry_pieces, shifted, shifted_up, shifted_down, shifted_down_signed, lowest_if, part_taken, index_size, lower_size, element_size, used_size, store_part, operate_place, change_place, index_added, index_loaded, from_lower, indexes_between, index_below, address_tested, index_tested, element_tested, element_address, with_operand, product_with, checked, branch, branch_by, call_stop, shift_size, lowest_size, part_size, size_in_list, owed, number_size, bounds_size, top_lower_size, formed_size, top_from_lower, top_below, formed, loop_ways_size, doubled_size}
+use Rattle.cw_tmpl.specs.Library.{address_entry}
+use Rattle.cw_tmpl.specs.Templates.{frame_size, Forms, is_short, template, template_by, mark_words, goal_words, landing_pieces, switch_pieces, address_pieces, load_place, store_place, pieces_size, operated, block_pieces, block_size, order_size, distance, entry_pieces, shifted_up, shifted_down_signed, part_taken, operate_place, change_place, index_added, index_loaded, from_lower, indexes_between, index_below, address_tested, index_tested, element_tested, element_address, with_operand, product_with, checked, branch, call_stop, top_from_lower, top_below, formed, loop_ways_size, doubled_size, word_compared, counted, jump_of, saved, branch_by, element, column_loaded, column_below, row_summed, column_tested}
+use Rattle.cw_tmpl.specs.Sizes.{listed_size, size_behind, sizes_behind, listed_sizes, index_size, lower_size, element_size, used_size, shift_size, part_size, size_in_list, owed, number_size, bounds_size, top_lower_size, formed_size, times_size, column_size, row_size}
 use Rattle.cw_tmpl.specs.ReferenceCode.{templates, landings, switches, places_from, places_by, entry_size, reach_of, order_places, landings_place, switches_place, names_of, mark_starts, pieces_of, switch_sizes, StandsAt}
 use Rattle.cw_tmpl.proofs.Growing.{blanks-append}
+use Rattle.cw_tmpl.proofs.Endings.{compared_long, checked_same, shorter_by}
+use Rattle.cw_tmpl.proofs.Lengths.{frame_few, field_loaded, field_stored, field_operated, field_changed, field_compared, first_long, rescale_long, product_scaled_long, product_down_long, appended_long, appended_one, shifted_long, part_long, store_part_long, element_long, element_of_two_long, entry_long, bind_long, bind_frame_long, special_out_long, call_special_long, go_special_long, go_switch_special_long}
 
 -- the words of a table
 pub size_of_marks : (names : Names) (ms : List ℕ) → length (blanks (mark_words names ms)) ≡ 2 * length ms
@@ -56,89 +60,66 @@ loop_way_long names place [] = refl
 loop_way_long names place (m ∷ []) = refl
 loop_way_long names place (m ∷ n ∷ ms) = omega (arith, size_of_marks names (m ∷ n ∷ ms))
 
+switch_way_long : (names : Names) (place line : ℕ) (marks : List ℕ) → length (blanks (template names place (order.SwitchWay marks line))) ≡ 20 + 2 * length marks
+switch_way_long names place line marks = omega (arith, size_of_marks names marks)
+
 step_taken_long : (names : Names) (place : ℕ) (x : Place) (line m : ℕ) → length (blanks (template names place (order.NextStep x line m))) ≡ doubled_size x + 10
 step_taken_long names place (cell.Word f n) line m = refl
 step_taken_long names place (cell.Frame n) line m = refl
-
--- a comparison, and the jump behind it
-pub compared_long : (short : Bool) (before : List Coded) (c : Comparator) (place to : ℕ) → length (blanks (before ++ branch_by short c place to)) ≡ length (blanks before) + (if short then 2 else 5)
-compared_long true before c place to = ap length (blanks-append before (branch_by true c place to)) ∙ length-append (blanks before) (blanks (branch_by true c place to))
-compared_long false before c place to = ap length (blanks-append before (branch_by false c place to)) ∙ length-append (blanks before) (blanks (branch_by false c place to))
 
 -- the code of an order alone
 template_everywhere : (names : Names) (place : ℕ) (o : Order) → length (blanks (template names place o)) ≡ order_size o
 template_everywhere names place (order.JumpIf c mark) = refl
 template_everywhere names place (order.LoopWay marks) = loop_way_long names place marks ∙ sym (loop_way_long no_names 0 marks)
+template_everywhere names place (order.SwitchWay marks line) = switch_way_long names place line marks ∙ sym (switch_way_long no_names 0 line marks)
 template_everywhere names place (order.NextStep x line m) = step_taken_long names place x line m ∙ sym (step_taken_long no_names 0 x line m)
 template_everywhere names place _ = refl
 
-single_everywhere : (names : Names) (place : ℕ) (short : Bool) (o : Order) → length (blanks (template_by short names place o)) ≡ block_size short block.Single o
-single_everywhere names place false o = template_everywhere names place o
-single_everywhere names place true (order.Jump m) = refl
-single_everywhere names place true (order.JumpIf c m) = refl
-single_everywhere names place true (order.LoopWay []) = template_everywhere names place (order.LoopWay [])
-single_everywhere names place true (order.LoopWay (m ∷ [])) = refl
-single_everywhere names place true (order.LoopWay (m ∷ n ∷ ms)) = template_everywhere names place (order.LoopWay (m ∷ n ∷ ms))
-single_everywhere names place true o = template_everywhere names place o
+single_everywhere : (names : Names) (place number : ℕ) (short : Bool) (o : Order) → length (blanks (template_by short names place number o)) ≡ block_size short block.Single o
+single_everywhere names place number false o = template_everywhere names place o
+single_everywhere names place number true (order.Add line) = refl
+single_everywhere names place number true (order.Sub line) = refl
+single_everywhere names place number true (order.Neg line) = refl
+single_everywhere names place number true (order.Mul (pos zero) line) = refl
+single_everywhere names place number true (order.Mul s line) = template_everywhere names place (order.Mul s line)
+single_everywhere names place number true (order.Jump m) = refl
+single_everywhere names place number true (order.JumpIf c m) = refl
+single_everywhere names place number true (order.LoopWay []) = template_everywhere names place (order.LoopWay [])
+single_everywhere names place number true (order.LoopWay (m ∷ [])) = refl
+single_everywhere names place number true (order.LoopWay (m ∷ n ∷ ms)) = template_everywhere names place (order.LoopWay (m ∷ n ∷ ms))
+single_everywhere names place number true o = template_everywhere names place o
+
+-- what is done with an operand
+operated_everywhere : (names : Names) (place number : ℕ) (short : Bool) (s : Simple) (u : Use) → length (blanks (operated names place number short s u)) ≡ length (blanks (operated no_names 0 0 short s u))
+operated_everywhere names place number short s (uses.Add line) = checked_same short (with_operand 0 s) line _ _ _ _
+operated_everywhere names place number short s (uses.Subtract line) = checked_same short (with_operand 5 s) line _ _ _ _
+operated_everywhere names place number short s (uses.Multiply line) = checked_same short (product_with s) line _ _ _ _
+operated_everywhere names place number short s (uses.Compare c m) =
+    compared_long short (with_operand 7 s) c (place + pieces_size (with_operand 7 s)) (mark_place names m) ∙ sym (compared_long short (with_operand 7 s) c (0 + pieces_size (with_operand 7 s)) (mark_place no_names m))
+operated_everywhere names place number short s uses.Mask = refl
+operated_everywhere names place number short s uses.Union = refl
+operated_everywhere names place number short s uses.Differ = refl
 
 -- the code of a block is as long wherever it stands
-pub size_everywhere : (names : Names) (place : ℕ) (short : Bool) (b : Block) (o : Order) → length (blanks (block_pieces names place short b o)) ≡ block_size short b o
-size_everywhere names place short (block.Within n) o = refl
-size_everywhere names place short block.Single o = single_everywhere names place short o
-size_everywhere names place short (block.Fetch x) o = refl
-size_everywhere names place short (block.Assign x) o = refl
-size_everywhere names place short block.Write o = refl
-size_everywhere names place short (block.Divide w line) o = refl
-size_everywhere names place short (block.Operate s (uses.Compare c m)) o =
-    compared_long short (with_operand 7 s) c (place + pieces_size (with_operand 7 s)) (mark_place names m) ∙ sym (compared_long short (with_operand 7 s) c (0 + pieces_size (with_operand 7 s)) (mark_place no_names m))
-size_everywhere names place short (block.Operate s (uses.Add line)) o = refl
-size_everywhere names place short (block.Operate s (uses.Subtract line)) o = refl
-size_everywhere names place short (block.Operate s (uses.Multiply line)) o = refl
-size_everywhere names place short (block.Operate s uses.Mask) o = refl
-size_everywhere names place short (block.Operate s uses.Union) o = refl
-size_everywhere names place short (block.Operate s uses.Differ) o = refl
-size_everywhere names place short (block.FetchPart x t b is_signed) o = refl
-size_everywhere names place short (block.AssignPart x t b) o = refl
-size_everywhere names place short (block.FetchElement e) o = refl
-size_everywhere names place short (block.AssignElement e) o = refl
-size_everywhere names place short (block.Count down line) o = refl
-size_everywhere names place short (block.Halve w power places line) o = refl
-size_everywhere names place short (block.Bounded b) o = refl
-
--- ---- short jumps
-
--- a block without a jump that can be short has one form
-pub one_form : (names : Names) (place : ℕ) (short : Bool) (b : Block) (o : Order) → jump_of b o ≡ None → block_pieces names place short b o ≡ block_pieces names place false b o
-one_form names place false b o e = refl
-one_form names place true (block.Within n) o e = refl
-one_form names place true block.Single (order.Jump m) e = absurd (cc)
-one_form names place true block.Single (order.JumpIf c m) e = absurd (cc)
-one_form names place true block.Single (order.LoopWay []) e = refl
-one_form names place true block.Single (order.LoopWay (m ∷ [])) e = absurd (cc)
-one_form names place true block.Single (order.LoopWay (m ∷ n ∷ ms)) e = refl
-one_form names place true block.Single o e = refl
-one_form names place true (block.Operate s (uses.Compare c m)) o e = absurd (cc)
-one_form names place true (block.Operate s u) o e = refl
-one_form names place true b o e = refl
-
--- and a short jump makes it no longer
-pub saves : (b : Block) (o : Order) → block_size true b o + saved b o ≡ block_size false b o
-saves (block.Within n) o = refl
-saves block.Single (order.Jump m) = refl
-saves block.Single (order.JumpIf c m) = refl
-saves block.Single (order.LoopWay []) = omega arith
-saves block.Single (order.LoopWay (m ∷ [])) = refl
-saves block.Single (order.LoopWay (m ∷ n ∷ ms)) = omega arith
-saves (block.Operate s (uses.Compare c m)) o =
-    let size = pieces_size (with_operand 7 s) in
-    let near : block_size false (block.Operate s (uses.Compare c m)) o ≡ size + 5 = compared_long false (with_operand 7 s) c (0 + size) (mark_place no_names m) in
-    let short : block_size true (block.Operate s (uses.Compare c m)) o ≡ size + 2 = compared_long true (with_operand 7 s) c (0 + size) (mark_place no_names m) in
-    omega (arith, near, short)
-saves b o = omega arith
-
-pub shorter_by : (short : Bool) (b : Block) (o : Order) → block_size short b o ≤ block_size false b o
-shorter_by true b o = omega (arith, saves b o)
-shorter_by false b o = omega arith
+pub size_everywhere : (names : Names) (place number : ℕ) (short : Bool) (b : Block) (o : Order) → length (blanks (block_pieces names place number short b o)) ≡ block_size short b o
+size_everywhere names place number short (block.Within n) o = refl
+size_everywhere names place number short block.Single o = single_everywhere names place number short o
+size_everywhere names place number short (block.Fetch x) o = refl
+size_everywhere names place number short (block.Assign x) o = refl
+size_everywhere names place number short block.Write o = refl
+size_everywhere names place number short (block.Divide w line) o = refl
+size_everywhere names place number short (block.Operate s u) o = operated_everywhere names place number short s u
+size_everywhere names place number short (block.FetchPart x t b is_signed) o = refl
+size_everywhere names place number short (block.AssignPart x t b) o = refl
+size_everywhere names place number short (block.FetchElement e) o = refl
+size_everywhere names place number short (block.AssignElement e) o = refl
+size_everywhere names place number short (block.Count down line) o = checked_same short (coded.Whole (counted down) ∷ []) line _ _ _ _
+size_everywhere names place number short (block.Halve w power places line) o = refl
+size_everywhere names place number short (block.Bounded b) o = refl
+size_everywhere names place number short (block.Row r) o = refl
+size_everywhere names place number short (block.FetchBoth n m) o = refl
+size_everywhere names place number short (block.CompareWord n w c m) o =
+    compared_long short (word_compared n w) c (place + pieces_size (word_compared n w)) (mark_place names m) ∙ sym (compared_long short (word_compared n w) c (0 + pieces_size (word_compared n w)) (mark_place no_names m))
 
 -- ---- the code before a place of the list
 
@@ -172,7 +153,7 @@ left_next left (x ∷ xs) (suc k) o e = left_next (orders_left (block_at left (x
 
 -- the code of the block that begins with an order, in the middle of that of the others
 abbrev pub pieces_by : Names → (at number : ℕ) → Block → Order → List Coded
-pieces_by names at number b o = block_pieces names at (is_short names.reach number b o) b o
+pieces_by names at number b o = block_pieces names at number (is_short names.reach number b o) b o
 
 pub record InMiddle (names : Names) (at number left : ℕ) (list : List Order) (k here : ℕ) (o : Order) : Type 0 where
   pub before : List Coded
@@ -200,7 +181,7 @@ in_middle names at number left (x ∷ xs) (suc k) here o is e =
     let short = is_short names.reach number b x in
     let next = at + block_size short b x in
     let m = in_middle names next (suc number) (orders_left b) xs k here o (omega (arith, is)) e in
-    let X = block_pieces names at short b x in
+    let X = block_pieces names at number short b x in
     let size = size_to (is_short names.reach) (suc number) (orders_left b) xs k in
     let there : next + size ≡ at + (block_size short b x + size) = omega arith in
     let long = ap length (blanks-append X m.before) ∙ length-append (blanks X) (blanks m.before) in
@@ -209,7 +190,7 @@ in_middle names at number left (x ∷ xs) (suc k) here o is e =
       before = X ++ m.before;
       behind = m.behind;
       is = ap (λ l. X ++ l) m.is ∙ sym (append_assoc X m.before (pieces_by names (next + size) here c o ++ m.behind)) ∙ ap (λ n. (X ++ m.before) ++ (pieces_by names n here c o ++ m.behind)) there;
-      size = omega (arith, long, m.size, size_everywhere names at short b x);
+      size = omega (arith, long, m.size, size_everywhere names at number short b x);
     }
 
 -- ---- places
@@ -292,6 +273,19 @@ fetched_never_single x (Some e) os is = cases (slice_get os (length (element_ord
     cases (Some order.Load) is = cc
     cases _ is = cc
 
+-- nor is it with a comparison or another word behind it
+compared_never_single : (n : ℕ) (saves puts jumps : Option Order) (other : Block) → (other ≡ block.Single → ⊥) → compared_or n saves puts jumps other ≡ block.Single → ⊥
+compared_never_single n (Some order.Save) (Some (order.Const w)) (Some (order.JumpIf c m)) other never is = cc
+compared_never_single n _ _ _ other never is = never is
+
+both_never_single : (n : ℕ) (saves : Option Order) (saved next : Block) → both_or n saves saved next (block.Fetch (cell.Frame n)) ≡ block.Single → ⊥
+both_never_single n (Some order.Save) block.Single (block.Fetch (cell.Frame m)) is = cc
+both_never_single n _ _ _ is = cc
+
+joined_single : (b : Block) (os : List Order) → joined b os ≡ block.Single → b ≡ block.Single
+joined_single (block.Fetch (cell.Frame n)) os is = absurd (compared_never_single n (slice_get os 2) (slice_get os 3) (slice_get os 4) (fetched_behind n os) (both_never_single n (slice_get os 2) (block_alone (drop 2 os)) (block_alone (drop 3 os))) is)
+joined_single b os is = is
+
 -- an order alone, and the orders behind it
 single_fits : (o : Order) (os : List Order) → block_of (o ∷ os) ≡ block.Single → listed_size o + listed_sizes os ≤ listed_sizes (o ∷ os)
 single_fits order.Save [] is = omega arith
@@ -303,85 +297,12 @@ single_fits order.Save (order.FrameHome n ∷ order.Store ∷ os) is = absurd (c
 single_fits order.Save (order.FrameHome n ∷ o ∷ os) is = omega arith
 single_fits order.Save (x ∷ os) is = omega (arith, behind_save x (λ y. refl) os)
 single_fits (order.Home f n) [] is = omega arith
-single_fits (order.Home f n) (order.Load ∷ os) is = absurd (fetched_never_single (cell.Word f n) (element_at (Some (cell.Word f n)) (order.Home f n ∷ order.Load ∷ os)) (order.Home f n ∷ order.Load ∷ os) is)
+single_fits (order.Home f n) (order.Load ∷ os) is = absurd (fetched_never_single (cell.Word f n) (element_at (Some (cell.Word f n)) (order.Home f n ∷ order.Load ∷ os)) (order.Home f n ∷ order.Load ∷ os) (joined_single _ (order.Home f n ∷ order.Load ∷ os) is))
 single_fits (order.Home f n) (x ∷ os) is = omega (arith, behind_unsaved (order.Home f n) tt x os)
 single_fits (order.FrameHome n) [] is = omega arith
-single_fits (order.FrameHome n) (order.Load ∷ os) is = absurd (fetched_never_single (cell.Frame n) (element_at (Some (cell.Frame n)) (order.FrameHome n ∷ order.Load ∷ os)) (order.FrameHome n ∷ order.Load ∷ os) is)
+single_fits (order.FrameHome n) (order.Load ∷ os) is = absurd (fetched_never_single (cell.Frame n) (element_at (Some (cell.Frame n)) (order.FrameHome n ∷ order.Load ∷ os)) (order.FrameHome n ∷ order.Load ∷ os) (joined_single _ (order.FrameHome n ∷ order.Load ∷ os) is))
 single_fits (order.FrameHome n) (x ∷ os) is = omega (arith, behind_unsaved (order.FrameHome n) tt x os)
 single_fits o os is = omega (arith, behind_other None o tt (λ x. refl) refl os)
-
--- a multiplication by a number, and codes that hang on one
-times_long : (b : Bool) (stop line n : ℕ) → length (blanks (times_if b stop line n)) ≡ (if b then 14 else 12)
-times_long true stop line n = refl
-times_long false stop line n = refl
-
-rescale_long : (up top : Bool) (line from to : ℕ) → length (blanks (rescale_if up top line from to)) ≡ (if up then if top then 14 else 12 else 5)
-rescale_long true top line from to = times_long top overflow_entry line (2 ^ (to - from))
-rescale_long false top line from to = refl
-
-product_scaled_long : (b : Bool) (line n : ℕ) → length (blanks (product_start line ++ times_if b overflow_entry line n)) ≡ (if b then 14 else 12) + 10
-product_scaled_long true line n = refl
-product_scaled_long false line n = refl
-
-product_down_long : (b : Bool) (line n : ℕ) → length (blanks (product_down line b n)) ≡ (if b then 14 else 10)
-product_down_long true line n = refl
-product_down_long false line n = refl
-
-appended_long : (a b : List Coded) → length (blanks (a ++ b)) ≡ length (blanks a) + length (blanks b)
-appended_long a b = ap length (blanks-append a b) ∙ length-append (blanks a) (blanks b)
-
-appended_one : (i : Instr) → length (blanks (coded.Whole i ∷ [])) ≡ length (bytes_of i)
-appended_one i = ap length (append-nil (bytes_of i))
-
--- shifts, and parts of words
-pub shifted_long : (once by_count : Instr) (n : ℕ) → length (bytes_of once) ≡ 2 → length (bytes_of by_count) ≡ 2 → length (blanks (shifted once by_count n)) ≡ shift_size n
-shifted_long once by_count zero o c = refl
-shifted_long once by_count (suc zero) o c = appended_one once ∙ o
-shifted_long once by_count (suc (suc n)) o c =
-    omega (arith, appended_long (coded.Whole (set_word cx (suc (suc n))) ∷ []) (coded.Whole by_count ∷ []), appended_one by_count, c)
-
-lowest_long : (all : Bool) (t : ℕ) → length (blanks (lowest_if all t)) ≡ lowest_size all
-lowest_long true t = refl
-lowest_long false t = refl
-
-pub part_long : (t b : ℕ) (is_signed : Bool) → length (blanks (part_taken t b is_signed)) ≡ part_size t b is_signed
-part_long t b true = omega (arith, appended_long (shifted_up (16 - (t + b))) (shifted_down_signed (16 - t)), shifted_long (shift_up_once ax) (shift_up ax) (16 - (t + b)) refl refl, shifted_long (shift_down_signed_once ax) (shift_down_signed ax) (16 - t) refl refl)
-part_long t b false = omega (arith, appended_long (shifted_down b) (lowest_if (t + b == 16) t), shifted_long (shift_down_once ax) (shift_down ax) b refl refl, lowest_long (t + b == 16) t)
-
-store_part_long : (t b : ℕ) → length (blanks (store_part t b)) ≡ shift_size b + 12
-store_part_long t b =
-    let rest : List Coded = coded.Whole (operate 6 ax at_bx) ∷ coded.Whole (with_number 4 (field_mask t b)) ∷ coded.Whole (change 6 at_bx ax) ∷ [] in
-    omega (arith, appended_long (shifted_up b) rest, shifted_long (shift_up_once ax) (shift_up ax) b refl refl)
-
-bound_long : (line : ℕ) (lower : ℤ) → length (blanks (less_bound line lower)) ≡ bound_size lower
-bound_long line (pos zero) = refl
-bound_long line (pos (suc n)) = refl
-bound_long line (negsuc n) = refl
-
-word_long : (line word : ℕ) → length (blanks (plus_word line word)) ≡ word_size word
-word_long line zero = refl
-word_long line (suc n) = refl
-
-width_long : (one top : Bool) (line n : ℕ)
-    → length (blanks (if one then [] else times_if top address_entry line n)) ≡ (if one then 0 else if top then 14 else 12)
-width_long true top line n = refl
-width_long false top line n = times_long top address_entry line n
-
-element_long : (line : ℕ) (lower : ℤ) → length (blanks (element line lower)) ≡ bound_size lower + 21
-element_long line lower = omega (arith, appended_long (less_bound line lower) (based line), bound_long line lower)
-
-element_of_two_long : (line : ℕ) (lower second : ℤ) (n : ℕ)
-    → length (blanks (element_of_two line lower second n)) ≡ bound_size second + bound_size lower + times_size n + 33
-element_of_two_long line lower second n =
-    let T : List Coded = times address_entry line n in
-    let last : List Coded = in_row line ++ based line in
-    let row : List Coded = less_bound line lower ++ (T ++ last) in
-    omega (arith, appended_long (less_bound line second) (coded.Whole (move cx ax) ∷ coded.Whole (i86.Pop ax) ∷ row), appended_long (less_bound line lower) (T ++ last), appended_long T last, bound_long line second, bound_long line lower, times_long (n == 32768) address_entry line n)
-
-entry_long : (line width word : ℕ) → length (blanks (entry line width word)) ≡ width_size width + word_size word + 21
-entry_long line width word =
-    let rest : List Coded = plus_word line word ++ based line in
-    omega (arith, appended_long (times_width line width) rest, appended_long (plus_word line word) (based line), width_long (width == 1) (width == 32768) line width, word_long line word)
 
 pub listed : (o : Order) → order_size o ≡ listed_size o
 listed (order.Const zero) = refl
@@ -401,25 +322,85 @@ listed (order.InBounds (pos (suc n)) upper line) = refl
 listed (order.InBounds (negsuc n) upper line) = refl
 listed (order.NextStep x line m) = step_taken_long no_names 0 x line m
 listed (order.LoopWay marks) = loop_way_long no_names 0 marks
+listed (order.SwitchWay marks line) = switch_way_long no_names 0 line marks
+listed (order.Enter zero) = refl
+listed (order.Enter (suc n)) = refl
+listed (order.Bind k family offset) = bind_long k family offset
+listed (order.BindFrame k n) = bind_frame_long k n
+listed (order.SpecialOut k) = special_out_long k
+listed (order.CallSpecial k line) = call_special_long k line
+listed (order.GoSpecial k) = go_special_long k
+listed (order.GoSwitchSpecial k line) = go_switch_special_long k line
 listed (order.Element lower span line) = element_long line lower
 listed (order.ElementOfTwo lower second width span line) = element_of_two_long line lower second width
 listed (order.Entry width word span line) = entry_long line width word
 listed _ = refl
 
+-- words of the frame that are fetched and stored, and the blocks that begin with one
+pub fetched_long : (n : ℕ) → pieces_size (address_pieces (cell.Frame n) ++ load_place (cell.Frame n) ∷ []) ≡ frame_size n + 5
+fetched_long n = omega (arith, first_long (load ax (field (2 * n % 65536))) [], field_loaded ax (2 * n % 65536))
+
+pub stored_long : (n : ℕ) → pieces_size (address_pieces (cell.Frame n) ++ store_place (cell.Frame n) ∷ []) ≡ frame_size n + 5
+stored_long n = omega (arith, first_long (store (field (2 * n % 65536)) ax) [], field_stored ax (2 * n % 65536))
+
+pub part_fetched_long : (n t b : ℕ) (is_signed : Bool) (o : Order) → block_size false (block.FetchPart (cell.Frame n) t b is_signed) o ≡ frame_size n + 5 + part_size t b is_signed
+part_fetched_long n t b is_signed o = omega (arith, first_long (load ax (field (2 * n % 65536))) (part_taken t b is_signed), field_loaded ax (2 * n % 65536), part_long t b is_signed)
+
+pub part_stored_long : (n t b : ℕ) (o : Order) → block_size false (block.AssignPart (cell.Frame n) t b) o ≡ shift_size b + (2 * frame_size n + 10)
+part_stored_long n t b o =
+    let last : List Coded = change_place 6 (cell.Frame n) ∷ [] in
+    let taken : List Coded = operate_place 6 (cell.Frame n) ∷ coded.Whole (with_number 4 (field_mask t b)) ∷ last in
+    omega (
+      arith,
+      appended_long (shifted_up b) (address_pieces (cell.Frame n) ++ taken),
+      shifted_long (shift_up_once ax) (shift_up ax) b refl refl,
+      first_long (operate 6 ax (field (2 * n % 65536))) (coded.Whole (with_number 4 (field_mask t b)) ∷ last),
+      first_long (change 6 (field (2 * n % 65536)) ax) [],
+      field_operated 6 ax (2 * n % 65536),
+      field_changed 6 ax (2 * n % 65536),
+    )
+
+pub both_long : (n m : ℕ) (o : Order) → block_size false (block.FetchBoth n m) o ≡ frame_size n + (frame_size m + 8)
+both_long n m o =
+    let last : List Coded = coded.Whole (load ax (field (2 * m % 65536))) ∷ [] in
+    omega (arith, first_long (load ax (field (2 * n % 65536))) (coded.Whole (i86.Push ax) ∷ last), first_long (load ax (field (2 * m % 65536))) [], field_loaded ax (2 * n % 65536), field_loaded ax (2 * m % 65536))
+
+pub word_compared_long : (n w : ℕ) → pieces_size (word_compared n w) ≡ frame_size n + 7
+word_compared_long n w = omega (arith, first_long (compare_number (field (2 * n % 65536)) w) [], field_compared (2 * n % 65536) w)
+
+pub compare_word_long : (short : Bool) (n w : ℕ) (c : Comparator) (m : ℕ) (o : Order) → block_size short (block.CompareWord n w c m) o ≡ frame_size n + 7 + (if short then 2 else 5)
+compare_word_long short n w c m o = omega (arith, compared_long short (word_compared n w) c (0 + pieces_size (word_compared n w)) (mark_place no_names m), word_compared_long n w)
+
+-- an order that uses one
+pub frame_with_long : (op n : ℕ) → length (blanks (with_operand op (simple.Contents (cell.Frame n)))) ≡ frame_size n + 5
+frame_with_long op n = omega (arith, first_long (operate op ax (field (2 * n % 65536))) [], field_operated op ax (2 * n % 65536))
+
+pub frame_used_long : (n : ℕ) (u : Use) → block_size false (block.Operate (simple.Contents (cell.Frame n)) u) order.Save ≡ frame_size n + 3 + used_size u
+frame_used_long n (uses.Add line) = omega (arith, appended_long (with_operand 0 (simple.Contents (cell.Frame n))) (checked line), frame_with_long 0 n)
+frame_used_long n (uses.Subtract line) = omega (arith, appended_long (with_operand 5 (simple.Contents (cell.Frame n))) (checked line), frame_with_long 5 n)
+frame_used_long n (uses.Multiply line) =
+    let last : List Coded = coded.Whole (multiply cx) ∷ checked line in
+    omega (arith, first_long (load ax (field (2 * n % 65536))) last, field_loaded ax (2 * n % 65536))
+frame_used_long n uses.Mask = omega (arith, frame_with_long 4 n)
+frame_used_long n uses.Union = omega (arith, frame_with_long 1 n)
+frame_used_long n uses.Differ = omega (arith, frame_with_long 6 n)
+frame_used_long n (uses.Compare c m) =
+    omega (arith, compared_long false (with_operand 7 (simple.Contents (cell.Frame n))) c (0 + pieces_size (with_operand 7 (simple.Contents (cell.Frame n)))) (mark_place no_names m), frame_with_long 7 n)
+
 -- the orders of a block, and those behind it
 fetch_fits : (x : Place) (rest : List Order) → pieces_size (address_pieces x ++ load_place x ∷ []) + listed_sizes rest ≤ listed_sizes (address_orders x ++ order.Load ∷ rest)
 fetch_fits (cell.Word f n) rest = omega (arith, behind_other (Some (order.Home f n)) order.Load tt (λ x. refl) refl rest)
-fetch_fits (cell.Frame n) rest = omega (arith, behind_other (Some (order.FrameHome n)) order.Load tt (λ x. refl) refl rest)
+fetch_fits (cell.Frame n) rest = omega (arith, fetched_long n, frame_few n, behind_other (Some (order.FrameHome n)) order.Load tt (λ x. refl) refl rest)
 
 assign_fits : (x : Place) (rest : List Order) → pieces_size (address_pieces x ++ store_place x ∷ []) + listed_sizes rest ≤ listed_sizes (order.Save ∷ (address_orders x ++ order.Store ∷ rest))
 assign_fits (cell.Word f n) rest = omega (arith, behind_other (Some (order.Home f n)) order.Store tt (λ x. refl) refl rest)
-assign_fits (cell.Frame n) rest = omega (arith, behind_other (Some (order.FrameHome n)) order.Store tt (λ x. refl) refl rest)
+assign_fits (cell.Frame n) rest = omega (arith, stored_long n, frame_few n, behind_other (Some (order.FrameHome n)) order.Store tt (λ x. refl) refl rest)
 
 -- parts
 fetch_part_fits : (x : Place) (t b : ℕ) (is_signed : Bool) (rest : List Order)
     → pieces_size (address_pieces x ++ load_place x ∷ part_taken t b is_signed) + listed_sizes rest ≤ listed_sizes (address_orders x ++ order.LoadPart t b is_signed ∷ rest)
 fetch_part_fits (cell.Word f n) t b is_signed rest = omega (arith, part_long t b is_signed, behind_other (Some (order.Home f n)) (order.LoadPart t b is_signed) tt (λ x. refl) refl rest)
-fetch_part_fits (cell.Frame n) t b is_signed rest = omega (arith, part_long t b is_signed, behind_other (Some (order.FrameHome n)) (order.LoadPart t b is_signed) tt (λ x. refl) refl rest)
+fetch_part_fits (cell.Frame n) t b is_signed rest = omega (arith, part_fetched_long n t b is_signed order.Save, frame_few n, behind_other (Some (order.FrameHome n)) (order.LoadPart t b is_signed) tt (λ x. refl) refl rest)
 
 assign_part_fits : (x : Place) (t b : ℕ) (rest : List Order)
     → pieces_size (shifted_up b ++ (address_pieces x ++ operate_place 6 x ∷ coded.Whole (with_number 4 (field_mask t b)) ∷ change_place 6 x ∷ [])) + listed_sizes rest
@@ -431,7 +412,7 @@ assign_part_fits x t b rest = cases x
 
     cases : (y : Place) → pieces_size (shifted_up b ++ changed y) + listed_sizes rest ≤ listed_sizes (order.Save ∷ (address_orders y ++ order.StorePart t b ∷ rest))
     cases (cell.Word f n) = omega (arith, appended_long (shifted_up b) (changed (cell.Word f n)), shifted_long (shift_up_once ax) (shift_up ax) b refl refl, behind_other (Some (order.Home f n)) (order.StorePart t b) tt (λ x. refl) refl rest)
-    cases (cell.Frame n) = omega (arith, appended_long (shifted_up b) (changed (cell.Frame n)), shifted_long (shift_up_once ax) (shift_up ax) b refl refl, behind_other (Some (order.FrameHome n)) (order.StorePart t b) tt (λ x. refl) refl rest)
+    cases (cell.Frame n) = omega (arith, part_stored_long n t b order.Save, frame_few n, behind_other (Some (order.FrameHome n)) (order.StorePart t b) tt (λ x. refl) refl rest)
 
 -- one more, and less
 count_fits : (down : Bool) (line : ℕ) (rest : List Order) → 8 + listed_sizes rest ≤ listed_sizes (order.Save ∷ order.Const 1 ∷ count_order down line ∷ rest)
@@ -464,11 +445,11 @@ halve_fits w power places line rest =
 -- the address of an element, and the orders that make it
 pub index_long : (x : Place) (family offset : ℕ) → length (blanks (index_added x family offset)) ≡ index_size x
 index_long (cell.Word f n) family offset = refl
-index_long (cell.Frame n) family offset = refl
+index_long (cell.Frame n) family offset = omega (arith, first_long (operate 0 si (field (2 * n % 65536))) [], field_operated 0 si (2 * n % 65536))
 
 pub loaded_long : (x : Place) → length (blanks (index_loaded x)) + 3 ≡ index_size x
 loaded_long (cell.Word f n) = refl
-loaded_long (cell.Frame n) = refl
+loaded_long (cell.Frame n) = omega (arith, first_long (load si (field (2 * n % 65536))) [], field_loaded si (2 * n % 65536))
 
 pub lower_long : (l : ℤ) → length (blanks (from_lower l)) ≡ lower_size l
 lower_long (pos zero) = refl
@@ -518,7 +499,7 @@ address_orders_fit : (x : Place) (f n : ℕ) (l : ℤ) (s line : ℕ) (o : Order
     let behind : ℕ = size_behind (Some (order.Home f n)) (Some (order.Element l s line)) o + sizes_behind (Some (order.Element l s line)) (Some o) rest in
     (index_size x + 20 + behind ≤ listed_sizes list) × (index_size x + 20 + behind ≤ listed_sizes (order.Save ∷ list)))
 address_orders_fit (cell.Word f' n') f n l s line o rest = (omega arith, omega arith)
-address_orders_fit (cell.Frame n') f n l s line o rest = (omega arith, omega arith)
+address_orders_fit (cell.Frame n') f n l s line o rest = (omega (arith, frame_few n'), omega (arith, frame_few n'))
 
 short_lower : (l : ℤ) → lower_size l ≤ 4
 short_lower (pos zero) = omega arith
@@ -535,7 +516,7 @@ bounds_orders_fit : (x : Place) (f n : ℕ) (l u : ℤ) (at s line : ℕ) (o : O
     let behind : ℕ = size_behind (Some (order.Home f n)) (Some (order.Element l s line)) o + sizes_behind (Some (order.Element l s line)) (Some o) rest in
     (index_size x + lower_size l + 23 + behind ≤ listed_sizes list) × (index_size x + lower_size l + 23 + behind ≤ listed_sizes (order.Save ∷ list)))
 bounds_orders_fit (cell.Word f' n') f n l u at s line o rest = (omega (arith, short_lower l, bounds_some l), omega (arith, short_lower l, bounds_some l))
-bounds_orders_fit (cell.Frame n') f n l u at s line o rest = (omega (arith, short_lower l, bounds_some l), omega (arith, short_lower l, bounds_some l))
+bounds_orders_fit (cell.Frame n') f n l u at s line o rest = (omega (arith, short_lower l, bounds_some l, frame_few n'), omega (arith, short_lower l, bounds_some l, frame_few n'))
 
 -- an order behind them
 element_last : (e : Element) (o : Order) (rest : List Order)
@@ -581,7 +562,7 @@ used_last before uses.Union rest = behind_other (Some before) order.Or tt (λ x.
 used_last before uses.Differ rest = behind_other (Some before) order.Xor tt (λ x. refl) refl rest
 used_last before (uses.Compare c m) rest = behind_other (Some before) (order.JumpIf c m) tt (λ x. refl) refl rest
 
-operate_element_fits : (e : Element) (u : Use) (rest : List Order) → pieces_size (operated no_names 0 false (simple.Element e) u) + listed_sizes rest ≤ listed_sizes (order.Save ∷ (operand_orders (simple.Element e) ++ order_of u ∷ rest))
+operate_element_fits : (e : Element) (u : Use) (rest : List Order) → pieces_size (operated no_names 0 0 false (simple.Element e) u) + listed_sizes rest ≤ listed_sizes (order.Save ∷ (operand_orders (simple.Element e) ++ order_of u ∷ rest))
 operate_element_fits e u rest = element u (used_last order.Load u rest)
   where
     listed_behind : (u : Use) → sizes_behind (Some order.Load) (Some (order_of u)) rest ≡ listed_sizes rest → element_size e e.test + 14 + listed_size (order_of u) + listed_sizes rest ≤ listed_sizes (order.Save ∷ (operand_orders (simple.Element e) ++ order_of u ∷ rest))
@@ -603,7 +584,7 @@ operate_element_fits e u rest = element u (used_last order.Load u rest)
         use_behind (uses.Compare c m) same sizes = omega (arith, same, sizes, (element_last e order.Load (order.JumpIf c m ∷ rest)).1)
 
     element : (u : Use) → sizes_behind (Some order.Load) (Some (order_of u)) rest ≡ listed_sizes rest
-        → pieces_size (operated no_names 0 false (simple.Element e) u) + listed_sizes rest ≤ listed_sizes (order.Save ∷ (operand_orders (simple.Element e) ++ order_of u ∷ rest))
+        → pieces_size (operated no_names 0 0 false (simple.Element e) u) + listed_sizes rest ≤ listed_sizes (order.Save ∷ (operand_orders (simple.Element e) ++ order_of u ∷ rest))
     element (uses.Add line) same = omega (arith, listed_behind (uses.Add line) same, element_used_long e (uses.Add line))
     element (uses.Subtract line) same = omega (arith, listed_behind (uses.Subtract line) same, element_used_long e (uses.Subtract line))
     element (uses.Multiply line) same = omega (arith, listed_behind (uses.Multiply line) same, element_used_long e (uses.Multiply line))
@@ -616,14 +597,14 @@ number_some : (w : ℕ) → 2 ≤ number_size w
 number_some zero = omega arith
 number_some (suc w) = omega arith
 
-operate_fits : (s : Simple) (u : Use) (rest : List Order) → pieces_size (operated no_names 0 false s u) + listed_sizes rest ≤ listed_sizes (order.Save ∷ (operand_orders s ++ order_of u ∷ rest))
+operate_fits : (s : Simple) (u : Use) (rest : List Order) → pieces_size (operated no_names 0 0 false s u) + listed_sizes rest ≤ listed_sizes (order.Save ∷ (operand_orders s ++ order_of u ∷ rest))
 operate_fits (simple.Element e) u rest = operate_element_fits e u rest
 operate_fits (simple.Number w) u rest = number u (used_last (order.Const w) u rest)
   where
     some : 2 ≤ number_size w
     some = number_some w
 
-    number : (u : Use) → sizes_behind (Some (order.Const w)) (Some (order_of u)) rest ≡ listed_sizes rest → pieces_size (operated no_names 0 false (simple.Number w) u) + listed_sizes rest ≤ listed_sizes (order.Save ∷ order.Const w ∷ order_of u ∷ rest)
+    number : (u : Use) → sizes_behind (Some (order.Const w)) (Some (order_of u)) rest ≡ listed_sizes rest → pieces_size (operated no_names 0 0 false (simple.Number w) u) + listed_sizes rest ≤ listed_sizes (order.Save ∷ order.Const w ∷ order_of u ∷ rest)
     number (uses.Add line) e = omega (arith, e, some)
     number (uses.Subtract line) e = omega (arith, e, some)
     number (uses.Multiply line) e = omega (arith, e, some)
@@ -634,7 +615,7 @@ operate_fits (simple.Number w) u rest = number u (used_last (order.Const w) u re
 operate_fits (simple.Contents (cell.Word f n)) u rest = word u (used_last order.Load u rest)
   where
     word : (u : Use) → sizes_behind (Some order.Load) (Some (order_of u)) rest ≡ listed_sizes rest
-        → pieces_size (operated no_names 0 false (simple.Contents (cell.Word f n)) u) + listed_sizes rest ≤ listed_sizes (order.Save ∷ order.Home f n ∷ order.Load ∷ order_of u ∷ rest)
+        → pieces_size (operated no_names 0 0 false (simple.Contents (cell.Word f n)) u) + listed_sizes rest ≤ listed_sizes (order.Save ∷ order.Home f n ∷ order.Load ∷ order_of u ∷ rest)
     word (uses.Add line) e = omega (arith, e)
     word (uses.Subtract line) e = omega (arith, e)
     word (uses.Multiply line) e = omega (arith, e)
@@ -642,17 +623,20 @@ operate_fits (simple.Contents (cell.Word f n)) u rest = word u (used_last order.
     word uses.Union e = omega (arith, e)
     word uses.Differ e = omega (arith, e)
     word (uses.Compare c m) e = omega (arith, e)
-operate_fits (simple.Contents (cell.Frame n)) u rest = word u (used_last order.Load u rest)
+operate_fits (simple.Contents (cell.Frame n)) u rest = word u (used_last order.Load u rest) (frame_used_long n u)
   where
-    word : (u : Use) → sizes_behind (Some order.Load) (Some (order_of u)) rest ≡ listed_sizes rest
-        → pieces_size (operated no_names 0 false (simple.Contents (cell.Frame n)) u) + listed_sizes rest ≤ listed_sizes (order.Save ∷ order.FrameHome n ∷ order.Load ∷ order_of u ∷ rest)
-    word (uses.Add line) e = omega (arith, e)
-    word (uses.Subtract line) e = omega (arith, e)
-    word (uses.Multiply line) e = omega (arith, e)
-    word uses.Mask e = omega (arith, e)
-    word uses.Union e = omega (arith, e)
-    word uses.Differ e = omega (arith, e)
-    word (uses.Compare c m) e = omega (arith, e)
+    few : frame_size n ≤ 2
+    few = frame_few n
+
+    word : (u : Use) → sizes_behind (Some order.Load) (Some (order_of u)) rest ≡ listed_sizes rest → block_size false (block.Operate (simple.Contents (cell.Frame n)) u) order.Save ≡ frame_size n + 3 + used_size u
+        → block_size false (block.Operate (simple.Contents (cell.Frame n)) u) order.Save + listed_sizes rest ≤ listed_sizes (order.Save ∷ order.FrameHome n ∷ order.Load ∷ order_of u ∷ rest)
+    word (uses.Add line) e size = omega (arith, e, size, few)
+    word (uses.Subtract line) e size = omega (arith, e, size, few)
+    word (uses.Multiply line) e size = omega (arith, e, size, few)
+    word uses.Mask e size = omega (arith, e, size, few)
+    word uses.Union e size = omega (arith, e, size, few)
+    word uses.Differ e size = omega (arith, e, size, few)
+    word (uses.Compare c m) e size = omega (arith, e, size, few)
 
 -- an index that is compared with bounds, and the address that is formed of it
 top_lower_long : (l : ℤ) → length (blanks (top_from_lower l)) ≡ top_lower_size l
@@ -660,7 +644,7 @@ top_lower_long (pos zero) = refl
 top_lower_long (pos (suc n)) = refl
 top_lower_long (negsuc n) = refl
 
-formed_long : (f n : ℕ) (w : Form) → length (blanks (formed f n w)) ≡ formed_size w
+pub formed_long : (f n : ℕ) (w : Form) → length (blanks (formed f n w)) ≡ formed_size w
 formed_long f n (form.Element span line) = refl
 formed_long f n (form.Entry width word span line) = cases (width == 1)
   where
@@ -687,6 +671,58 @@ bounded_fits b rest = cases b.form
     cases (form.Entry width word span line) =
         omega (arith, one (width == 1), bounds_some b.bounds.lower, behind_other (Some (order.Home b.family b.first)) (order.Entry width word span line) tt (λ x. refl) refl rest)
 
+-- two indexes that are compared with bounds, and the address of both
+pub column_long : (c : Column) → length (blanks (column_loaded c)) ≡ column_size c
+column_long (column.Number w) = refl
+column_long (column.Contents (cell.Word f n)) = refl
+column_long (column.Contents (cell.Frame n)) = omega (arith, loaded_long (cell.Frame n))
+
+pub row_long : (r : Row) → block_size false (block.Row r) order.Save ≡ row_size r
+row_long r =
+    let first : List Coded = top_below r.rows.line (indexes_between (r.rows.upper -ℤ r.rows.lower)) in
+    let test : List Coded = column_below r.columns.line (indexes_between (r.columns.upper -ℤ r.columns.lower)) in
+    let base : List Coded = formed r.family r.first (form.Entry r.width 0 r.span r.line) in
+    let sum : List Coded = coded.Whole (add ax si) ∷ [] in
+    omega (
+      arith,
+      appended_long (top_from_lower r.rows.lower) (first ++ column_tested r),
+      appended_long first (column_tested r),
+      appended_long (column_loaded r.column) (from_lower r.columns.lower ++ (test ++ row_summed r)),
+      appended_long (from_lower r.columns.lower) (test ++ row_summed r),
+      appended_long test (row_summed r),
+      appended_long base sum,
+      top_lower_long r.rows.lower,
+      column_long r.column,
+      lower_long r.columns.lower,
+      formed_long r.family r.first (form.Entry r.width 0 r.span r.line),
+    )
+
+row_fits : (r : Row) (rest : List Order) → row_size r + listed_sizes rest ≤ listed_sizes (orders_to_row r ++ row_order r ∷ rest)
+row_fits r rest = cases r.column
+  where
+    width : formed_size (form.Entry r.width 0 r.span r.line) ≤ 9
+    width = one (r.width == 1)
+      where
+        one : (i : Bool) → (if i then 4 else 9) ≤ 9
+        one true = omega arith
+        one false = omega arith
+
+    times : 12 ≤ times_size r.width
+    times = top (r.width == 32768)
+      where
+        top : (i : Bool) → 12 ≤ (if i then 14 else 12)
+        top true = omega arith
+        top false = omega arith
+
+    same : sizes_behind (Some (order.Home r.family r.first)) (Some (row_order r)) rest ≡ listed_sizes rest
+    same = behind_other (Some (order.Home r.family r.first)) (row_order r) tt (λ x. refl) refl rest
+
+    cases : (c : Column) → top_lower_size r.rows.lower + column_size c + lower_size r.columns.lower + formed_size (form.Entry r.width 0 r.span r.line) + 23 + listed_sizes rest
+        ≤ listed_sizes ((order.InBounds r.rows.lower r.rows.upper r.rows.line ∷ order.Save ∷ (column_orders c ++ orders_in_row r)) ++ row_order r ∷ rest)
+    cases (column.Number w) = omega (arith, same, width, times, bounds_some r.rows.lower, bounds_some r.columns.lower, short_lower r.columns.lower, number_some w)
+    cases (column.Contents (cell.Word f n)) = omega (arith, same, width, times, bounds_some r.rows.lower, bounds_some r.columns.lower, short_lower r.columns.lower)
+    cases (column.Contents (cell.Frame n)) = omega (arith, same, width, times, bounds_some r.rows.lower, bounds_some r.columns.lower, short_lower r.columns.lower, frame_few n)
+
 -- a block, and the orders behind it
 abbrev FromBlock : Block → Order → List Order → Type 0
 FromBlock b o os = block_size false b o + listed_sizes (drop (orders_left b) os) ≤ listed_sizes (o ∷ os)
@@ -712,6 +748,9 @@ block_fits o os = cases (block_of (o ∷ os)) refl (shape (o ∷ os))
     cases (block.Count down line) is sh = omega (arith, ap listed_sizes sh, count_fits down line (drop 2 os), count_long down line)
     cases (block.Halve w power places line) is sh = omega (arith, ap listed_sizes sh.0, halve_fits w power places line (drop 2 os))
     cases (block.Bounded b) is sh = omega (arith, ap listed_sizes sh.0, bounded_long b, bounded_fits b (drop 3 os))
+    cases (block.Row r) is sh = omega (arith, ap listed_sizes sh.0, row_long r, row_fits r (drop (suc (suc (length (column_orders r.column ++ orders_in_row r)))) os))
+    cases (block.FetchBoth n m) is sh = omega (arith, both_long n m o, frame_few n, frame_few m, ap listed_sizes sh, behind_other (Some (order.FrameHome m)) order.Load tt (λ x. refl) refl (drop 4 os))
+    cases (block.CompareWord n w c m) is sh = omega (arith, compare_word_long false n w c m o, frame_few n, ap listed_sizes sh, number_some w, behind_other (Some (order.Const w)) (order.JumpIf c m) tt (λ x. refl) refl (drop 4 os))
 
 whole_within : (names : Names) (place number left : ℕ) (os : List Order) → length (blanks (templates names place number left os)) ≤ listed_sizes (drop left os)
 whole_within names place number zero [] = omega arith
@@ -719,56 +758,26 @@ whole_within names place number (suc n) [] = omega arith
 whole_within names place number zero (o ∷ os) =
     let b = block_at 0 (o ∷ os) in
     let short = is_short names.reach number b o in
-    let X = block_pieces names place short b o in
+    let X = block_pieces names place number short b o in
     let rest = templates names (place + block_size short b o) (suc number) (orders_left b) os in
     let long = ap length (blanks-append X rest) ∙ length-append (blanks X) (blanks rest) in
-    omega (arith, long, size_everywhere names place short b o, shorter_by short b o, block_fits o os, whole_within names (place + block_size short b o) (suc number) (orders_left b) os)
+    omega (arith, long, size_everywhere names place number short b o, shorter_by short b o, block_fits o os, whole_within names (place + block_size short b o) (suc number) (orders_left b) os)
 whole_within names place number (suc n) (o ∷ os) = whole_within names (place + 0) (suc number) n os
 
 pub whole : (names : Names) (place number : ℕ) (os : List Order) → length (blanks (templates names place number 0 os)) ≤ listed_sizes os
 whole names place number os = whole_within names place number 0 os
 
--- ---- landings and switches
+-- ---- a list of orders
 
 pub size_of_templates : (names : Names) (at number left : ℕ) (os : List Order) → length (blanks (templates names at number left os)) ≡ size_to (is_short names.reach) number left os (length os)
 size_of_templates names at number left [] = refl
 size_of_templates names at number left (o ∷ os) =
     let b = block_at left (o ∷ os) in
     let short = is_short names.reach number b o in
-    let X = block_pieces names at short b o in
+    let X = block_pieces names at number short b o in
     let rest = templates names (at + block_size short b o) (suc number) (orders_left b) os in
     let long = ap length (blanks-append X rest) ∙ length-append (blanks X) (blanks rest) in
-    omega (arith, long, size_everywhere names at short b o, size_of_templates names (at + block_size short b o) (suc number) (orders_left b) os)
-
-pub size_of_landings : (names : Names) (place : ℕ) (ms : List LabelMark) → length (blanks (landings names place ms)) ≡ 15 * length ms
-size_of_landings names place [] = refl
-size_of_landings names place (m ∷ ms) =
-    let rest = landings names (place + 15) ms in
-    let long = ap length (blanks-append (landing_pieces names place m) rest) ∙ length-append (blanks (landing_pieces names place m)) (blanks rest) in
-    let one : length (blanks (landing_pieces names place m)) ≡ 15 = refl in
-    omega (arith, long, one, size_of_landings names (place + 15) ms)
-
-pub size_of_switch : (names : Names) (place : ℕ) (gs : List Goal) → length (blanks (switch_pieces names place gs)) ≡ switch_size gs
-size_of_switch names place gs = omega (arith, size_of_goals names gs)
-
-pub size_of_switches : (names : Names) (place : ℕ) (list : List (List Goal)) → length (blanks (switches names place list)) ≡ switch_sizes list
-size_of_switches names place [] = refl
-size_of_switches names place (gs ∷ rest) =
-    let others = switches names (place + switch_size gs) rest in
-    let long = ap length (blanks-append (switch_pieces names place gs) others) ∙ length-append (blanks (switch_pieces names place gs)) (blanks others) in
-    omega (arith, long, size_of_switch names place gs, size_of_switches names (place + switch_size gs) rest)
-
--- all of them
-pub segment_size : (o : Orders) → length (blanks (pieces_of o)) ≤ entry_size + (listed_sizes o.list + (15 * length o.labels + switch_sizes o.switches))
-segment_size o =
-    let N = names_of o in
-    let T = templates N entry_size 0 0 o.list in
-    let L = landings N (landings_place o) o.labels in
-    let S = switches N (switches_place o) o.switches in
-    let first = ap length (blanks-append entry_pieces (T ++ (L ++ S))) ∙ length-append (blanks entry_pieces) (blanks (T ++ (L ++ S))) in
-    let second = ap length (blanks-append T (L ++ S)) ∙ length-append (blanks T) (blanks (L ++ S)) in
-    let third = ap length (blanks-append L S) ∙ length-append (blanks L) (blanks S) in
-    omega (arith, first, second, third, whole N entry_size 0 o.list, size_of_landings N (landings_place o) o.labels, size_of_switches N (switches_place o) o.switches)
+    omega (arith, long, size_everywhere names at number short b o, size_of_templates names (at + block_size short b o) (suc number) (orders_left b) os)
 
 -- where the landings start, which is the end of the orders' code
 pub landings_at : (o : Orders) → landings_place o ≡ own_place o (length o.list)

@@ -1,8 +1,8 @@
 -- How the orders of a list stand in blocks. A block has one piece of code. Its orders but the last only save the top operand, put a word, or
--- make the address of an element; the code leaves that operand where it is, and takes the word from its own instruction or from memory. The
--- address of an element may stop. A mark stands at the first order of a block alone. Where a block begins with the comparison of an index with
--- bounds, that index is the top operand.
-use Rattle.std.specs.Prelude.{◌≡◌, ℕ, zero, suc, ◌+◌, ◌*◌, ◌-◌, ◌==◌, ◌&&◌, if◌then◌else◌, nat_lt, nat_le, int_le, ◌-ℤ◌, ℤ, pos, negsuc, Bool, true, false, List, [], ◌∷◌, ◌++◌, length, Option, Some, None, slice_get}
+-- make the address of an element; the code leaves that operand where it is, and takes the word from its own instruction or from memory. Of two
+-- words of the frame that are put, the first one is pushed. The address of an element may stop, and so may the comparison of an index with bounds. A
+-- mark stands at the first order of a block alone. Where a block begins with the comparison of an index with bounds, that index is the top operand.
+use Rattle.std.specs.Prelude.{◌≡◌, ℕ, zero, suc, ◌+◌, ◌*◌, ◌-◌, ◌==◌, ◌&&◌, if◌then◌else◌, nat_lt, nat_le, int_le, ◌-ℤ◌, ℤ, pos, negsuc, Bool, true, false, List, [], ◌∷◌, ◌++◌, length, drop, Option, Some, None, slice_get}
 use Rattle.cw_order.specs.declared.order.Order.{Order}
 use Rattle.cw_order.specs.declared.order.Order.TheVariants as order
 use Rattle.cw_order.specs.declared.order.Place.{Place}
@@ -16,6 +16,10 @@ use Rattle.cw_tmpl.specs.declared.blocks.Simple.TheVariants as simple
 use Rattle.cw_tmpl.specs.declared.blocks.Form.{Form}
 use Rattle.cw_tmpl.specs.declared.blocks.Form.TheVariants as form
 use Rattle.cw_tmpl.specs.declared.blocks.Bounded.{Bounded}
+use Rattle.cw_tmpl.specs.declared.rows.Column.{Column}
+use Rattle.cw_tmpl.specs.declared.rows.Column.TheVariants as column
+use Rattle.cw_tmpl.specs.declared.rows.Item.{Item}
+use Rattle.cw_tmpl.specs.declared.rows.Row.{Row}
 use Rattle.cw_tmpl.specs.declared.blocks.Use.{Use}
 use Rattle.cw_tmpl.specs.declared.blocks.Use.TheVariants as uses
 use Rattle.cw_tmpl.specs.declared.blocks.Block.{Block}
@@ -47,6 +51,23 @@ orders_to_form b = order.InBounds b.bounds.lower b.bounds.upper b.bounds.line �
 abbrev pub form_order : (lower : ℤ) → Form → Order
 form_order lower (form.Element span line) = order.Element lower span line
 form_order lower (form.Entry width word span line) = order.Entry width word span line
+
+-- those that put a second index
+abbrev pub column_orders : Column → List Order
+column_orders (column.Number w) = order.Const w ∷ []
+column_orders (column.Contents x) = address_orders x ++ order.Load ∷ []
+
+-- those that compare it, and put the address of the first word
+abbrev pub orders_in_row : Row → List Order
+orders_in_row r = order.InBounds r.columns.lower r.columns.upper r.columns.line ∷ order.Save ∷ order.Home r.family r.first ∷ []
+
+-- those from the comparison of the first index of two with bounds to the order that makes an address of both
+abbrev pub orders_to_row : Row → List Order
+orders_to_row r = order.InBounds r.rows.lower r.rows.upper r.rows.line ∷ order.Save ∷ (column_orders r.column ++ orders_in_row r)
+
+-- and that order
+abbrev pub row_order : Row → Order
+row_order r = order.ElementOfTwo r.rows.lower r.columns.lower r.width r.span r.line
 
 -- those that put a simple operand
 abbrev pub operand_orders : Simple → List Order
@@ -80,6 +101,9 @@ orders_before (block.AssignElement e) = order.Save ∷ element_orders e
 orders_before (block.Count down line) = order.Save ∷ order.Const 1 ∷ []
 orders_before (block.Halve w power places line) = order.Save ∷ order.Const w ∷ []
 orders_before (block.Bounded b) = orders_to_form b
+orders_before (block.Row r) = orders_to_row r
+orders_before (block.CompareWord n w c m) = order.FrameHome n ∷ order.Load ∷ order.Save ∷ order.Const w ∷ []
+orders_before (block.FetchBoth n m) = order.FrameHome n ∷ order.Load ∷ order.Save ∷ order.FrameHome m ∷ []
 
 -- one more, and one less
 abbrev pub count_order : (down : Bool) → (line : ℕ) → Order
@@ -102,6 +126,9 @@ last_order (block.AssignElement e) = order.Store
 last_order (block.Count down line) = count_order down line
 last_order (block.Halve w power places line) = order.Mul power line
 last_order (block.Bounded b) = form_order b.bounds.lower b.form
+last_order (block.Row r) = row_order r
+last_order (block.CompareWord n w c m) = order.JumpIf c m
+last_order (block.FetchBoth n m) = order.Load
 
 -- how many orders follow in the block
 abbrev pub orders_left : Block → ℕ
@@ -335,17 +362,104 @@ abbrev pub at_bounds : (bounds : Option Bounds) → (saves puts forms : Option O
 at_bounds None saves puts forms = block.Single
 at_bounds (Some b) saves puts forms = behind_bounds b saves puts forms
 
+-- the second index of two that the first orders of a list put
+abbrev pub column_at : List Order → Option Column
+column_at (order.Const w ∷ os) = Some (column.Number w)
+column_at (order.Home f n ∷ order.Load ∷ os) = Some (column.Contents (cell.Word f n))
+column_at (order.FrameHome n ∷ order.Load ∷ os) = Some (column.Contents (cell.Frame n))
+column_at _ = None
+
+-- whether the word at both upper bounds, which are so far from the lower ones, is among those that are known to be in the data area
+abbrev pub last_within : (rows columns : ℤ) → (width span : ℕ) → Bool
+last_within (pos m) (pos n) width span = nat_lt (m * width + n) span
+last_within rows columns width span = false
+
+-- whether all indexes between the bounds name words that are known to be in the data area
+abbrev pub row_within : Row → Bool
+row_within r =
+    let rows = r.rows.upper -ℤ r.rows.lower in
+    let columns = r.columns.upper -ℤ r.columns.lower in
+    is_within rows r.span && (is_within columns r.span && last_within rows columns r.width r.span)
+
+abbrev pub row_if : (here : Bool) → Row → Option Row
+row_if here r = if here && row_within r then Some r else None
+
+abbrev pub same_bound : ℤ → ℤ → Bool
+same_bound a b = int_le a b && int_le b a
+
+-- an item of two dimensions, of which two orders make the address of an element
+abbrev pub item_of : (puts forms : Option Order) → Option Item
+item_of (Some (order.Home f n)) (Some (order.ElementOfTwo l1 l2 width span line)) =
+    Some (record { family = f; first = n; lower = l1; second = l2; width = width; span = span; line = line })
+item_of _ _ = None
+
+-- it begins at the lower bounds
+abbrev pub row_made : (rows : Bounds) → Column → (columns : Bounds) → Option Item → Option Row
+row_made rows c columns None = None
+row_made rows c columns (Some i) =
+    row_if (same_bound rows.lower i.lower && same_bound columns.lower i.second)
+    (record { rows = rows; column = c; columns = columns; family = i.family; first = i.first; width = i.width; span = i.span; line = i.line })
+
+-- behind the comparison of the second index
+abbrev pub row_formed : (rows : Bounds) → Column → (columns : Option Bounds) → (saves puts forms : Option Order) → Option Row
+row_formed rows c None saves puts forms = None
+row_formed rows c (Some columns) saves puts forms = if is_save saves then row_made rows c columns (item_of puts forms) else None
+
+-- behind that of the first one and a Save
+abbrev pub row_behind : (rows : Bounds) → Option Column → List Order → Option Row
+row_behind rows None os = None
+row_behind rows (Some c) os =
+    let k = length (column_orders c) in
+    row_formed rows c (bounds_at (slice_get os k)) (slice_get os (k + 1)) (slice_get os (k + 2)) (slice_get os (k + 3))
+
+abbrev pub row_saved : (rows : Bounds) → List Order → Option Row
+row_saved rows (order.Save ∷ os) = row_behind rows (column_at os) os
+row_saved rows _ = None
+
+abbrev pub row_from : (rows : Option Bounds) → List Order → Option Row
+row_from None os = None
+row_from (Some rows) os = row_saved rows os
+
+abbrev pub row_at : List Order → Option Row
+row_at os = row_from (bounds_at (slice_get os 0)) (drop 1 os)
+
 -- the block that begins with the first order of a list, where it is no address
 abbrev pub block_if_saved : List Order → Block
 block_if_saved (order.Save ∷ os) = saved_or (element_at (place_at os) os) os (saved_from (place_at os) os)
 block_if_saved os = at_bounds (bounds_at (slice_get os 0)) (slice_get os 1) (slice_get os 2) (slice_get os 3)
 
+-- an element of two dimensions, and another block where there is none
+abbrev pub row_or : Option Row → (other : Block) → Block
+row_or None other = other
+row_or (Some r) other = block.Row r
+
 abbrev pub block_from : Option Place → List Order → Block
-block_from None os = block_if_saved os
+block_from None os = row_or (row_at os) (block_if_saved os)
 block_from (Some x) os = fetched_or (element_at (Some x) os) os (fetched_from (Some x) os)
 
+-- the same, where a word of the frame that is fetched is all of its block
+abbrev pub block_alone : List Order → Block
+block_alone os = block_from (place_at os) os
+
+-- what stands behind such a word: a Save, a number and a comparison, or else
+abbrev pub compared_or : (offset : ℕ) → (saves puts jumps : Option Order) → (other : Block) → Block
+compared_or n (Some order.Save) (Some (order.Const w)) (Some (order.JumpIf c m)) other = block.CompareWord n w c m
+compared_or n _ _ _ other = other
+
+-- or a Save alone, and behind it another word of the frame that is only fetched, or else
+abbrev pub both_or : (offset : ℕ) → (saves : Option Order) → (saved next : Block) → (other : Block) → Block
+both_or n (Some order.Save) block.Single (block.Fetch (cell.Frame m)) other = block.FetchBoth n m
+both_or n _ _ _ other = other
+
+abbrev pub fetched_behind : (offset : ℕ) → List Order → Block
+fetched_behind n os = both_or n (slice_get os 2) (block_alone (drop 2 os)) (block_alone (drop 3 os)) (block.Fetch (cell.Frame n))
+
+abbrev pub joined : Block → List Order → Block
+joined (block.Fetch (cell.Frame n)) os = compared_or n (slice_get os 2) (slice_get os 3) (slice_get os 4) (fetched_behind n os)
+joined b os = b
+
 abbrev pub block_of : List Order → Block
-block_of os = block_from (place_at os) os
+block_of os = joined (block_alone os) os
 
 -- how the first order of a list stands, where so many are left of the block before
 abbrev pub block_at : (left : ℕ) → List Order → Block
@@ -375,4 +489,5 @@ NamesParts (block.Operate s u) = OperandWithin s
 NamesParts (block.FetchElement e) = TestsWithin e e.test
 NamesParts (block.AssignElement e) = TestsWithin e e.test
 NamesParts (block.Bounded b) = form_within b.bounds b.first b.form ≡ true
+NamesParts (block.Row r) = row_within r ≡ true
 NamesParts b = Unit {0}

@@ -4,6 +4,9 @@ pub mod Library
 pub mod Names
 pub mod Blocks
 pub mod Templates
+pub mod Sizes
+pub mod Backward
+pub mod Named
 pub mod ReferenceCode
 pub mod Assembling
 pub mod Blanks

@@ -7,7 +7,7 @@ use Rattle.cw_i86.specs.declared.instr.Instr.TheVariants as i86
 use Rattle.cw_i86.specs.declared.instr.Rm.TheVariants as rms
 use Rattle.cw_run86.specs.Views.{with_number}
 use Rattle.cw_unit.specs.Stop.{StopKind, Overflow, ZeroDivisor, SwitchRange, AddressRange, FramesFull, DepthReached, IndexRange}
-use Rattle.cw_tmpl.specs.Mnemonics.{ax, bx, cx, dx, sp, bp, si, di, al, ah, segment_slot, calls_slot, rest_slot, slot, at_bx, at_si, near_field, code_at_bx, code_behind_bx, code_at_si, code_behind_si, set_word, set_byte, load, store, move, add, add_number, add_word, subtract, subtract_word, compare, compare_word, one_of, either, negate, double, exchange, shift_up, shift_down, shift_down_signed, multiply, divide, jump_to, jump_if_overflow, jump_if_below, jump_if_not_below, jump_if_equal, jump_if_unequal, jump_if_sign, jump_if_at_most, bytes_of_all}
+use Rattle.cw_tmpl.specs.Mnemonics.{ax, bx, cx, dx, sp, bp, si, di, al, ah, segment_slot, calls_slot, rest_slot, slot, at_bx, at_si, near_field, code_at_bx, code_behind_bx, code_at_si, code_behind_si, set_word, set_byte, load, store, move, add, add_number, add_word, subtract, subtract_word, compare, compare_word, one_of, either, negate, double, exchange, shift_up, shift_down, shift_down_signed, multiply, divide, jump_to, jump_if_overflow, jump_if_below, jump_if_not_below, jump_if_equal, jump_if_unequal, jump_if_sign, jump_if_at_most, jump_if_cx_zero, bytes_of_all}
 
 -- ---- the end, and the entries of earlier libraries
 
@@ -275,10 +275,19 @@ step_line_place = 422
 abbrev pub step_line : List Instr
 step_line = i86.Pop bx ∷ load dx (code_behind_bx 5) ∷ i86.Jump 65161 ∷ []
 
+-- ---- an activation that code of a segment begins
+
+-- Stops at the line in DX, with Depth where no call is left, which is where CX is 0, and else with Frames.
+abbrev pub enter_stop_place : ℕ
+enter_stop_place = 430
+
+abbrev pub enter_stop : List Instr
+enter_stop = jump_if_cx_zero 3 ∷ i86.Jump 65188 ∷ i86.Jump 65181 ∷ []
+
 -- ---- the whole
 
 -- the stops with the line behind their call, and then those with the line in DX: address and sum of the routines of loops, switch, depth, frames;
--- the step of a loop is last
+-- the step of a loop and the stop of an activation are last
 abbrev pub routines : List (List Instr)
 routines =
     start_routine
@@ -286,7 +295,7 @@ routines =
     ∷ told_stop 4 0xEC ∷ told_stop 1 0xE8 ∷ told_stop 3 0xE4 ∷ told_stop 6 0xE0 ∷ told_stop 5 0xDC
     ∷ enter_routine ∷ read_routine ∷ set_variable_routine ∷ add_step_routine ∷ put_variable_routine ∷ exhausted_routine
     ∷ product_routine ∷ too_large ∷ quotient_down_routine ∷ quotient_up_routine ∷ quotient_end
-    ∷ next_step_test ∷ stepped ∷ left ∷ stepped_any ∷ turned ∷ step_address_stop ∷ step_sum_stop ∷ step_line ∷ []
+    ∷ next_step_test ∷ stepped ∷ left ∷ stepped_any ∷ turned ∷ step_address_stop ∷ step_sum_stop ∷ step_line ∷ enter_stop ∷ []
 
 abbrev pub joined : List (List Instr) → List Instr
 joined [] = []
@@ -351,13 +360,17 @@ enter_entry = 33
 abbrev pub next_step_entry : ℕ
 next_step_entry = 34
 
+abbrev pub enter_stop_entry : ℕ
+enter_stop_entry = 35
+
 abbrev pub places_of_entries : List ℕ
 places_of_entries =
     end_place ∷ retired_place ∷ retired_place ∷ retired_place ∷ retired_place ∷ retired_place ∷ retired_place ∷ retired_place ∷ retired_place
     ∷ retired_place ∷ retired_place ∷ retired_place ∷ retired_place ∷ retired_place ∷ retired_place ∷ retired_place ∷ retired_place ∷ retired_place
     ∷ start_place ∷ stop_place Overflow ∷ stop_place ZeroDivisor ∷ stop_place AddressRange ∷ stop_place IndexRange ∷ stop_place SwitchRange
     ∷ retired_place ∷ read_place ∷ product_place ∷ quotient_down_place ∷ quotient_up_place
-    ∷ set_variable_place ∷ add_step_place ∷ put_variable_place ∷ exhausted_place ∷ enter_place ∷ next_step_place ∷ []
+    ∷ set_variable_place ∷ add_step_place ∷ put_variable_place ∷ exhausted_place ∷ enter_place ∷ next_step_place
+    ∷ enter_stop_place ∷ []
 
 -- the place of a routine
 abbrev pub library_entry : ℕ → Option ℕ

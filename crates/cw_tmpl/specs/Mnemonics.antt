@@ -1,5 +1,5 @@
 -- Registers, the words of an activation record, and short words for the instructions that the templates use.
-use Rattle.std.specs.Prelude.{ℕ, zero, suc, ◌+◌, ◌*◌, true, false, List, [], ◌∷◌, ◌++◌}
+use Rattle.std.specs.Prelude.{if◌then◌else◌, nat_lt, ℕ, zero, suc, ◌+◌, ◌*◌, true, false, List, [], ◌∷◌, ◌++◌}
 use Rattle.cw_i86.specs.declared.instr.Instr.{Instr}
 use Rattle.cw_i86.specs.declared.instr.Instr.TheVariants as i86
 use Rattle.cw_i86.specs.declared.instr.Imm.TheVariants as imm
@@ -75,16 +75,25 @@ memory place = rms.Mem (record { cs = false; place = place })
 abbrev pub slot : ℕ → Rm
 slot by = memory (places.Near 6 by)
 
+-- the word of the stack so many bytes behind BP: the displacement is a byte where one holds it
+abbrev pub behind_bp : (by : ℕ) → Place
+behind_bp by = if nat_lt by 128 then places.Near 6 by else places.Far 6 by
+
 -- the argument that so many words of arguments follow
 abbrev pub argument : ℕ → Rm
-argument n = memory (places.Far 6 (first_argument + 2 * n))
+argument n = memory (behind_bp (first_argument + 2 * n))
 
 -- the word of the data segment at BX, and so many bytes behind it
 abbrev pub at_bx : Rm
 at_bx = memory (places.Plain 7)
 
+-- the operand has no displacement, a byte or a word, as few bytes as hold it
+abbrev pub behind_bx : (by : ℕ) → Place
+behind_bx zero = places.Plain 7
+behind_bx (suc by) = if nat_lt (suc by) 128 then places.Near 7 (suc by) else places.Far 7 (suc by)
+
 abbrev pub field : ℕ → Rm
-field by = memory (places.Far 7 by)
+field by = memory (behind_bx by)
 
 abbrev pub near_field : ℕ → Rm
 near_field by = memory (places.Near 7 by)
@@ -92,6 +101,10 @@ near_field by = memory (places.Near 7 by)
 -- the word of the data segment at SI
 abbrev pub at_si : Rm
 at_si = memory (places.Plain 4)
+
+-- the word of the code at a place
+abbrev pub code_at : (place : ℕ) → Rm
+code_at place = rms.Mem (record { cs = true; place = places.Direct place })
 
 -- the word of the code at BX, at SI, and so many bytes behind that
 abbrev pub code_at_bx : Rm
@@ -176,6 +189,10 @@ change op rm from = i86.AluRm op true false from rm
 abbrev pub operate_number : ℕ → ℕ → ℕ → Instr
 operate_number op reg w = i86.AluImm op (rms.Reg reg) (imm.Word w)
 
+-- a word of memory compared with a number
+abbrev pub compare_number : Rm → ℕ → Instr
+compare_number rm w = i86.AluImm 7 rm (imm.Word w)
+
 abbrev pub change_memory : ℕ → (offset : ℕ) → ℕ → Instr
 change_memory op offset from = change op (memory (places.Direct offset)) from
 
@@ -246,6 +263,10 @@ jump_if_unequal by = i86.JumpIf 5 by
 
 abbrev pub jump_if_sign : ℕ → Instr
 jump_if_sign by = i86.JumpIf 8 by
+
+-- where CX is 0
+abbrev pub jump_if_cx_zero : ℕ → Instr
+jump_if_cx_zero by = i86.Loop 3 by
 
 abbrev pub jump_if_not_less : ℕ → Instr
 jump_if_not_less by = i86.JumpIf 13 by

@@ -6,7 +6,7 @@ use Rattle.cw_i86.specs.declared.instr.Instr.TheVariants as i86
 use Rattle.cw_run86.specs.Views.{with_memory}
 use Rattle.cw_unit.specs.declared.layout.Reloc.{Reloc}
 use Rattle.cw_i86.specs.declared.instr.Place.TheVariants as places
-use Rattle.cw_tmpl.specs.Mnemonics.{entry_of_table, change_memory, operate_number, load, memory}
+use Rattle.cw_tmpl.specs.Mnemonics.{entry_of_table, change_memory, operate_number, load, memory, code_at}
 use Rattle.cw_tmpl.specs.declared.pieces.Limit.{Limit}
 use Rattle.cw_tmpl.specs.declared.pieces.Limit.TheVariants as limit
 use Rattle.cw_tmpl.specs.declared.pieces.Target.{Target}
@@ -22,6 +22,7 @@ bytes_with w (coded.Sum reg t) = bytes_of (operate_number 0 reg w)
 bytes_with w (coded.Fetch reg t) = bytes_of (load reg (memory (places.Direct w)))
 bytes_with w (coded.Load t) = bytes_of (i86.MovAcc false true false w)
 bytes_with w (coded.Store t) = bytes_of (i86.MovAcc false true true w)
+bytes_with w (coded.PushCode t) = bytes_of (i86.PushRm (code_at w))
 bytes_with w (coded.Operate op reg t) = bytes_of (with_memory op reg w)
 bytes_with w (coded.Change op reg t) = bytes_of (change_memory op w reg)
 bytes_with w (coded.Call t) = bytes_of (i86.Call w)
@@ -41,6 +42,7 @@ target_of (coded.Sum reg t) = Some t
 target_of (coded.Fetch reg t) = Some t
 target_of (coded.Load t) = Some t
 target_of (coded.Store t) = Some t
+target_of (coded.PushCode t) = Some t
 target_of (coded.Operate op reg t) = Some t
 target_of (coded.Change op reg t) = Some t
 target_of (coded.Call t) = Some t
@@ -57,6 +59,7 @@ IsCoded (coded.Sum reg t) = IsInstr (operate_number 0 reg 0)
 IsCoded (coded.Fetch reg t) = IsInstr (load reg (memory (places.Direct 0)))
 IsCoded (coded.Load t) = Unit {0}
 IsCoded (coded.Store t) = Unit {0}
+IsCoded (coded.PushCode t) = Unit {0}
 IsCoded (coded.Operate op reg t) = IsInstr (with_memory op reg 0)
 IsCoded (coded.Change op reg t) = IsInstr (change_memory op 0 reg)
 IsCoded (coded.Call t) = Unit {0}

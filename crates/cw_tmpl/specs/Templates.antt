@@ -5,7 +5,8 @@
 -- are in words, and DI has their number. A stop is called in the library, with the line behind the call; a routine that may stop, and a call,
 -- take the line in DX. The segment is told by the activation record. A jump goes by the distance from its end, so its code hangs on where it
 -- stands, and on where the marks' code starts: both are places in the code of the segment. A jump to a mark is near, by a word; where its mark is
--- close by, a block that ends with the jump has a short one, by a byte.
+-- close by, a block that ends with the jump has a short one, by a byte. A block that ends with a check for an overflow calls the stop; where an earlier
+-- block close by calls it with the same line, the check is a short jump back to that CALL.
 use Rattle.std.specs.Prelude.{ℕ, ◌*◌, zero, suc, ◌+◌, ◌-◌, ◌%◌, ◌^◌, ◌==◌, ◌&&◌, nat_lt, nat_le, ℤ, pos, negsuc, ◌-ℤ◌, Bool, true, false, List, [], ◌∷◌, ◌++◌, length, if◌then◌else◌, Option, Some, None, slice_index}
 use Rattle.cw_i86.specs.declared.instr.Instr.{Instr}
 use Rattle.cw_i86.specs.declared.instr.Instr.TheVariants as i86
@@ -34,14 +35,17 @@ use Rattle.cw_tmpl.specs.declared.blocks.Simple.TheVariants as simple
 use Rattle.cw_tmpl.specs.declared.blocks.Form.{Form}
 use Rattle.cw_tmpl.specs.declared.blocks.Form.TheVariants as form
 use Rattle.cw_tmpl.specs.declared.blocks.Bounded.{Bounded}
+use Rattle.cw_tmpl.specs.declared.rows.Column.{Column}
+use Rattle.cw_tmpl.specs.declared.rows.Column.TheVariants as column
+use Rattle.cw_tmpl.specs.declared.rows.Row.{Row}
 use Rattle.cw_tmpl.specs.declared.blocks.Use.{Use}
 use Rattle.cw_tmpl.specs.declared.blocks.Use.TheVariants as uses
 use Rattle.cw_tmpl.specs.declared.blocks.Block.{Block}
 use Rattle.cw_tmpl.specs.declared.blocks.Block.TheVariants as block
-use Rattle.cw_tmpl.specs.Mnemonics.{ax, bx, cx, dx, sp, bp, si, di, segment_slot, base_slot, base_record, base_operands, record_depth, slot, argument, at_bx, at_si, field, set_word, load, store, move, add, subtract, compare, exchange, negate, double, both, either, one_of, shift_up, shift_down, shift_down_signed, multiply, divide_signed, jump_to, jump_if_no_overflow, jump_if_below, jump_if_equal, jump_if_unequal, jump_if_not_less, jump_if_at_most, operate, change, increase, decrease, shift_up_once, shift_down_once, shift_down_signed_once, operate_number, set_ax}
-use Rattle.cw_tmpl.specs.Library.{start_entry, overflow_entry, zero_divisor_entry, address_entry, switch_entry, bounds_entry, enter_entry, read_entry, product_entry, quotient_down_entry, quotient_up_entry, set_variable_entry, add_step_entry, put_variable_entry, exhausted_entry, next_step_entry}
+use Rattle.cw_tmpl.specs.Mnemonics.{ax, bx, cx, dx, sp, bp, si, di, segment_slot, base_slot, base_record, base_operands, record_depth, calls_slot, rest_slot, slot, first_argument, argument, at_bx, at_si, field, set_word, load, store, move, add, subtract, compare, exchange, negate, double, both, either, one_of, shift_up, shift_down, shift_down_signed, multiply, divide_signed, jump_to, jump_if_overflow, jump_if_no_overflow, jump_if_below, jump_if_not_below, jump_if_equal, jump_if_unequal, jump_if_not_less, jump_if_at_most, jump_if_cx_zero, operate, change, increase, decrease, shift_up_once, shift_down_once, shift_down_signed_once, operate_number, compare_number, set_ax}
+use Rattle.cw_tmpl.specs.Library.{start_entry, overflow_entry, zero_divisor_entry, address_entry, switch_entry, bounds_entry, enter_entry, enter_stop_entry, read_entry, product_entry, quotient_down_entry, quotient_up_entry, set_variable_entry, add_step_entry, put_variable_entry, exhausted_entry, next_step_entry}
 use Rattle.cw_tmpl.specs.Pieces.{blanks}
-use Rattle.cw_tmpl.specs.Names.{Reach, Names, no_names, mark_place, label_start, procedure_start, switch_start, own}
+use Rattle.cw_tmpl.specs.Names.{Reach, Names, no_names, mark_place, label_start, procedure_start, switch_start, call_place, own}
 
 abbrev pub call_library : ℕ → Coded
 call_library entry = coded.Call (target.LibraryAhead entry)
@@ -246,6 +250,11 @@ jump_short from to = coded.Whole (i86.JumpShort (short_distance from to))
 abbrev pub is_close : (from to : ℕ) → Bool
 is_close from to = nat_le from (to + 127) && nat_le to (from + 127)
 
+-- a check that ends a block and begins at a place: whole, or, where the stop is called at a place with the same line behind the CALL, a jump there
+abbrev pub checked_by : (short : Bool) → (line place to : ℕ) → List Coded
+checked_by true line place to = coded.Whole (jump_if_overflow (short_distance (place + 2) to)) ∷ []
+checked_by false line place to = checked line
+
 -- what a comparator compares
 abbrev pub comparison_of : Comparator → Comparison
 comparison_of comparator.Less = Less
@@ -288,7 +297,24 @@ jump_where c place to = coded.Whole (i86.Pop bx) ∷ coded.Whole (compare bx ax)
 abbrev pub short_where : Comparator → (place to : ℕ) → List Coded
 short_where c place to = coded.Whole (i86.Pop bx) ∷ coded.Whole (compare bx ax) ∷ short_branch c (place + 5) to
 
+-- ---- the entry of a segment
+
+-- what the code of a segment begins with: the base record is made
+abbrev pub entry_pieces : List Coded
+entry_pieces =
+    call_library start_entry
+    ∷ coded.Word (target.Limit limit.DataWords) ∷ coded.Word (target.Limit limit.FrameWords)
+    ∷ coded.Word (target.Limit limit.Calls) ∷ coded.Word (target.Limit limit.Segment) ∷ []
+
+-- where the number of the segment stands in it: in its last word
+abbrev pub segment_word : ℕ
+segment_word = length (blanks entry_pieces) - 2
+
 -- ---- calls
+
+-- the bytes of an instruction that loads a register from an argument
+abbrev pub argument_load_size : (k : ℕ) → ℕ
+argument_load_size k = if nat_lt (first_argument + 2 * k) 128 then 3 else 4
 
 -- a call at a line, with all arguments and operands on the stack; the code stands at a place
 abbrev pub call_near : (line place to : ℕ) → List Coded
@@ -309,6 +335,25 @@ return_with n = coded.Whole (move sp bp) ∷ coded.Whole (i86.Pop bp) ∷ coded.
 -- the record in BP, without operands
 abbrev pub operands_dropped : List Coded
 operands_dropped = coded.Whole (move sp bp) ∷ coded.Whole (set_word ax record_depth) ∷ coded.Whole (subtract sp ax) ∷ []
+
+-- An activation begins whose frame has some words: it begins where the caller's ends. The call that is taken is counted last: so CX tells the stop
+-- whether there was one. Until the record is made the caller's is at work. The number of the segment stands in its entry.
+abbrev pub frame_entered : (size : ℕ) → List Coded
+frame_entered size =
+    coded.Whole (load cx (slot calls_slot)) ∷ coded.Whole (jump_if_cx_zero 14)
+    ∷ coded.Whole (load ax (slot rest_slot)) ∷ coded.Whole (move bx di) ∷ coded.Whole (subtract bx ax) ∷ coded.Whole (double bx)
+    ∷ coded.Whole (with_number 5 size) ∷ coded.Whole (jump_if_not_below 3) ∷ coded.Jump (target.LibraryAhead enter_stop_entry)
+    ∷ coded.Whole (decrease cx) ∷ coded.Whole (i86.Push bp) ∷ coded.Whole (move bp sp)
+    ∷ coded.PushCode (own segment_word) ∷ coded.Whole (i86.Push cx) ∷ coded.Whole (i86.Push bx) ∷ coded.Whole (i86.Push ax) ∷ []
+
+-- one without a frame is begun by the library
+abbrev pub entered : (size : ℕ) → List Coded
+entered zero = call_library enter_entry ∷ coded.Data 0 ∷ coded.Word (target.Limit limit.Segment) ∷ []
+entered (suc n) = frame_entered (suc n)
+
+abbrev pub entered_size : (size : ℕ) → ℕ
+entered_size zero = 7
+entered_size (suc n) = 34
 
 -- the base record, without operands, for this segment
 abbrev pub base_restored : List Coded
@@ -386,6 +431,15 @@ step_taken x line place to =
     place_doubled x
     ++ (call_library next_step_entry ∷ coded.Whole (i86.JumpIf (condition_of Greater) 5) ∷ jump_near (place + (doubled_size x + 8)) to ∷ coded.Data line ∷ [])
 
+-- The index of a switch in AX, counted from 1, is there counted from 0 where the switch has so many labels; it stops at the line where it has not.
+abbrev pub switch_tested : (labels line : ℕ) → List Coded
+switch_tested n line = coded.Whole (decrease ax) ∷ coded.Whole (with_number 7 n) ∷ coded.Whole (jump_if_below 6) ∷ call_at_line switch_entry line
+
+-- the way of a switch whose labels stand in the body at work: goes on at the mark of the index
+abbrev pub switch_way : Names → (line place : ℕ) → List ℕ → List Coded
+switch_way names line place marks =
+    switch_tested (length marks) line ++ (coded.Whole exchange ∷ coded.Whole (double bx) ∷ coded.Way (own (place + 20)) ∷ mark_words names marks)
+
 -- A switch takes its index in AX, the line in DX, and the record of the activation that owns its labels in SI.
 abbrev pub switch_pieces : Names → (place : ℕ) → List Goal → List Coded
 switch_pieces names place goals =
@@ -436,12 +490,13 @@ template names place (order.AddStep line) = call_at_line add_step_entry line
 template names place (order.PutVariable line) = call_at_line put_variable_entry line
 template names place (order.NextStep x line mark) = step_taken x line place (mark_place names mark)
 template names place (order.LoopWay marks) = loop_ways names place marks
+template names place (order.SwitchWay marks line) = switch_way names line place marks
 -- calls
 template names place (order.CallProc q line) = call_near line place (procedure_start names q)
 template names place (order.CallCommon d line) = coded.Whole (set_word dx line) ∷ coded.Call (target.DefinitionAhead d) ∷ []
 template names place (order.CallSpecial k line) =
-    coded.Whole (set_word dx line) ∷ coded.Whole (load ax (argument k)) ∷ back_jump (own (place + 13))
-template names place (order.Enter size) = call_library enter_entry ∷ coded.Data size ∷ coded.Word (target.Limit limit.Segment) ∷ []
+    coded.Whole (set_word dx line) ∷ coded.Whole (load ax (argument k)) ∷ back_jump (own (place + (argument_load_size k + 9)))
+template names place (order.Enter size) = entered size
 template names place (order.Bind k family offset) = coded.Whole (load ax (argument k)) ∷ coded.Store (target.Bytes family offset) ∷ []
 template names place (order.BindFrame k offset) =
     coded.Whole (load cx (argument k)) ∷ coded.Whole (load bx (slot base_slot)) ∷ coded.Whole (store (field (2 * offset % 65536)) cx) ∷ []
@@ -469,16 +524,22 @@ template names place (order.GoSwitchSpecial k line) =
 template names place order.Drop = []
 template names place order.Mark = []
 
--- the same where the jump to its mark is short: an order without such a jump has one form
-abbrev pub short_template : Names → (place : ℕ) → Order → List Coded
-short_template names place (order.Jump mark) = jump_short (place + 2) (mark_place names mark) ∷ []
-short_template names place (order.JumpIf c mark) = short_where c place (mark_place names mark)
-short_template names place (order.LoopWay (m ∷ [])) = short_way names place m
-short_template names place o = template names place o
+-- the same where the jump to its mark is short, or its check jumps back: an order without such a jump or check has one form
+abbrev pub short_template : Names → (place number : ℕ) → Order → List Coded
+short_template names place number (order.Add line) = coded.Whole (i86.Pop bx) ∷ coded.Whole (add ax bx) ∷ checked_by true line (place + 3) (call_place names number)
+short_template names place number (order.Sub line) =
+    coded.Whole (move bx ax) ∷ coded.Whole (i86.Pop ax) ∷ coded.Whole (subtract ax bx) ∷ checked_by true line (place + 5) (call_place names number)
+short_template names place number (order.Neg line) = coded.Whole (negate ax) ∷ checked_by true line (place + 2) (call_place names number)
+short_template names place number (order.Mul (pos zero) line) =
+    coded.Whole (i86.Pop bx) ∷ coded.Whole (multiply bx) ∷ checked_by true line (place + 3) (call_place names number)
+short_template names place number (order.Jump mark) = jump_short (place + 2) (mark_place names mark) ∷ []
+short_template names place number (order.JumpIf c mark) = short_where c place (mark_place names mark)
+short_template names place number (order.LoopWay (m ∷ [])) = short_way names place m
+short_template names place number o = template names place o
 
-abbrev pub template_by : (short : Bool) → Names → (place : ℕ) → Order → List Coded
-template_by true names place o = short_template names place o
-template_by false names place o = template names place o
+abbrev pub template_by : (short : Bool) → Names → (place number : ℕ) → Order → List Coded
+template_by true names place number o = short_template names place number o
+template_by false names place number o = template names place o
 
 -- ---- places and simple operands
 
@@ -586,6 +647,30 @@ bounded_address b =
     top_from_lower b.bounds.lower
     ++ (top_below b.bounds.line (indexes_between (b.bounds.upper -ℤ b.bounds.lower)) ++ formed b.family b.first b.form)
 
+-- SI with a second index
+abbrev pub column_loaded : Column → List Coded
+column_loaded (column.Number w) = coded.Whole (set_word si w) ∷ []
+column_loaded (column.Contents x) = index_loaded x
+
+-- SI is compared with so many indexes
+abbrev pub column_below : (line count : ℕ) → List Coded
+column_below line count = coded.Whole (operate_number 7 si count) ∷ coded.Whole (jump_if_below 5) ∷ call_stop bounds_entry line
+
+-- behind the comparisons of both indexes: the first word of the row, as that of an entry, and the place in the row added
+abbrev pub row_summed : Row → List Coded
+row_summed r = formed r.family r.first (form.Entry r.width 0 r.span r.line) ++ coded.Whole (add ax si) ∷ []
+
+-- the second index is compared with its bounds
+abbrev pub column_tested : Row → List Coded
+column_tested r =
+    column_loaded r.column
+    ++ (from_lower r.columns.lower ++ (column_below r.columns.line (indexes_between (r.columns.upper -ℤ r.columns.lower)) ++ row_summed r))
+
+-- both are, the first one in AX, and the address is made without a test
+abbrev pub row_address : Row → List Coded
+row_address r =
+    top_from_lower r.rows.lower ++ (top_below r.rows.line (indexes_between (r.rows.upper -ℤ r.rows.lower)) ++ column_tested r)
+
 -- ---- blocks
 
 -- the bytes of pieces
@@ -596,32 +681,42 @@ pieces_size ps = length (blanks ps)
 abbrev pub with_operand : (op : ℕ) → Simple → List Coded
 with_operand op s = operand_pieces s ++ operation op s ∷ []
 
-abbrev pub operated : Names → (place : ℕ) → (short : Bool) → Simple → Use → List Coded
-operated names place short s (uses.Add line) = with_operand 0 s ++ checked line
-operated names place short s (uses.Subtract line) = with_operand 5 s ++ checked line
-operated names place short s (uses.Multiply line) = product_with s ++ checked line
-operated names place short s uses.Mask = with_operand 4 s
-operated names place short s uses.Union = with_operand 1 s
-operated names place short s uses.Differ = with_operand 6 s
-operated names place short s (uses.Compare c mark) = with_operand 7 s ++ branch_by short c (place + pieces_size (with_operand 7 s)) (mark_place names mark)
+abbrev pub operated : Names → (place number : ℕ) → (short : Bool) → Simple → Use → List Coded
+operated names place number short s (uses.Add line) = with_operand 0 s ++ checked_by short line (place + pieces_size (with_operand 0 s)) (call_place names number)
+operated names place number short s (uses.Subtract line) = with_operand 5 s ++ checked_by short line (place + pieces_size (with_operand 5 s)) (call_place names number)
+operated names place number short s (uses.Multiply line) = product_with s ++ checked_by short line (place + pieces_size (product_with s)) (call_place names number)
+operated names place number short s uses.Mask = with_operand 4 s
+operated names place number short s uses.Union = with_operand 1 s
+operated names place number short s uses.Differ = with_operand 6 s
+operated names place number short s (uses.Compare c mark) = with_operand 7 s ++ branch_by short c (place + pieces_size (with_operand 7 s)) (mark_place names mark)
 
--- the code of a block, which begins with an order; its jump to a mark, where it has one that can be, is short or near
-abbrev pub block_pieces : Names → (place : ℕ) → (short : Bool) → Block → Order → List Coded
-block_pieces names place short (block.Within n) o = []
-block_pieces names place short block.Single o = template_by short names place o
-block_pieces names place short (block.Fetch x) o = address_pieces x ++ load_place x ∷ []
-block_pieces names place short (block.Assign x) o = address_pieces x ++ store_place x ∷ []
-block_pieces names place short block.Write o = coded.Whole (i86.Out 0x12) ∷ []
-block_pieces names place short (block.Divide w line) o = coded.Whole (set_word bx w) ∷ coded.Whole i86.Cwd ∷ coded.Whole (divide_signed bx) ∷ []
-block_pieces names place short (block.Operate s u) o = operated names place short s u
-block_pieces names place short (block.FetchPart x t b is_signed) o = address_pieces x ++ load_place x ∷ part_taken t b is_signed
-block_pieces names place short (block.AssignPart x t b) o =
+-- a word of the frame compared with a number
+abbrev pub word_compared : (offset number : ℕ) → List Coded
+word_compared n w = coded.Whole (load bx (slot base_slot)) ∷ coded.Whole (compare_number (field (2 * n % 65536)) w) ∷ []
+
+-- the code of a block, which begins with an order of a number; its jump to a mark, where it has one that can be, is short or near, and its check
+-- goes back or is whole
+abbrev pub block_pieces : Names → (place number : ℕ) → (short : Bool) → Block → Order → List Coded
+block_pieces names place number short (block.Within n) o = []
+block_pieces names place number short block.Single o = template_by short names place number o
+block_pieces names place number short (block.Fetch x) o = address_pieces x ++ load_place x ∷ []
+block_pieces names place number short (block.Assign x) o = address_pieces x ++ store_place x ∷ []
+block_pieces names place number short block.Write o = coded.Whole (i86.Out 0x12) ∷ []
+block_pieces names place number short (block.Divide w line) o = coded.Whole (set_word bx w) ∷ coded.Whole i86.Cwd ∷ coded.Whole (divide_signed bx) ∷ []
+block_pieces names place number short (block.Operate s u) o = operated names place number short s u
+block_pieces names place number short (block.FetchPart x t b is_signed) o = address_pieces x ++ load_place x ∷ part_taken t b is_signed
+block_pieces names place number short (block.AssignPart x t b) o =
     shifted_up b ++ (address_pieces x ++ operate_place 6 x ∷ coded.Whole (with_number 4 (field_mask t b)) ∷ change_place 6 x ∷ [])
-block_pieces names place short (block.FetchElement e) o = element_address e ++ coded.Whole (load ax at_si) ∷ []
-block_pieces names place short (block.AssignElement e) o = element_address e ++ coded.Whole (store at_si ax) ∷ []
-block_pieces names place short (block.Count down line) o = coded.Whole (counted down) ∷ checked line
-block_pieces names place short (block.Halve w power places line) o = shifted_down_signed places
-block_pieces names place short (block.Bounded b) o = bounded_address b
+block_pieces names place number short (block.FetchElement e) o = element_address e ++ coded.Whole (load ax at_si) ∷ []
+block_pieces names place number short (block.AssignElement e) o = element_address e ++ coded.Whole (store at_si ax) ∷ []
+block_pieces names place number short (block.Count down line) o = coded.Whole (counted down) ∷ checked_by short line (place + 1) (call_place names number)
+block_pieces names place number short (block.Halve w power places line) o = shifted_down_signed places
+block_pieces names place number short (block.Bounded b) o = bounded_address b
+block_pieces names place number short (block.Row r) o = row_address r
+block_pieces names place number short (block.FetchBoth n m) o =
+    coded.Whole (load bx (slot base_slot)) ∷ coded.Whole (load ax (field (2 * n % 65536)))
+    ∷ coded.Whole (i86.Push ax) ∷ coded.Whole (load ax (field (2 * m % 65536))) ∷ []
+block_pieces names place number short (block.CompareWord n w c mark) o = word_compared n w ++ branch_by short c (place + pieces_size (word_compared n w)) (mark_place names mark)
 
 -- the mark of a block's jump that can be short
 abbrev pub jump_of : Block → Order → Option ℕ
@@ -629,17 +724,39 @@ jump_of block.Single (order.Jump m) = Some m
 jump_of block.Single (order.JumpIf c m) = Some m
 jump_of block.Single (order.LoopWay (m ∷ [])) = Some m
 jump_of (block.Operate s (uses.Compare c m)) o = Some m
+jump_of (block.CompareWord n w c m) o = Some m
 jump_of b o = None
 
--- the bytes that it saves
+-- the line of the check with which a block ends that can jump back
+abbrev pub check_of : Block → Order → Option ℕ
+check_of block.Single (order.Add line) = Some line
+check_of block.Single (order.Sub line) = Some line
+check_of block.Single (order.Neg line) = Some line
+check_of block.Single (order.Mul (pos zero) line) = Some line
+check_of (block.Operate s (uses.Add line)) o = Some line
+check_of (block.Operate s (uses.Subtract line)) o = Some line
+check_of (block.Operate s (uses.Multiply line)) o = Some line
+check_of (block.Count down line) o = Some line
+check_of b o = None
+
+-- the bytes that the short form saves
 abbrev pub saved : Block → Order → ℕ
+saved block.Single (order.Add line) = 5
+saved block.Single (order.Sub line) = 5
+saved block.Single (order.Neg line) = 5
+saved block.Single (order.Mul (pos zero) line) = 5
 saved block.Single (order.Jump m) = 1
 saved block.Single (order.JumpIf c m) = 3
 saved block.Single (order.LoopWay (m ∷ [])) = 3
+saved (block.Operate s (uses.Add line)) o = 5
+saved (block.Operate s (uses.Subtract line)) o = 5
+saved (block.Operate s (uses.Multiply line)) o = 5
 saved (block.Operate s (uses.Compare c m)) o = 3
+saved (block.Count down line) o = 5
+saved (block.CompareWord n w c m) o = 3
 saved b o = 0
 
--- Which blocks have a short jump, by the number of the block's first order. Without any, the code is the longest one.
+-- Which blocks have the short form, by the number of the block's first order. Without any, the code is the longest one.
 abbrev pub Forms : Type 0
 Forms = (number : ℕ) → Block → Order → Bool
 
@@ -647,187 +764,30 @@ abbrev pub all_near : Forms
 all_near number b o = false
 
 -- Two places of the longest code are at least as far apart as those of the same orders in the code with short jumps. So a jump is short where it
--- ends close to its mark in the longest code, and none makes another one reach less far.
-abbrev pub reaches : Reach → (number : ℕ) → Option ℕ → Bool
-reaches r number None = false
-reaches r number (Some m) = is_close (slice_index r.longest (number + 1)) (slice_index r.longest (slice_index r.marks m))
+-- ends close to its mark in the longest code, and none makes another one reach less far. A check jumps back where there is a CALL for it.
+abbrev pub has_call : Reach → (number : ℕ) → (check : Option ℕ) → Bool
+has_call r number None = false
+has_call r number (Some line) = nat_lt 0 (slice_index r.calls number)
+
+abbrev pub reaches : Reach → (number : ℕ) → (jump check : Option ℕ) → Bool
+reaches r number None check = has_call r number check
+reaches r number (Some m) check = is_close (slice_index r.longest (number + 1)) (slice_index r.longest (slice_index r.marks m))
 
 abbrev pub is_short : Reach → Forms
-is_short r number b o = reaches r number (jump_of b o)
-
--- what the code of a segment begins with: the base record is made
-abbrev pub entry_pieces : List Coded
-entry_pieces =
-    call_library start_entry
-    ∷ coded.Word (target.Limit limit.DataWords) ∷ coded.Word (target.Limit limit.FrameWords)
-    ∷ coded.Word (target.Limit limit.Calls) ∷ coded.Word (target.Limit limit.Segment) ∷ []
+is_short r number b o = reaches r number (jump_of b o) (check_of b o)
 
 -- the bytes of a block's code, which are as many wherever it stands and whatever it names
 abbrev pub block_size : (short : Bool) → Block → Order → ℕ
-block_size short b o = length (blanks (block_pieces no_names 0 short b o))
+block_size short b o = length (blanks (block_pieces no_names 0 0 short b o))
 
 -- those of an order alone, with a near jump
 abbrev pub order_size : Order → ℕ
 order_size o = block_size false block.Single o
 
--- a multiplication by a number
-abbrev pub times_size : ℕ → ℕ
-times_size n = if n == 32768 then 14 else 12
+-- the displacement of a word so many bytes behind BX, and of a word of the frame
+abbrev pub field_size : (by : ℕ) → ℕ
+field_size zero = 0
+field_size (suc by) = if nat_lt (suc by) 128 then 1 else 2
 
-abbrev pub width_size : ℕ → ℕ
-width_size width = if width == 1 then 0 else times_size width
-
--- an index less a lower bound, and with a number added
-abbrev pub bound_size : ℤ → ℕ
-bound_size (pos zero) = 0
-bound_size lower = 10
-
--- the comparison of an index with both bounds: with one number where the lower one is 0
-abbrev pub bounds_size : ℤ → ℕ
-bounds_size (pos zero) = 10
-bounds_size lower = 20
-
--- a number in AX
-abbrev pub number_size : ℕ → ℕ
-number_size zero = 2
-number_size (suc w) = 3
-
-abbrev pub word_size : ℕ → ℕ
-word_size zero = 0
-word_size (suc n) = 10
-
--- a shift by a number of places, and a part of a word
-abbrev pub shift_size : (places : ℕ) → ℕ
-shift_size zero = 0
-shift_size (suc zero) = 2
-shift_size (suc (suc n)) = 5
-
-abbrev pub lowest_size : Bool → ℕ
-lowest_size true = 0
-lowest_size false = 3
-
-abbrev pub part_size : (t b : ℕ) → (is_signed : Bool) → ℕ
-part_size t b true = shift_size (16 - (t + b)) + shift_size (16 - t)
-part_size t b false = shift_size b + lowest_size (t + b == 16)
-
--- the address of a word and an index at a place, in SI
-abbrev pub index_size : Place → ℕ
-index_size (cell.Word f n) = 7
-index_size (cell.Frame n) = 10
-
--- the address of an element, in SI: an index that is compared with its bounds has 3 bytes less before the test, and 4 for a lower bound
-abbrev pub lower_size : ℤ → ℕ
-lower_size (pos zero) = 0
-lower_size lower = 4
-
-abbrev pub element_size : Element → Test → ℕ
-element_size e (test.Address origin) = index_size e.index + 11
-element_size e (test.Bounds upper line) = index_size e.index + lower_size e.lower + 14
-
--- an index in AX less a lower bound, and the address that is formed of one
-abbrev pub top_lower_size : ℤ → ℕ
-top_lower_size (pos zero) = 0
-top_lower_size lower = 3
-
-abbrev pub formed_size : Form → ℕ
-formed_size (form.Element span line) = 4
-formed_size (form.Entry width word span line) = if width == 1 then 4 else 9
-
--- behind the address of an element, an order that uses it
-abbrev pub used_size : Use → ℕ
-used_size (uses.Add line) = 9
-used_size (uses.Subtract line) = 9
-used_size (uses.Multiply line) = 13
-used_size uses.Mask = 2
-used_size uses.Union = 2
-used_size uses.Differ = 2
-used_size (uses.Compare c mark) = 7
-
--- the same, order by order
-abbrev pub listed_size : Order → ℕ
-listed_size order.Save = 1
-listed_size (order.Const w) = number_size w
-listed_size (order.Home family offset) = 3
-listed_size order.Load = 5
-listed_size order.Store = 7
-listed_size (order.Add line) = 10
-listed_size (order.Sub line) = 12
-listed_size (order.Neg line) = 9
-listed_size (order.LoadPart t b is_signed) = 5 + part_size t b is_signed
-listed_size (order.StorePart t b) = shift_size b + 12
-listed_size (order.Rescale from to line) = if nat_le from to then times_size (2 ^ (to - from)) else 5
-listed_size (order.Mul (pos zero) line) = 10
-listed_size (order.Mul (pos (suc n)) line) = times_size (2 ^ suc n) + 10
-listed_size (order.Mul (negsuc n) line) = if nat_lt n 15 then 14 else 10
-listed_size (order.Div s line) = 25
-listed_size order.And = 3
-listed_size order.Or = 3
-listed_size order.Xor = 3
-listed_size (order.Take t b) = part_size t b false
-listed_size order.Less = 5
-listed_size order.Drop = 0
-listed_size (order.IndexLess lower line) = 12
-listed_size (order.Element lower span line) = bound_size lower + 21
-listed_size (order.ElementOfTwo lower second width span line) = bound_size second + bound_size lower + times_size width + 33
-listed_size (order.Entry width word span line) = width_size width + word_size word + 21
-listed_size (order.InArea line) = 9
-listed_size (order.InBounds lower upper line) = bounds_size lower
-listed_size order.ReadByte = 3
-listed_size order.WriteByte = 3
-listed_size order.NextBody = 5
-listed_size (order.Jump mark) = 3
-listed_size (order.JumpIf c mark) = 8
-listed_size (order.FrameHome n) = 8
-listed_size (order.Exhausted mark) = 6
-listed_size (order.SetVariable line) = 6
-listed_size (order.AddStep line) = 6
-listed_size (order.PutVariable line) = 6
-listed_size (order.NextStep x line mark) = doubled_size x + 10
-listed_size (order.LoopWay marks) = loop_ways_size marks
-listed_size (order.CallProc q line) = 6
-listed_size (order.CallCommon d line) = 6
-listed_size (order.CallSpecial k line) = 13
-listed_size (order.Enter size) = 7
-listed_size (order.Bind k family offset) = 7
-listed_size (order.BindFrame k offset) = 11
-listed_size (order.Return n answers) = 6
-listed_size (order.LabelOut l) = 5
-listed_size (order.LabelCommon d) = 5
-listed_size (order.SwitchOut n) = 5
-listed_size (order.SwitchCommon d) = 5
-listed_size (order.ProcOut q) = 5
-listed_size (order.ProcCommon d) = 5
-listed_size (order.SpecialOut k) = 10
-listed_size (order.GoMain mark) = 15
-listed_size (order.GoCommon d) = 3
-listed_size (order.GoSpecial k) = 17
-listed_size (order.GoSwitch n line) = 8
-listed_size (order.GoSwitchCommon d line) = 8
-listed_size (order.GoSwitchSpecial k line) = 13
-listed_size order.Mark = 0
-listed_size (order.Start n) = 0
-
--- The same in a list, where the address of a word of the frame has two bytes less: they are owed by what stands behind it.
-abbrev pub size_in_list : Order → ℕ
-size_in_list (order.FrameHome n) = 6
-size_in_list o = listed_size o
-
-abbrev pub owed : Option Order → ℕ
-owed (Some (order.FrameHome n)) = 2
-owed _ = 0
-
--- The same behind two orders: a load behind the address of a word is in its block, and so is a store there, where the top operand is saved before
--- the address.
-abbrev pub size_behind : (second first : Option Order) → Order → ℕ
-size_behind _ (Some (order.Home f n)) order.Load = 0
-size_behind _ (Some (order.FrameHome n)) order.Load = 1
-size_behind (Some order.Save) (Some (order.Home f n)) order.Store = 0
-size_behind (Some order.Save) (Some (order.FrameHome n)) order.Store = 0
-size_behind _ first o = owed first + size_in_list o
-
-abbrev pub sizes_behind : (second first : Option Order) → List Order → ℕ
-sizes_behind second first [] = owed first
-sizes_behind second first (o ∷ os) = size_behind second first o + sizes_behind first (Some o) os
-
-abbrev pub listed_sizes : List Order → ℕ
-listed_sizes os = sizes_behind None None os
+abbrev pub frame_size : (offset : ℕ) → ℕ
+frame_size n = field_size (2 * n % 65536)

@@ -4,7 +4,7 @@ ghost use Rattle.cw_i86.specs.Encoding.{bytes_of, IsInstr};
 ghost use Rattle.cw_tmpl.specs.Assembling.{Adds};
 ghost use Rattle.cw_tmpl.specs.Pieces.{relocation_of, IsCoded, AllCoded};
 
-use crate::instructions::{AT_ZERO, change, entry_of_table, load, operate_number};
+use crate::instructions::{AT_ZERO, CODE_AT_ZERO, change, entry_of_table, load, operate_number};
 use crate::pieces::{Coded, Limit, Target};
 use cw_enc86::encode;
 use cw_i86::{Imm, Instr, Mem, Place, Rm};
@@ -13,8 +13,8 @@ use cw_word::{List, NoMemory};
 
 /// The code of a segment. The words that the linker fills are 0; `starts` tells the place of each mark, and `entry`
 /// where the segment's body begins. `labels`, `switches` and `procedures` tell the places that a definition of each has:
-/// of a label that stands in no procedure it is that of its landing. `statements` tells where each statement begins, with
-/// its line.
+/// of a label that stands in no procedure it is that of its landing, and 0 where nothing names the label or switch.
+/// `statements` tells where each statement begins, with its line.
 #[derive(Drop)]
 pub struct Code {
     pub bytes: List<u8>,
@@ -131,6 +131,10 @@ impl Assembly {
                     store: true,
                     at: 0,
                 })?;
+                self.relocate(target)
+            }
+            Coded::PushCode(target) => {
+                self.put_instruction(&Instr::PushRm(CODE_AT_ZERO))?;
                 self.relocate(target)
             }
             Coded::Operate {

@@ -1,8 +1,11 @@
 //! Blocks: orders that have one piece of code together. The orders before the last only save the top operand, put a word, or make
 //! the address of an element; the code leaves the one where it is, and takes the other from its instruction or from memory.
 ghost use Rattle.std.specs.Prelude.{◌≡◌, ◌<◌, ◌+◌, ◌-ℤ◌, length, drop, slice_get};
-ghost use Rattle.cw_tmpl.specs.Blocks.{address_orders, element_orders, use_of, is_part, NamesParts, zero_word, address_test, bounds_at, bounds_test, tested_by, is_save, is_load, element_addressed, element_bounded, element_behind, element_at, with_use, fetched, assigned, is_plain_divisor, exponent_of, halving_places, halved, divided, counted, number_scaled, with_number, saved, place_at, fetched_from, saved_from, element_fetched, element_used, element_saved, fetched_or, saved_or, is_within, form_of, entries_within, form_within, bounded_if, behind_bounds, at_bounds, block_if_saved, block_at, orders_left};
+ghost use Rattle.cw_tmpl.specs.Blocks.{address_orders, element_orders, use_of, is_part, NamesParts, zero_word, address_test, bounds_at, bounds_test, tested_by, is_save, is_load, element_addressed, element_bounded, element_behind, element_at, with_use, fetched, assigned, is_plain_divisor, exponent_of, halving_places, halved, divided, counted, number_scaled, with_number, saved, place_at, fetched_from, saved_from, element_fetched, element_used, element_saved, fetched_or, saved_or, is_within, form_of, entries_within, form_within, bounded_if, behind_bounds, at_bounds, row_at, row_or, block_if_saved, block_alone, compared_or, both_or, fetched_behind, joined, block_at, orders_left};
+ghost use Rattle.cw_tmpl.specs.declared.blocks.Block.TheVariants as block;
+ghost use Rattle.cw_order.specs.declared.order.Place.TheVariants as cell;
 
+use crate::rows::{Row, orders_to_row, row_at};
 use cw_order::{Comparator, Order, Place};
 
 /// How it is found out whether there is an element.
@@ -142,10 +145,24 @@ pub enum Block {
     },
     /// First of four: the top operand is compared with bounds, and an address is formed of it.
     Bounded(Bounded),
+    /// First of seven or eight: the top operand is compared with bounds, a second index is put and compared, and an address is formed of both.
+    Row(Row),
+    /// First of five that put two words of the frame.
+    FetchBoth {
+        first: u16,
+        second: u16,
+    },
+    /// First of five: a word of the frame is compared with a number, with a jump to a mark where the comparison holds.
+    CompareWord {
+        offset: u16,
+        with: u16,
+        comparator: Comparator,
+        mark: u32,
+    },
 }
 
 /// How many orders put the address of a place.
-fn orders_of_address(place: Place) -> usize
+pub(crate) fn orders_of_address(place: Place) -> usize
     ensures { result ≡ length (address_orders place) }
 {
     match place {
@@ -208,7 +225,7 @@ fn address_test(lower: i16, span: u16, first: u16) -> Option<Test>
 }
 
 /// The bounds that the order at a place compares an index with.
-fn bounds_at(orders: &[Order], place: usize) -> Option<Bounds>
+pub(crate) fn bounds_at(orders: &[Order], place: usize) -> Option<Bounds>
     ensures { result ≡ bounds_at (slice_get orders.now place) }
 {
     match orders.get(place) {
@@ -242,7 +259,7 @@ fn tested_by(orders: &[Order], place: usize, begins: i16, span: u16) -> Option<T
     bounds_test(bounds, begins, span)
 }
 
-fn is_save(orders: &[Order], place: usize) -> bool
+pub(crate) fn is_save(orders: &[Order], place: usize) -> bool
     ensures { result ≡ is_save (slice_get orders.now place) }
 {
     matches!(orders.get(place), Some(Order::Save))
@@ -581,7 +598,7 @@ fn form_at(orders: &[Order], place: usize, lower: i16) -> Option<Form>
 }
 
 /// Whether the word at the upper bound, counted from the lower one, is among so many.
-fn is_within(lower: i16, upper: i16, span: u16) -> bool
+pub(crate) fn is_within(lower: i16, upper: i16, span: u16) -> bool
     ensures { result ≡ is_within (upper -ℤ lower) span }
 {
     let last = i32::from(upper) - i32::from(lower);
@@ -667,13 +684,77 @@ fn block_if_saved(orders: &[Order]) -> Block
     }
 }
 
+/// An element of two dimensions, and another block where there is none.
+fn row_or_saved(orders: &[Order]) -> Block
+    ensures { result ≡ row_or (row_at orders.now) (block_if_saved orders.now) }
+{
+    match row_at(orders) {
+        Some(row) => Block::Row(row),
+        None => block_if_saved(orders),
+    }
+}
+
+/// The block that begins with the first of these orders, where a word of the frame that is fetched is all of its block.
+fn block_alone(orders: &[Order]) -> Block
+    ensures { result ≡ block_alone orders.now }
+{
+    match place_at(orders) {
+        Some(place) => element_or_fetched(orders, place),
+        None => row_or_saved(orders),
+    }
+}
+
+/// The block of a word of the frame that is fetched: another one may be behind a `Save` with which these orders begin.
+fn fetched_with(offset: u16, saved: &[Order]) -> Block
+    ensures { result ≡ both_or offset (slice_get saved.now 0) (block_alone saved.now) (block_alone (drop 1 saved.now)) (block.Fetch (cell.Frame offset)) }
+{
+    match saved {
+        [Order::Save, next @ ..] => match (block_alone(saved), block_alone(next)) {
+            (Block::Single, Block::Fetch(Place::Frame(second))) => Block::FetchBoth {
+                first: offset,
+                second,
+            },
+            _ => Block::Fetch(Place::Frame(offset)),
+        },
+        _ => Block::Fetch(Place::Frame(offset)),
+    }
+}
+
+/// The same behind the two orders that fetch it.
+fn fetched_behind(offset: u16, orders: &[Order]) -> Block
+    ensures { result ≡ fetched_behind offset orders.now }
+{
+    match orders {
+        [_, _, saved @ ..] => fetched_with(offset, saved),
+        _ => Block::Fetch(Place::Frame(offset)),
+    }
+}
+
+/// The block of a word of the frame that these orders fetch and compare with a number, and another block where they do not.
+fn compared_or(offset: u16, orders: &[Order], other: Block) -> Block
+    ensures { result ≡ compared_or offset (slice_get orders.now 2) (slice_get orders.now 3) (slice_get orders.now 4) other }
+{
+    match (orders.get(2), orders.get(3), orders.get(4)) {
+        (Some(Order::Save), Some(Order::Const(word)), Some(Order::JumpIf { comparator, mark })) =>
+            Block::CompareWord {
+                offset,
+                with: *word,
+                comparator: *comparator,
+                mark: *mark,
+            },
+        _ => other,
+    }
+}
+
 /// The block that begins with the first of these orders.
 fn block_here(orders: &[Order]) -> Block
     ensures { result ≡ block_at 0 orders.now }
 {
-    match place_at(orders) {
-        Some(place) => element_or_fetched(orders, place),
-        None => block_if_saved(orders),
+    match block_alone(orders) {
+        Block::Fetch(Place::Frame(offset)) => {
+            compared_or(offset, orders, fetched_behind(offset, orders))
+        }
+        block => block,
     }
 }
 
@@ -707,6 +788,8 @@ pub fn orders_left(block: Block) -> u8
         Block::Divide { .. } => 2,
         Block::Count { .. } | Block::Halve { .. } => 2,
         Block::Bounded(_) => 3,
+        Block::Row(row) => orders_to_row(row) as u8,
+        Block::FetchBoth { .. } | Block::CompareWord { .. } => 4,
         Block::Fetch(place) | Block::FetchPart { place, .. } => orders_of_address(place) as u8,
         Block::Assign(place) | Block::AssignPart { place, .. } => {
             orders_of_address(place) as u8 + 1

@@ -1,6 +1,7 @@
 //! Registers, and short words for the instructions that the templates use.
 ghost use Rattle.std.specs.Prelude.{◌≡◌, ◌≤◌, ◌<◌};
 ghost use Rattle.cw_run86.specs.Views.{with_number};
+ghost use Rattle.cw_i86.specs.Encoding.{IsRm};
 ghost use Rattle.cw_tmpl.specs.Mnemonics as mnemonics;
 
 use cw_i86::{Imm, Instr, Mem, Place, Rm};
@@ -35,6 +36,18 @@ pub const SEGMENT: Rm = Rm::Mem(Mem {
     place: Place::Near(6, 0xFE),
 });
 
+/// The word that holds the calls that are left, at BP - 4.
+pub const CALLS: Rm = Rm::Mem(Mem {
+    cs: false,
+    place: Place::Near(6, 0xFC),
+});
+
+/// The word that holds how many words of the data area are behind the frame, at BP - 8.
+pub const REST: Rm = Rm::Mem(Mem {
+    cs: false,
+    place: Place::Near(6, 0xF8),
+});
+
 /// The word that holds twice the frame base, at BP - 6.
 pub const BASE: Rm = Rm::Mem(Mem {
     cs: false,
@@ -59,6 +72,12 @@ pub const AT_ZERO: Rm = Rm::Mem(Mem {
     place: Place::Direct(0),
 });
 
+/// The word of the code at 0.
+pub const CODE_AT_ZERO: Rm = Rm::Mem(Mem {
+    cs: true,
+    place: Place::Direct(0),
+});
+
 /// An operation of the arithmetic unit on a register and a number.
 pub fn operate_number(operation: u8, reg: u8, word: u16) -> Instr
     ensures { result ≡ mnemonics.operate_number operation reg word }
@@ -66,6 +85,17 @@ pub fn operate_number(operation: u8, reg: u8, word: u16) -> Instr
     Instr::AluImm {
         op: operation,
         rm: Rm::Reg(reg),
+        imm: Imm::Word(word),
+    }
+}
+
+/// CMP of a word of memory and a number.
+pub fn compare_number(rm: Rm, word: u16) -> Instr
+    ensures { result ≡ mnemonics.compare_number rm word }
+{
+    Instr::AluImm {
+        op: 7,
+        rm,
         imm: Imm::Word(word),
     }
 }
@@ -171,6 +201,13 @@ pub fn double(reg: u8) -> Instr
         by_cl: false,
         rm: Rm::Reg(reg),
     }
+}
+
+/// JO.
+pub fn jump_if_overflow(by: u8) -> Instr
+    ensures { result ≡ mnemonics.jump_if_overflow by }
+{
+    Instr::JumpIf { cond: 0, by }
 }
 
 /// JNO.
@@ -384,6 +421,20 @@ pub fn jump_if_unequal(by: u8) -> Instr
     Instr::JumpIf { cond: 5, by }
 }
 
+/// JNB.
+pub fn jump_if_not_below(by: u8) -> Instr
+    ensures { result ≡ mnemonics.jump_if_not_below by }
+{
+    Instr::JumpIf { cond: 3, by }
+}
+
+/// JCXZ.
+pub fn jump_if_cx_zero(by: u8) -> Instr
+    ensures { result ≡ mnemonics.jump_if_cx_zero by }
+{
+    Instr::Loop { kind: 3, by }
+}
+
 /// JNL.
 pub fn jump_if_not_less(by: u8) -> Instr
     ensures { result ≡ mnemonics.jump_if_not_less by }
@@ -426,22 +477,41 @@ pub fn with_number(operation: u8, word: u16) -> Instr
 /// The argument that so many words of arguments follow.
 pub fn argument(words: u16) -> Rm
     requires { words ≤ 256 }
-    ensures { result ≡ mnemonics.argument words }
+    ensures value { result ≡ mnemonics.argument words }
+    ensures operand { IsRm result }
 {
-    Rm::Mem(Mem {
-        cs: false,
-        place: Place::Far(6, 4 + 2 * words),
-    })
+    let by = 4 + 2 * words;
+    if by < 128 {
+        Rm::Mem(Mem {
+            cs: false,
+            place: Place::Near(6, by as u8),
+        })
+    } else {
+        Rm::Mem(Mem {
+            cs: false,
+            place: Place::Far(6, by),
+        })
+    }
 }
 
-/// The word of the data segment so many bytes behind BX.
+/// The word of the data segment so many bytes behind BX, with no more bytes for its displacement than it needs.
 pub fn field(by: u16) -> Rm
-    ensures { result ≡ mnemonics.field by }
+    ensures value { result ≡ mnemonics.field by }
+    ensures operand { IsRm result }
 {
-    Rm::Mem(Mem {
-        cs: false,
-        place: Place::Far(7, by),
-    })
+    if by == 0 {
+        AT_BX
+    } else if by < 128 {
+        Rm::Mem(Mem {
+            cs: false,
+            place: Place::Near(7, by as u8),
+        })
+    } else {
+        Rm::Mem(Mem {
+            cs: false,
+            place: Place::Far(7, by),
+        })
+    }
 }
 
 /// The word of a table of the code that begins at a place, by BX.

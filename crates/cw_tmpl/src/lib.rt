@@ -9,10 +9,12 @@ pub mod library;
 mod names;
 mod pieces;
 mod reach;
+mod rows;
 
 pub use assembling::{Assembly, Code};
 pub use blocks::{Block, Bounded, Bounds, Element, Form, Simple, Test, Use, block_in, orders_left};
 pub use library::{base_code, base_entry};
-pub use names::{LANDING, Names, own};
+pub use names::{LANDING, Names, SEGMENT_WORD, own};
 pub use pieces::{Coded, Limit, Target};
-pub use reach::Reach;
+pub use reach::{Call, Reach, call_after, call_for, check_of};
+pub use rows::{Column, Row};

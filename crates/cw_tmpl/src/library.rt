@@ -43,8 +43,11 @@ pub const ENTER: u16 = 33;
 /// The entry that does what follows the body of a loop of one element with a step, whose line stands 5 bytes behind the call.
 pub const NEXT_STEP: u16 = 34;
 
-const CODE: [u8; 430] = [
-    0xE9, 0xAB, 0x01, // JMP past the library
+/// The entry that stops where code of a segment can begin no activation, at the line in DX: with Depth where CX is 0, and else with Frames.
+pub const ENTER_STOP: u16 = 35;
+
+const CODE: [u8; 438] = [
+    0xE9, 0xB3, 0x01, // JMP past the library
     0xF4, // end: HLT
     0xCC, // earlier entries: no instruction
     0x5E, // start: POP SI
@@ -256,11 +259,14 @@ const CODE: [u8; 430] = [
     0x5B, // far line: POP BX
     0x2E, 0x8B, 0x57, 0x05, // MOV DX,CS:[BX+5]
     0xE9, 0x89, 0xFE, // JMP tell
+    0xE3, 0x03, // enter stop: JCXZ no call
+    0xE9, 0xA4, 0xFE, // JMP frames
+    0xE9, 0x9D, 0xFE, // no call: JMP depth
 ];
 
-const ENTRIES: [u16; 35] = [
+const ENTRIES: [u16; 36] = [
     3, 4, 4, 4, 4, 4, 4, 4, 4, 4, 4, 4, 4, 4, 4, 4, 4, 4, 5, 35, 39, 43, 47, 79, 4, 130, 236, 266,
-    289, 145, 163, 185, 203, 91, 338,
+    289, 145, 163, 185, 203, 91, 338, 430,
 ];
 
 /// The code of the run-time library, which begins with a jump to its own end. It has no relocated word.
@@ -273,8 +279,8 @@ pub fn base_code() -> &'static [u8]
 /// The place in the library of an entry. 0 is the end of the program; 1 to 17 and 24 were entries of earlier libraries, and
 /// lead to a byte with which no instruction begins; 18 makes the base record of a segment, 19 to 23 stop with Overflow,
 /// ZeroDivisor, Address, Bounds and Switch, 25 reads a byte, 26 is a product, 27 and 28 are quotients, 29 to 31 set, step
-/// and put the control variable of a loop, 32 tests whether a loop is exhausted, 33 begins an activation, and 34 does what
-/// follows the body of a loop of one element with a step. None for every number past the last one.
+/// and put the control variable of a loop, 32 tests whether a loop is exhausted, 33 begins an activation, 34 does what
+/// follows the body of a loop of one element with a step, and 35 stops where code of a segment can begin no activation. None for every number past the last one.
 pub fn base_entry(k: u16) -> Option<u16>
     ensures { result ≡ library_entry k }
 {

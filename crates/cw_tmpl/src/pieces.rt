@@ -57,6 +57,8 @@ pub enum Coded {
     Load(Target),
     /// MOV of AX into the word of the data segment at the word.
     Store(Target),
+    /// PUSH of the word of the code at the word.
+    PushCode(Target),
     /// An operation of the arithmetic unit on a register and the word of the data segment at the word.
     Operate {
         operation: u8,

@@ -1,4 +1,4 @@
--- How many labels the bodies of a unit set. The code of a unit has a landing for each label that the unit has, so there may be no more of them.
+-- How many labels the bodies of a unit set. The code of a unit may have a landing for each label that the unit has, so there may be no more of them.
 use Rattle.std.specs.Prelude.{ℕ, ◌+◌, ◌≤◌, List, [], ◌∷◌, length}
 use Rattle.cw_unit.specs.declared.unit.Unit.{Unit as SourceUnit}
 use Rattle.cw_unit.specs.declared.unit.Proc.{Proc}

@@ -7,9 +7,9 @@ use Rattle.cw_stop.specs.Stopping.{stop_in}
 use Rattle.cw_stop.specs.declared.stopping.Stop.{Stop}
 use Rattle.cw_words.specs.declared.action.Action.{Action}
 use Rattle.cw_correct.specs.Calls.{Surroundings, Call, limits_of, call_as}
-use Rattle.cw_words.specs.declared.action.Action.TheVariants.{Compile, Lib, Link, List as Show, Map, Depth, Migrate, Big, Hex, Trace}
+use Rattle.cw_words.specs.declared.action.Action.TheVariants.{Compile, Lib, Link, List as Show, Map, Depth, Code, Migrate, Big, Hex, Trace}
 use Rattle.cw_correct.specs.Correct.{Correct, IsCorrectCall, IsCorrectRequest}
-use Rattle.cw_correct.specs.Results.{MapsRight, DepthsRight, ShowsRight, CompilesRight, LibsRight, LinksRight, MigratesRight, HexesRight}
+use Rattle.cw_correct.specs.Results.{MapsRight, DepthsRight, CodesRight, ShowsRight, CompilesRight, LibsRight, LinksRight, MigratesRight, HexesRight}
 use Rattle.cw_say.specs.declared.status.Status.{Status}
 
 -- the number of texts of `big` is told by its first WORD
@@ -60,6 +60,9 @@ module _ (parts : Parts) (before after : Surroundings) (status : Status) where
 
   pub asked_depth : parts.action ≡ Depth → DepthsRight (call_as Depth (limits_of parts) parts.steps parts.names before after) status → IsCorrectRequest (Some parts) before after status
   asked_depth is right = asked Depth parts before after status is (over_any (call_as Depth (limits_of parts) parts.steps parts.names before after) status (λ input. right))
+
+  pub asked_code : parts.action ≡ Code → CodesRight (call_as Code (limits_of parts) parts.steps parts.names before after) status → IsCorrectRequest (Some parts) before after status
+  asked_code is right = asked Code parts before after status is (over_any (call_as Code (limits_of parts) parts.steps parts.names before after) status (λ input. right))
 
   pub asked_list : parts.action ≡ Show → ShowsRight (call_as Show (limits_of parts) parts.steps parts.names before after) status → IsCorrectRequest (Some parts) before after status
   asked_list is right = asked Show parts before after status is (over_any (call_as Show (limits_of parts) parts.steps parts.names before after) status (λ input. right))

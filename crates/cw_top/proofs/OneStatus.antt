@@ -2,7 +2,7 @@
 use Rattle.std.proofs.Common.{◌≡◌, ◌≢◌, ◌⊎◌, ℕ, List, map, drop, Option, Some, sym, ap, ◌∙◌, subst, arith}
 use Rattle.std.specs.Prelude.{All}
 use Rattle.cw_words.specs.declared.action.Action.{Action}
-use Rattle.cw_words.specs.declared.action.Action.TheVariants.{Go, Compile, Link, Exec, List as Show, Map, Migrate, Big, Hex, Lib, Depth, Trace}
+use Rattle.cw_words.specs.declared.action.Action.TheVariants.{Go, Compile, Link, Exec, List as Show, Map, Migrate, Big, Hex, Lib, Depth, Trace, Code}
 use Rattle.cw_build.specs.Linking.{map_text}
 use Rattle.cw_big.specs.LargeProgram.{large_program}
 use Rattle.cw_stop.specs.declared.stopping.Stop.{Stop}
@@ -10,7 +10,7 @@ use Rattle.cw_correct.specs.Calls.{Call, over_others, told_files, NoFault}
 use Rattle.cw_correct.specs.Tracing.{TracesRight}
 use Rattle.cw_correct.specs.Making.{program_line, in_memory, over_program, MakesRight}
 use Rattle.cw_correct.specs.Correct.{CorrectAs, TellsBytes, HasOneStatus}
-use Rattle.cw_correct.specs.Results.{MapsRight, DepthsRight, ShowsRight, CompilesRight, LibsRight, LinksRight, MigratesRight, HexesRight}
+use Rattle.cw_correct.specs.Results.{MapsRight, DepthsRight, CodesRight, ShowsRight, CompilesRight, LibsRight, LinksRight, MigratesRight, HexesRight}
 use Rattle.cw_say.specs.declared.status.Status.{Status}
 use Rattle.cw_say.specs.declared.status.Status.TheVariants.{NoMemory, TooLong}
 use Rattle.cw_say.specs.declared.status.Long.TheVariants as long
@@ -27,6 +27,7 @@ pub record OneEach : Type 0 where
   pub exec : executing.HasOneStatus
   pub map : AllowsOneStatus MapsRight
   pub depth : AllowsOneStatus DepthsRight
+  pub code : AllowsOneStatus CodesRight
   pub list : AllowsOneStatus ShowsRight
   pub compile : AllowsOneStatus CompilesRight
   pub lib : AllowsOneStatus LibsRight
@@ -52,6 +53,7 @@ module _ (each : OneEach) (c : Call) (input : List ℕ) (a b : Status) (found : 
   one_of Exec x y = each.exec c input a b found told quiet other also telling x y
   one_of Map x y = each.map c a b found told bytes quiet other also x y
   one_of Depth x y = each.depth c a b found told bytes quiet other also x y
+  one_of Code x y = each.code c a b found told bytes quiet other also x y
   one_of Show x y = each.list c a b found told bytes quiet other also x y
   one_of Compile x y = each.compile c a b found told bytes quiet other also x y
   one_of Lib x y = each.lib c a b found told bytes quiet other also x y

@@ -5,7 +5,7 @@ use Rattle.cw_words.specs.Parts.{Parts, parts_of, copies_of, stop_of}
 use Rattle.cw_words.specs.Copies.{TellsCopies, TellsStop}
 use Rattle.cw_stop.specs.declared.stopping.Stop.{Stop}
 use Rattle.cw_words.specs.declared.action.Action.{Action}
-use Rattle.cw_words.specs.declared.action.Action.TheVariants.{Go, Compile, Link, Exec, List as Show, Map, Migrate, Big, Hex, Lib, Depth, Trace}
+use Rattle.cw_words.specs.declared.action.Action.TheVariants.{Go, Compile, Link, Exec, List as Show, Map, Migrate, Big, Hex, Lib, Depth, Trace, Code}
 use Rattle.cw_write.specs.Said.{Says}
 use Rattle.cw_say.specs.Closing.{closing_line}
 use Rattle.cw_build.specs.Linking.{map_text}
@@ -15,7 +15,7 @@ use Rattle.cw_correct.specs.Making.{program_line, in_memory, MakesRight}
 use Rattle.cw_correct.specs.Closing.{Closes}
 use Rattle.cw_correct.specs.Saying.{IsFirstPart, SaysLast}
 use Rattle.cw_correct.specs.Correct.{DoesNothing, IsCorrectRequest}
-use Rattle.cw_correct.specs.Results.{MapsRight, DepthsRight, ShowsRight, CompilesRight, LibsRight, LinksRight, MigratesRight, HexesRight}
+use Rattle.cw_correct.specs.Results.{MapsRight, DepthsRight, CodesRight, ShowsRight, CompilesRight, LibsRight, LinksRight, MigratesRight, HexesRight}
 use Rattle.cw_say.specs.declared.status.Status.{Status}
 use Rattle.cw_say.specs.declared.status.Status.TheVariants.{Usage, NoMemory}
 use Rattle.cw_actions.specs.Going.Laws as going
@@ -35,6 +35,7 @@ pub record Idles : Type 0 where
   pub exec : executing.IsRightIdle
   pub map : AllowsIdle MapsRight
   pub depth : AllowsIdle DepthsRight
+  pub code : AllowsIdle CodesRight
   pub list : AllowsIdle ShowsRight
   pub compile : AllowsIdle CompilesRight
   pub lib : AllowsIdle LibsRight
@@ -110,6 +111,7 @@ module _ (before after : Surroundings) where
     of_action Exec told stops is = asked Exec parts before after NoMemory is (over_any (call Exec) NoMemory (λ input. idles.exec (call Exec) input (named parts.names closes)))
     of_action Map told stops is = asked Map parts before after NoMemory is (over_any (call Map) NoMemory (λ input. idles.map (call Map) (is_idle Map)))
     of_action Depth told stops is = asked Depth parts before after NoMemory is (over_any (call Depth) NoMemory (λ input. idles.depth (call Depth) (is_idle Depth)))
+    of_action Code told stops is = asked Code parts before after NoMemory is (over_any (call Code) NoMemory (λ input. idles.code (call Code) (is_idle Code)))
     of_action Show told stops is = asked Show parts before after NoMemory is (over_any (call Show) NoMemory (λ input. idles.list (call Show) (is_idle Show)))
     of_action Compile told stops is = asked Compile parts before after NoMemory is (over_any (call Compile) NoMemory (λ input. idles.compile (call Compile) (is_idle Compile)))
     of_action Lib told stops is = asked Lib parts before after NoMemory is (over_any (call Lib) NoMemory (λ input. idles.lib (call Lib) (is_idle Lib)))

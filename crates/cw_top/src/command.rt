@@ -7,6 +7,7 @@ ghost use Rattle.cw_write.specs.Said.{Says};
 ghost use Rattle.cw_say.specs.Closing.{closing_line};
 
 use cw_actions::big::big;
+use cw_actions::code::code_files;
 use cw_actions::depth::depth_files;
 use cw_actions::exec::exec;
 use cw_actions::go::go;
@@ -57,6 +58,7 @@ pub(crate) fn perform<F: Store, I: Source, O: Sink, S: Sink>(
         Action::List => show(alloc, names, &limits, steps, files, out, say),
         Action::Map => map_files(alloc, names, &limits, steps, files, out, say),
         Action::Depth => depth_files(alloc, names, &limits, steps, files, out, say),
+        Action::Code => code_files(alloc, names, &limits, steps, files, out, say),
         Action::Migrate => migrate(alloc, names, &limits, steps, files, say),
         Action::Hex => hex(alloc, names, &limits, steps, files, say),
         Action::Big => big(alloc, command.copies, &limits, steps, input, out, say),

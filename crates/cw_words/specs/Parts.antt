@@ -9,7 +9,7 @@ use Rattle.cw_stop.specs.declared.stopping.Stop.{Stop}
 use Rattle.cw_words.specs.Command.{faults_of, rows_in}
 use Rattle.cw_words.specs.declared.request.Command.{Command}
 use Rattle.cw_words.specs.declared.action.Action.{Action}
-use Rattle.cw_words.specs.declared.action.Action.TheVariants.{Go, Compile, Link, Exec, List as Show, Map, Migrate, Big, Hex, Lib, Depth, Trace}
+use Rattle.cw_words.specs.declared.action.Action.TheVariants.{Go, Compile, Link, Exec, List as Show, Map, Migrate, Big, Hex, Lib, Depth, Trace, Code}
 
 -- the action of a name
 unfoldable pub action_named : Text → Option Action
@@ -25,7 +25,8 @@ action_named name =
     else (if bytes_eq name (codes "hex") then Some Hex
     else (if bytes_eq name (codes "lib") then Some Lib
     else (if bytes_eq name (codes "depth") then Some Depth
-    else (if bytes_eq name (codes "trace") then Some Trace else None)))))))))))
+    else (if bytes_eq name (codes "trace") then Some Trace
+    else (if bytes_eq name (codes "code") then Some Code else None))))))))))))
 
 -- the number of a text, where it has one in the range
 unfoldable pub number_in : ℕ → ℕ → Text → Option ℕ
@@ -63,6 +64,7 @@ most_names Go = 200
 most_names Link = 200
 most_names Map = 200
 most_names Depth = 200
+most_names Code = 200
 most_names Lib = 201
 most_names Trace = 201
 most_names _ = 1

@@ -17,6 +17,7 @@ pub enum Action {
     Lib,
     Depth,
     Trace,
+    Code,
 }
 
 // The action of a name.
@@ -37,6 +38,7 @@ pub(crate) fn action_of(name: &str) -> Option<Action>
         "lib" => Some(Action::Lib),
         "depth" => Some(Action::Depth),
         "trace" => Some(Action::Trace),
+        "code" => Some(Action::Code),
         _ => None,
     }
 }
@@ -56,7 +58,7 @@ pub(crate) fn most_names_of(action: Action) -> usize
     ensures { result ≡ most_names action }
 {
     match action {
-        Action::Go | Action::Link | Action::Map | Action::Depth => 200,
+        Action::Go | Action::Link | Action::Map | Action::Depth | Action::Code => 200,
         Action::Lib | Action::Trace => 201,
         _ => 1,
     }

@@ -12,7 +12,7 @@ use Rattle.cw_build.specs.Linking.{image_of}
 use Rattle.cw_correct.specs.Going.{names_of}
 
 library_is_some : 0 < length library_bytes
-library_is_some = let size : 430 ≡ length library_bytes = refl in subst (λ n. 0 < n) size (lit< tt)
+library_is_some = let size : 438 ≡ length library_bytes = refl in subst (λ n. 0 < n) size (lit< tt)
 
 ends_behind : (start : ℕ) (cs : List Contents) → start ≤ code_end start cs
 ends_behind start [] = omega arith

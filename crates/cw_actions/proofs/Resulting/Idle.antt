@@ -2,11 +2,11 @@
 use Rattle.std.proofs.Common.{ℕ, List, []}
 use Rattle.cw_unit.specs.declared.unit.Unit.{Unit as SourceUnit}
 use Rattle.cw_unit.specs.declared.layout.Limits.{Limits}
-use Rattle.cw_correct.specs.Results.{TellsOfUnits, IsMap, IsDepth, DepthsRight, MapsRight, ShowsRight, CompilesRight, MigratesRight, HexesRight}
+use Rattle.cw_correct.specs.Results.{TellsOfUnits, IsMap, IsDepth, IsCode, DepthsRight, MapsRight, CodesRight, ShowsRight, CompilesRight, MigratesRight, HexesRight}
 use Rattle.cw_actions.specs.Resulting.Idle.{AllowsIdle}
 use Rattle.cw_actions.proofs.Resulting.Hexes as hexing
 
-told : (IsText : List SourceUnit → Limits → List ℕ → Type 0) → AllowsIdle (TellsOfUnits IsText)
+told : (IsText : (texts : List (List ℕ)) → List SourceUnit → Limits → List ℕ → Type 0) → AllowsIdle (TellsOfUnits IsText)
 told IsText c idle = record {
   texts = [];
   units = [];
@@ -23,10 +23,13 @@ told IsText c idle = record {
 }
 
 pub maps : AllowsIdle MapsRight
-maps = told IsMap
+maps = told (λ texts. IsMap)
 
 pub depths : AllowsIdle DepthsRight
-depths = told IsDepth
+depths = told (λ texts. IsDepth)
+
+pub listings : AllowsIdle CodesRight
+listings = told IsCode
 
 pub shows : AllowsIdle ShowsRight
 shows c idle = record {
@@ -75,4 +78,4 @@ migrates c idle = record {
 pub hexes : AllowsIdle HexesRight
 hexes c x = hexing.idle c x
 
-pub ruleset laws = (maps, depths, shows, compiles, migrates, hexes)
+pub ruleset laws = (maps, depths, listings, shows, compiles, migrates, hexes)

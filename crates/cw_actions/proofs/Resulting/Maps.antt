@@ -49,7 +49,7 @@ same_length (file ∷ files) (text ∷ texts) (u ∷ us) have values all = ap su
 summed : {X : Type 0} (f : X → ℕ) (x : X) (xs : List X) → sum (map f (x ∷ xs)) ≡ f x + sum (map f xs)
 summed f x xs = sum-map f (x ∷ xs) ∙ sum_by-cons f x xs ∙ ap (λ n. f x + n) (sym (sum-map f xs))
 
-module _ (given : OneOfText) (sizes : HasSizes) (IsText : List SourceUnit → Limits → List ℕ → Type 0) where
+module _ (given : OneOfText) (sizes : HasSizes) (IsText : (texts : List (List ℕ)) → List SourceUnit → Limits → List ℕ → Type 0) where
   -- the texts expand to as many items as the units have tokens
   expands : (texts : List (List ℕ)) (us : List SourceUnit) → HaveValues HasUnit texts us → length us ≡ length texts → (expanded : List (List Lexeme)) × ExpandTo texts expanded × (sum (map length expanded) ≡ sum (map (λ u. u.tokens) us))
   expands [] [] values all = ([], tt, refl)
@@ -76,7 +76,7 @@ module _ (given : OneOfText) (sizes : HasSizes) (IsText : List SourceUnit → Li
   cause limits texts us values all NoMemoryToLink x = tt
 
   module _ (c : Call) (untouched : IsUntouched c.before c.after) (stay : AllStay c.before.files c.after.files) (s : Status) (closed : Closed c s) where
-    make : (texts : List (List ℕ)) (us : List SourceUnit) (text : List ℕ) → HaveBytes text_limit (told_files c) texts → HaveValues HasUnit texts us → MapComes c texts us s → IsWritten (IsText us c.limits) text s → WritesOut c text s → TellsOfUnits IsText c s
+    make : (texts : List (List ℕ)) (us : List SourceUnit) (text : List ℕ) → HaveBytes text_limit (told_files c) texts → HaveValues HasUnit texts us → MapComes c texts us s → IsWritten (IsText texts us c.limits) text s → WritesOut c text s → TellsOfUnits IsText c s
     make texts us text have values comes is writes = record {
       texts = texts;
       units = us;
@@ -102,20 +102,20 @@ module _ (given : OneOfText) (sizes : HasSizes) (IsText : List SourceUnit → Li
     stopped none x =
         make x.texts x.values [] x.have_bytes x.have_values
         (stops_texts (λ t. MapComes c x.texts x.values t) (told_files c) x.texts (length x.values) (counts_before c) (counts_after c) (λ number fault y. y) (λ number y. y) (λ y. y) (λ number y. y) tt s x.stops)
-        (stops_texts (λ t. IsWritten (IsText x.values c.limits) [] t) (told_files c) x.texts (length x.values) (counts_before c) (counts_after c) (λ number fault y. tt) (λ number y. tt) (λ y. tt) (λ number y. tt) tt s x.stops)
+        (stops_texts (λ t. IsWritten (IsText x.texts x.values c.limits) [] t) (told_files c) x.texts (length x.values) (counts_before c) (counts_after c) (λ number fault y. tt) (λ number y. tt) (λ y. tt) (λ number y. tt) tt s x.stops)
         (stops_texts (λ t. WritesOut c [] t) (told_files c) x.texts (length x.values) (counts_before c) (counts_after c) (λ number fault y. none) (λ number y. none) (λ y. none) (λ number y. none) none s x.stops)
 
-    pub written : (us : List SourceUnit) → AllTaken text_limit HasUnit (told_files c) us → SameCounts (counts_before c) (counts_after c)
-        → TellsUnits IsText us c.limits (out_at c.before.out c.before.out_faults) (out_at c.after.out c.after.out_faults) s → TellsOfUnits IsText c s
+    pub written : (us : List SourceUnit) → (taken : AllTaken text_limit HasUnit (told_files c) us) → SameCounts (counts_before c) (counts_after c)
+        → TellsUnits (IsText taken.texts) us c.limits (out_at c.before.out c.before.out_faults) (out_at c.after.out c.after.out_faults) s → TellsOfUnits IsText c s
     written us x same told =
-        tells_units (λ t. t ≡ s → TellsOfUnits IsText c s) IsText us c.limits old new
+        tells_units (λ t. t ≡ s → TellsOfUnits IsText c s) (IsText x.texts) us c.limits old new
         (λ fault y e. make x.texts us [] x.have_bytes x.have_values
         (subst (λ u. MapComes c x.texts us u) e (all, y.0, cause c.limits x.texts us x.have_values (same_length (told_files c) x.texts us x.have_bytes x.have_values x.all) fault y.0))
-        (subst (λ u. IsWritten (IsText us c.limits) [] u) e tt) (subst (λ u. WritesOut c [] u) e (unwritten c y.1)))
-        (λ y e. make x.texts us [] x.have_bytes x.have_values (subst (λ u. MapComes c x.texts us u) e tt) (subst (λ u. IsWritten (IsText us c.limits) [] u) e tt) (subst (λ u. WritesOut c [] u) e (unwritten c y)))
+        (subst (λ u. IsWritten (IsText x.texts us c.limits) [] u) e tt) (subst (λ u. WritesOut c [] u) e (unwritten c y.1)))
+        (λ y e. make x.texts us [] x.have_bytes x.have_values (subst (λ u. MapComes c x.texts us u) e tt) (subst (λ u. IsWritten (IsText x.texts us c.limits) [] u) e tt) (subst (λ u. WritesOut c [] u) e (unwritten c y)))
         (λ t text links is gives e. make x.texts us text x.have_bytes x.have_values
         (subst (λ u. MapComes c x.texts us u) e (gives_out (λ u. MapComes c x.texts us u) text old new (λ y. (all, links)) (λ y. (all, links)) (λ y. tt) t gives))
-        (subst (λ u. IsWritten (IsText us c.limits) text u) e (gives_out (λ u. IsWritten (IsText us c.limits) text u) text old new (λ y. is) (λ y. is) (λ y. tt) t gives))
+        (subst (λ u. IsWritten (IsText x.texts us c.limits) text u) e (gives_out (λ u. IsWritten (IsText x.texts us c.limits) text u) text old new (λ y. is) (λ y. is) (λ y. tt) t gives))
         (writes_out c untouched text s same closed (subst (λ u. GivesOut text old new u) e gives)))
         s told refl
       where
@@ -130,7 +130,7 @@ module _ (given : OneOfText) (sizes : HasSizes) (IsText : List SourceUnit → Li
 
 -- ---- one status
 
-module _ (given : OneOfText) (IsText : List SourceUnit → Limits → List ℕ → Type 0) (c : Call) where
+module _ (given : OneOfText) (IsText : (texts : List (List ℕ)) → List SourceUnit → Limits → List ℕ → Type 0) (c : Call) where
   abbrev pub After : List SourceUnit → Status → Type 0
   After us s = ((s ≡ Ended) × Links us c.limits) ⊎ ((fault : LinkFault) × IsLinkFault us c.limits fault × (s ≡ Unlinked fault))
 

@@ -10,7 +10,7 @@ use Rattle.cw_view.specs.Uniqueness.{HasOneFault}
 use Rattle.cw_files.specs.Texts.{HasUnit, HasObject, object_limit}
 use Rattle.cw_correct.specs.Correct.{TellsBytes}
 use Rattle.cw_unit.specs.declared.layout.Limits.{Limits}
-use Rattle.cw_correct.specs.Results.{TellsOfUnits, IsMap, IsDepth, DepthsRight, MapsRight, ShowsRight, CompilesRight, MigratesRight}
+use Rattle.cw_correct.specs.Results.{TellsOfUnits, IsMap, IsDepth, IsCode, DepthsRight, MapsRight, CodesRight, ShowsRight, CompilesRight, MigratesRight}
 use Rattle.cw_say.specs.declared.status.Status.{Status}
 use Rattle.cw_say.specs.declared.status.Status.TheVariants.{Ended, Refused}
 use Rattle.cw_actions.specs.Resulting.OneStatus.{AllowsOneStatus}
@@ -41,17 +41,20 @@ pub ended : (s t : Status) → s ≡ Ended → t ≡ Ended → s ≡ t
 ended s t e f = e ∙ sym f
 
 module _ (given : OneOfText) where
-  pub told_once : (IsText : List SourceUnit → Limits → List ℕ → Type 0) → AllowsOneStatus (TellsOfUnits IsText)
+  pub told_once : (IsText : (texts : List (List ℕ)) → List SourceUnit → Limits → List ℕ → Type 0) → AllowsOneStatus (TellsOfUnits IsText)
   told_once IsText c a b found told all quiet m n x y =
       one_fate text_limit HasUnit IsRefused Refused (maps.After given IsText c) (λ text u fault is refused. not_refused given text u fault is refused) Any (λ text f g fit is also. given.one_refusal text f g is also)
       found (λ us vs s t runs others after other. maps.one_after given IsText c us vs s t (same_units given c found told us vs runs others) after other)
       a b (any found) m n (maps.fate given IsText c a x found told quiet) (maps.fate given IsText c b y found told quiet)
 
   pub maps_once : AllowsOneStatus MapsRight
-  maps_once = told_once IsMap
+  maps_once = told_once (λ texts. IsMap)
 
   pub depths_once : AllowsOneStatus DepthsRight
-  depths_once = told_once IsDepth
+  depths_once = told_once (λ texts. IsDepth)
+
+  pub codes_once : AllowsOneStatus CodesRight
+  codes_once = told_once IsCode
 
   pub shows_once : AllowsOneStatus ShowsRight
   shows_once c a b found told all quiet m n x y =

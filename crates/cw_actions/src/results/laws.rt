@@ -1,5 +1,5 @@
 //! Laws of what the actions promise that run nothing.
-ghost use Rattle.cw_correct.specs.Results.{MapsRight, DepthsRight, ShowsRight, CompilesRight, MigratesRight, HexesRight};
+ghost use Rattle.cw_correct.specs.Results.{MapsRight, DepthsRight, CodesRight, ShowsRight, CompilesRight, MigratesRight, HexesRight};
 ghost use Rattle.cw_actions.specs.Resulting.Idle.{AllowsIdle};
 ghost use Rattle.cw_actions.specs.Resulting.OneStatus.{AllowsOneStatus};
 
@@ -11,6 +11,7 @@ use cw_view::laws::object_format;
 pub fn idle()
     ensures map { AllowsIdle MapsRight }
     ensures depth { AllowsIdle DepthsRight }
+    ensures code { AllowsIdle CodesRight }
     ensures list { AllowsIdle ShowsRight }
     ensures compile { AllowsIdle CompilesRight }
     ensures migrate { AllowsIdle MigratesRight }
@@ -21,6 +22,7 @@ pub fn idle()
 pub fn one_status_of_results()
     ensures map { AllowsOneStatus MapsRight }
     ensures depth { AllowsOneStatus DepthsRight }
+    ensures code { AllowsOneStatus CodesRight }
     ensures list { AllowsOneStatus ShowsRight }
     ensures compile { AllowsOneStatus CompilesRight }
     ensures migrate { AllowsOneStatus MigratesRight }

@@ -14,6 +14,7 @@ use Rattle.cw_follow.specs.Placing.{StandsBehind, Codable}
 use Rattle.cw_safety.proofs.Truth.{no}
 use Rattle.cw_built.specs.Built.{is_built}
 use Rattle.cw_built.specs.Coded.{is_landing, have_code}
+use Rattle.cw_built.proofs.Sharing.{definitions-shared}
 use Rattle.cw_built.proofs.Programs.{codes, lines, tables, paired, switches, entries, marks, callable}
 
 landing-alone : (o : Order) → IsTrue (is_landing o) → (StandsBehind o → ⊥) × (BeginsStatement o → ⊥)
@@ -37,6 +38,7 @@ module _ (us : List SourceUnit) (m : Map) (limits : Limits) (room : ℕ) (h : Al
     paired = paired us m limits room;
     switches = switches us m limits room h;
     callable = callable us m limits room h passed frames;
+    shared = definitions-shared us m limits room;
     entries = entries us m limits room;
     marks = λ g mark place e. marked g mark place (marks us m limits room h g mark place e);
     begins = begin;

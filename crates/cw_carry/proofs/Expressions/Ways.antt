@@ -8,6 +8,7 @@ use Rattle.cw_unit.specs.declared.unit.Goal.{Goal}
 use Rattle.cw_unit.specs.declared.unit.Goal.TheVariants as goal
 use Rattle.cw_unit.specs.declared.unit.Dest.{Dest}
 use Rattle.cw_unit.specs.declared.unit.Dest.TheVariants as dest
+use Rattle.cw_unit.specs.declared.unit.Expr.{Expr}
 use Rattle.cw_unit.specs.Program.{definition_of, definition_for}
 use Rattle.cw_unit.specs.Stop.{SwitchRange, Running, Stopped, Stuck}
 use Rattle.cw_unit.specs.Words.{Control, LabelControl, SwitchControl, ProcedureControl, Operand, Word, Held, Words, with_operands}
@@ -16,7 +17,7 @@ use Rattle.cw_unit.specs.Configuration.{at as configuration, Activation, segment
 use Rattle.cw_unit.specs.Step.{kept, switch_of_def, label_of_def, label_of_goal, with_label_owner, goal_at, switch_in, jump_to, jump_to_control, jump_to_goal, jump_by_list, jump_by_switch}
 use Rattle.cw_order.specs.declared.order.Order.{Order}
 use Rattle.cw_order.specs.declared.order.Order.TheVariants as order
-use Rattle.cw_order.specs.OrderProgram.{defined_at, defined_in, label_of, switch_at, switch_in as order_switch_in}
+use Rattle.cw_order.specs.OrderProgram.{defined_at, defined_in, label_of, place_of, switch_in as order_switch_in}
 use Rattle.cw_order.specs.OrderState.{OrderActivation, at as state}
 use Rattle.cw_order.specs.Loading.{loaded_after}
 use Rattle.cw_order.specs.OrderActions.{action_of}
@@ -27,6 +28,7 @@ use Rattle.cw_carry.proofs.Expressions.Effects.{BeginsNone}
 use Rattle.cw_carry.proofs.Expressions.Carried.{who_of}
 use Rattle.cw_carry.proofs.Expressions.Stepping.{Compiled, source, target, IsSane, stops}
 use Rattle.cw_carry.proofs.Expressions.Moments.{Moment, here_in, code, Steps, next, one_order}
+use Rattle.cw_carry.proofs.Expressions.Arguments.{same_length}
 use Rattle.cw_carry.proofs.Expressions.Jumps.{LabelsReach, by_control, marked, all_dropped, label_follows}
 
 module _ (c : Compiled) where
@@ -56,10 +58,11 @@ module _ (c : Compiled) where
   Names s acts (dest.SpecialSwitch k e) h label owner =
       (h0 : ℕ) × (n0 : ℕ) × (gs : List Goal) × (x : Goal) × (z : ℤ) × (control_at acts k ≡ Some (SwitchControl h0 n0 owner)) × (switch_in (slice_get c.units h0) n0 ≡ Some gs) × (goal_at gs z ≡ Some x) × (label_of_goal (source c) h0 x ≡ Some (h, label))
 
-  -- what must hold of a configuration at a jump: nothing is in hand at a jump to a label, and each label that is named has the owner that
-  -- it should have
+  -- what must hold of a configuration at a jump: nothing is in hand at a jump to a label, and the index alone at one through a switch of
+  -- the unit; each label that is named has the owner that it should have
   pub record JumpSound (s : ℕ) (acts : List Activation) (w : Words) (d : Dest) : Type 0 where
     pub clean : (g : Goal) → d ≡ dest.Goal g → w.operands ≡ []
+    pub alone : (n : ℕ) (e : Expr) → d ≡ dest.Switch n e → length w.operands ≡ 1
     pub owned : (h label owner : ℕ) → Names s acts d h label owner → Owned s acts h label owner
 
   module _ (t : Moment c) (reach : LabelsReach c) (now : Work) (o : Order) (q : ℕ) (l : Bool) (line : ℕ) (w : Words) (at_q : slice_get (code c t) q ≡ Some o) (turn : loaded_after o l ≡ Some false) (cheap : weight_of o ≤ 50) (some : 0 < weight_of o) (none_begins : BeginsNone o) (sane : IsSane (next c t now w)) where
@@ -114,29 +117,45 @@ module _ (c : Compiled) where
 
     -- ---- a label of the unit, by its mark
 
-    -- a plain jump stays in the body, with nothing in hand
-    pub plain_jump : (label : ℕ) → o ≡ order.Jump (label_mark t.unit label) → w.operands ≡ [] → next c t now w ≡ jump_to (source c) (Some (g, label)) (length t.acts) t.segment now t.acts w → Owned t.segment t.acts g label (length t.acts) → ((v : SourceUnit) (m : Label) → slice_get c.units g ≡ Some v → slice_get v.labels label ≡ Some m → m.proc ≡ None → bs ≡ []) → Steps c t now q l w
-    plain_jump label is empty e owned alone =
+    -- an order that goes to the mark of a label of the body at work, and then has nothing in hand
+    pub stays : (label : ℕ)
+        → ((place : ℕ) → place_of (target c) g (label_mark t.unit label) ≡ Some place → act (target c) (action_of (target c) g bs o) g q false bs w ≡ state g place false bs (with_operands w []) Running)
+        → next c t now w ≡ jump_to (source c) (Some (g, label)) (length t.acts) t.segment now t.acts w → Owned t.segment t.acts g label (length t.acts)
+        → ((v : SourceUnit) (m : Label) → slice_get c.units g ≡ Some v → slice_get v.labels label ≡ Some m → m.proc ≡ None → bs ≡ []) → Steps c t now q l w
+    stays label goes e owned alone =
         label_follows c t reach now o q l w at_q turn cheap some none_begins sane g label (length t.acts) e owned
         (record {
-          to_body = λ v m k v_is m_is none at. by_mark v (λ z. z) v_is at.place (marked c t reach now o q l w at_q turn cheap some none_begins sane g label v None k v_is at) ∙ ap (λ x. state g at.place false x w Running) (alone v m v_is m_is none) ∙ ap (λ x. state g at.place false [] x Running) no_hand;
-          to_procedure = λ v m p k v_is m_is own at. by_mark v (λ z. z) v_is at.place (marked c t reach now o q l w at_q turn cheap some none_begins sane g label v (Some p) k v_is at) ∙ ap (λ x. state g at.place false x w Running) none_dropped ∙ ap (λ x. state g at.place false (drop (length bs - length t.acts) bs) x Running) no_hand;
+          to_body = λ v m k v_is m_is none at.
+              by_mark v v_is at.place (marked c t reach now o q l w at_q turn cheap some none_begins sane g label v None k v_is at)
+              ∙ ap (λ x. state g at.place false x (with_operands w []) Running) (alone v m v_is m_is none);
+          to_procedure = λ v m p k v_is m_is own at.
+              by_mark v v_is at.place (marked c t reach now o q l w at_q turn cheap some none_begins sane g label v (Some p) k v_is at)
+              ∙ ap (λ x. state g at.place false x (with_operands w []) Running) none_dropped;
         })
       where
-        no_hand : w ≡ with_operands w []
-        no_hand = ap (λ xs. with_operands w xs) empty
-
         none_dropped : bs ≡ drop (length bs - length t.acts) bs
         none_dropped =
-            let lengths = Rattle.cw_carry.proofs.Expressions.Arguments.same_length c t.segment t.acts bs t.calls in
+            let lengths = same_length c t.segment t.acts bs t.calls in
             let zero' : length bs - length t.acts ≡ 0 = omega (arith, lengths) in
             sym (ap (λ n. drop n bs) zero')
 
-        by_mark : (v : SourceUnit) → (Unit {0} → Unit {0}) → slice_get c.units g ≡ Some v → (place : ℕ) → Rattle.cw_order.specs.OrderProgram.place_of (target c) g (label_mark v label) ≡ Some place → act (target c) (action_of (target c) g bs o) g q false bs w ≡ state g place false bs w Running
-        by_mark v id v_is place h =
-            let here : t.unit ≡ v = same_Some t.unit v (sym t.unit_is ∙ v_is) in
-            ap (λ x. act (target c) (action_of (target c) g bs x) g q false bs w) is
-            ∙ ap (λ x. go_at x g q false bs w w) (ap (λ u. Rattle.cw_order.specs.OrderProgram.place_of (target c) g (label_mark u label)) here ∙ h)
+        by_mark : (v : SourceUnit) → slice_get c.units g ≡ Some v → (place : ℕ) → place_of (target c) g (label_mark v label) ≡ Some place
+            → act (target c) (action_of (target c) g bs o) g q false bs w ≡ state g place false bs (with_operands w []) Running
+        by_mark v v_is place h = let here : t.unit ≡ v = same_Some t.unit v (sym t.unit_is ∙ v_is) in goes place (ap (λ u. place_of (target c) g (label_mark u label)) here ∙ h)
+
+    -- a plain jump, with nothing in hand
+    pub plain_jump : (label : ℕ) → o ≡ order.Jump (label_mark t.unit label) → w.operands ≡ []
+        → next c t now w ≡ jump_to (source c) (Some (g, label)) (length t.acts) t.segment now t.acts w → Owned t.segment t.acts g label (length t.acts)
+        → ((v : SourceUnit) (m : Label) → slice_get c.units g ≡ Some v → slice_get v.labels label ≡ Some m → m.proc ≡ None → bs ≡ []) → Steps c t now q l w
+    plain_jump label is empty e owned alone =
+        stays label
+        (λ place h.
+        ap (λ x. act (target c) (action_of (target c) g bs x) g q false bs w) is ∙ ap (λ x. go_at x g q false bs w w) h
+        ∙ ap (λ x. state g place false bs x Running) no_hand)
+        e owned alone
+      where
+        no_hand : w ≡ with_operands w []
+        no_hand = ap (λ xs. with_operands w xs) empty
 
     -- a label of the segment's body is left for from a procedure
     pub main_jump : (label : ℕ) → o ≡ order.GoMain (label_mark t.unit label) → next c t now w ≡ jump_to (source c) (Some (g, label)) (length t.acts) t.segment now t.acts w → Owned t.segment t.acts g label (length t.acts) → ((v : SourceUnit) (m : Label) (p : ℕ) → slice_get c.units g ≡ Some v → slice_get v.labels label ≡ Some m → m.proc ≡ Some p → ⊥) → Steps c t now q l w
@@ -147,8 +166,9 @@ module _ (c : Compiled) where
           to_procedure = λ v m p k v_is m_is own at. absurd (never v m p v_is m_is own);
         })
       where
-        by_mark : (v : SourceUnit) → slice_get c.units g ≡ Some v → (place : ℕ) → Rattle.cw_order.specs.OrderProgram.place_of (target c) g (label_mark v label) ≡ Some place → act (target c) (action_of (target c) g bs o) g q false bs w ≡ state g place false (drop (length bs) bs) (with_operands w []) Running
+        by_mark : (v : SourceUnit) → slice_get c.units g ≡ Some v → (place : ℕ) → place_of (target c) g (label_mark v label) ≡ Some place
+            → act (target c) (action_of (target c) g bs o) g q false bs w ≡ state g place false (drop (length bs) bs) (with_operands w []) Running
         by_mark v v_is place h =
             let here : t.unit ≡ v = same_Some t.unit v (sym t.unit_is ∙ v_is) in
             ap (λ x. act (target c) (action_of (target c) g bs x) g q false bs w) is
-            ∙ ap (λ x. leave_for x g (length bs) g q false bs w) (ap (λ u. Rattle.cw_order.specs.OrderProgram.place_of (target c) g (label_mark u label)) here ∙ h)
+            ∙ ap (λ x. leave_for x g (length bs) g q false bs w) (ap (λ u. place_of (target c) g (label_mark u label)) here ∙ h)

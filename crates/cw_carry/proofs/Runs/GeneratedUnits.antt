@@ -31,7 +31,7 @@ use Rattle.cw_gen_expr.specs.Pieces.{Piece, plain, followed_by, sequence, with_e
 use Rattle.cw_gen_expr.specs.ReferenceExpressions.{Scope, at_line, item_order, number_order, store_orders, call_order, condition_piece, expression_piece, control_place, argument_words}
 use Rattle.cw_gen_expr.specs.ReferenceEntries.{scope_of, bound_by, bound_in, bound_order, bind_orders}
 use Rattle.cw_gen_expr.proofs.Layers.{total}
-use Rattle.cw_gen_unit.specs.ReferenceStatements.{begin_orders, after_statement_call, own_order, goal_order, jump_piece, with_middle, keep_orders, number_orders, set_orders, bump_orders, turn_piece, while_values, step_values, element_piece, elements_piece, element_ways, ring_piece, only_step, loop_place, value_orders, past_orders, turn_orders, simple_orders, simple_beginning, first_turn, stepped_piece, elements_loop, begun_loop, jump_past, statement_piece}
+use Rattle.cw_gen_unit.specs.ReferenceStatements.{begin_orders, after_statement_call, own_order, goal_order, owned_marks, switch_order, jump_piece, with_middle, keep_orders, number_orders, set_orders, bump_orders, turn_piece, while_values, step_values, element_piece, elements_piece, element_ways, ring_piece, only_step, loop_place, value_orders, past_orders, turn_orders, simple_orders, simple_beginning, first_turn, stepped_piece, elements_loop, begun_loop, jump_past, statement_piece}
 use Rattle.cw_gen_unit.specs.declared.simple.Simple.{Simple}
 use Rattle.cw_gen_unit.specs.declared.simple.Simple.TheVariants as simple
 use Rattle.cw_gen_unit.specs.declared.simple.SimpleStep.{SimpleStep}
@@ -58,6 +58,10 @@ own_plain (Some q) (Some x) m = by_procedure x.proc
 goal_plain : (u : SourceUnit) (who : Option ℕ) (g : Goal) → IsPlain (goal_order u who g)
 goal_plain u who (goal.Own l) = own_plain who (slice_get u.labels l) _
 goal_plain u who (goal.Common d) = tt
+
+switch_plain : (o : Option (List ℕ)) (n line : ℕ) → IsPlain (switch_order o n line)
+switch_plain None n line = tt
+switch_plain (Some ms) n line = tt
 
 store_plain : (x : Option Field) → ArePlain (store_orders x)
 store_plain None = (tt, tt)
@@ -255,7 +259,7 @@ module _ (s : Scope) (c : ListProperty s.layout) where
   jump_piece_holds : (who : Option ℕ) (d : Dest) → Holds c (jump_piece s who d)
   jump_piece_holds who (dest.Goal g) = lists c (goal_order s.unit who g ∷ []) (goal_plain s.unit who g, tt)
   jump_piece_holds who (dest.Special k) = lists c (order.GoSpecial (control_place s.parameters k) ∷ []) (tt, tt)
-  jump_piece_holds who (dest.Switch n e) = both c (value_holds s c e 0) (lists c (order.GoSwitch n s.line ∷ []) (tt, tt))
+  jump_piece_holds who (dest.Switch n e) = both c (value_holds s c e 0) (lists c (switch_order (owned_marks s.unit who n) n s.line ∷ []) (switch_plain (owned_marks s.unit who n) n s.line, tt))
   jump_piece_holds who (dest.CommonSwitch d e) = both c (value_holds s c e 0) (lists c (order.GoSwitchCommon d s.line ∷ []) (tt, tt))
   jump_piece_holds who (dest.SpecialSwitch k e) = both c (value_holds s c e 0) (lists c (order.GoSwitchSpecial (control_place s.parameters k) s.line ∷ []) (tt, tt))
 

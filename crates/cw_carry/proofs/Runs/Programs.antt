@@ -132,6 +132,7 @@ module _ (us : List SourceUnit) (m : Map) (limits : Limits) (room : ℕ) (suits 
   jump-sound : (s line : ℕ) (k : Work) (acts : List Activation) (w : Words) (d : Dest) → k ≡ Jump d line → Coherent p s k acts w → JumpSound (c us m limits room) s acts w d
   jump-sound s line k acts w d k-is known = record {
     clean = λ g e. known.empty g line (k-is ∙ ap (λ x. Jump x line) e);
+    alone = λ n a e. known.alone n a line (k-is ∙ ap (λ x. Jump x line) e);
     owned = λ h label owner n v l q v-is l-is q-is. owner-parts s (kept owner acts) h q (known.owners d line k-is h label owner (names s acts d h label owner n) v l q v-is l-is q-is);
   }
 

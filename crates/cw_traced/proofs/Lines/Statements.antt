@@ -18,7 +18,7 @@ use Rattle.cw_gen_expr.specs.ReferenceExpressions.{Scope, at_line, argument_word
 use Rattle.cw_gen_expr.proofs.Layers.{total}
 use Rattle.cw_gen_unit.specs.Endings.{comes_to_end}
 use Rattle.cw_gen_unit.proofs.Layers.{statement_layer, statement-made, jump-holds}
-use Rattle.cw_gen_unit.specs.ReferenceStatements.{after_statement_call, goal_order, jump_piece, with_middle, keep_orders, number_orders, set_orders, bump_orders, turn_piece, while_values, step_values, element_piece, elements_piece, element_ways, ring_piece, loop_place, simple_beginning, first_turn, stepped_piece, begun_loop, jump_past, statement_piece}
+use Rattle.cw_gen_unit.specs.ReferenceStatements.{after_statement_call, goal_order, owned_marks, switch_order, jump_piece, with_middle, keep_orders, number_orders, set_orders, bump_orders, turn_piece, while_values, step_values, element_piece, elements_piece, element_ways, ring_piece, loop_place, simple_beginning, first_turn, stepped_piece, begun_loop, jump_past, statement_piece}
 use Rattle.cw_gen_unit.specs.declared.simple.SimpleStep.{SimpleStep}
 use Rattle.cw_gen_unit.specs.SimpleLoops.{simple_step}
 use Rattle.cw_traced.specs.Lines.Lines.{joined, lines_step, lines_in, parts_of}
@@ -174,11 +174,15 @@ module _ (s : Scope) (item : ℕ) where
 
 -- ---- statements
 
+switch-silent : (o : Option (List ℕ)) (n line : ℕ) → Silent (plain (switch_order o n line ∷ []))
+switch-silent None n line = plainly (order.GoSwitch n line ∷ []) refl
+switch-silent (Some ms) n line = plainly (order.SwitchWay ms line ∷ []) refl
+
 module _ (s : Scope) (who : Option ℕ) (answer : ℕ) where
   jump-silent : (line : ℕ) (d : Dest) → Silent (jump_piece (at_line line s) who d)
   jump-silent line (dest.Goal g) = plainly (goal_order s.unit who g ∷ []) (none-first (goal_order s.unit who g) [] (goal-silent s.unit who g) refl)
   jump-silent line (dest.Special k) = plainly (order.GoSpecial (control_place s.parameters k) ∷ []) refl
-  jump-silent line (dest.Switch n e) = both (expression-begins (at_line line s) e 0) (plainly (order.GoSwitch n line ∷ []) refl)
+  jump-silent line (dest.Switch n e) = both (expression-begins (at_line line s) e 0) (switch-silent (owned_marks s.unit who n) n line)
   jump-silent line (dest.CommonSwitch d e) = both (expression-begins (at_line line s) e 0) (plainly (order.GoSwitchCommon d line ∷ []) refl)
   jump-silent line (dest.SpecialSwitch k e) = both (expression-begins (at_line line s) e 0) (plainly (order.GoSwitchSpecial (control_place s.parameters k) line ∷ []) refl)
 

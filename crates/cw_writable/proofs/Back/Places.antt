@@ -23,19 +23,26 @@ use Rattle.cw_tmpl.specs.declared.blocks.Test.{Test}
 use Rattle.cw_tmpl.specs.declared.blocks.Test.TheVariants as test
 use Rattle.cw_tmpl.specs.declared.blocks.Simple.{Simple}
 use Rattle.cw_tmpl.specs.declared.blocks.Simple.TheVariants as simple
+use Rattle.cw_tmpl.specs.declared.rows.Column.{Column}
+use Rattle.cw_tmpl.specs.declared.rows.Column.TheVariants as column
+use Rattle.cw_tmpl.specs.declared.rows.Row.{Row}
 use Rattle.cw_tmpl.specs.declared.blocks.Use.{Use}
 use Rattle.cw_tmpl.specs.declared.blocks.Use.TheVariants as uses
 use Rattle.cw_tmpl.specs.declared.blocks.Block.{Block}
 use Rattle.cw_tmpl.specs.declared.blocks.Block.TheVariants as block
 use Rattle.cw_tmpl.specs.Pieces.{blanks}
-use Rattle.cw_tmpl.specs.Names.{Reach, mark_place, way_to_label, landing_start, switch_size}
-use Rattle.cw_tmpl.specs.Blocks.{address_orders, element_orders, operand_orders, order_of, count_order, block_at, orders_left, bounds_orders, form_order}
+use Rattle.cw_tmpl.specs.Names.{Reach, mark_place, landing_start, has_landing, landing_bytes, switch_bytes, place_of_one, way_to_label, switch_size}
+use Rattle.cw_tmpl.specs.Named.{is_named_label, is_named_switch}
+use Rattle.cw_tmpl.specs.Blocks.{address_orders, element_orders, operand_orders, order_of, count_order, block_at, orders_left, bounds_orders, form_order, column_orders, orders_in_row, orders_to_row, row_order}
 use Rattle.cw_tmpl.proofs.Shapes.{IsBlock, shape}
 use Rattle.cw_tmpl.specs.Mnemonics.{ax, at_si, load}
-use Rattle.cw_tmpl.specs.Templates.{is_short, saved, block_size, listed_size, entry_pieces}
-use Rattle.cw_tmpl.specs.ReferenceCode.{templates, landings, switches, entry_size, reach_of, order_places, switch_places, switch_sizes, landings_place, switches_place, names_of, mark_starts, label_starts, statement_at, statements_from, orders_code}
+use Rattle.cw_tmpl.specs.Templates.{is_short, saved, block_size, entry_pieces}
+use Rattle.cw_tmpl.specs.Sizes.{listed_size}
+use Rattle.cw_tmpl.specs.ReferenceCode.{templates, landings, switches, entry_size, reach_of, order_places, switch_places, switch_sizes, landings_place, switches_place, names_of, mark_starts, label_starts, statement_at, statements_from, orders_code, landing_places, landing_sizes, routine_sizes}
 use Rattle.cw_tmpl.proofs.Growing.{blanks-append}
-use Rattle.cw_tmpl.proofs.Sizes.{listed as size_alone, element_at_long, saves, size_by, size_to, places_are, mark_start, size_of_templates, size_of_landings, size_of_switches, landings_at}
+use Rattle.cw_tmpl.proofs.Endings.{saves}
+use Rattle.cw_tmpl.proofs.Sizes.{listed as size_alone, element_at_long, size_by, size_to, places_are, mark_start, size_of_templates, landings_at}
+use Rattle.cw_tmpl.proofs.Ways.{size_of_landings, size_of_switches}
 use Rattle.cw_obj.specs.ReferenceObject.{definition_of, definition_place}
 use Rattle.cw_object.specs.Fits.{is_word, is_long, fits_definition, fits_statement}
 use Rattle.cw_object.specs.IsWritable.{is_defined, are_defined, is_begun, are_begun}
@@ -61,6 +68,7 @@ ends_block order.Store = true
 ends_block (order.LoadPart t b is_signed) = true
 ends_block (order.StorePart t b) = true
 ends_block (order.Element lower span line) = true
+ends_block (order.ElementOfTwo lower second width span line) = true
 ends_block (order.Entry width word span line) = true
 ends_block (order.Add line) = true
 ends_block (order.Sub line) = true
@@ -127,6 +135,13 @@ form-ends : (lower : ℤ) (x : Form) → IsTrue (ends_block (form_order lower x)
 form-ends lower (form.Element span line) = refl
 form-ends lower (form.Entry width word span line) = refl
 
+column-ends : (c : Column) → All-end (column_orders c)
+column-ends (column.Number w) = refl
+column-ends (column.Contents x) = end-both (address_orders x) (order.Load ∷ []) (place-ends x) refl
+
+row-ends : (r : Row) → All-end (orders_to_row r)
+row-ends r = end-both (column_orders r.column) (orders_in_row r) (column-ends r.column) refl
+
 -- where the first order begins the block
 left-behind : (xs : List Order) (last : Order) (rest : List Order) → All-end xs → IsTrue (ends_block last) → IsTrue (left_over (length xs) (drop 1 (xs ++ last ∷ rest)))
 left-behind [] last rest h k = refl
@@ -151,8 +166,11 @@ left-first o os = cases (block_at 0 (o ∷ os)) (shape (o ∷ os))
     cases (block.AssignElement e) sh = left-so (suc (length (element_orders e))) _ sh.0 (left-before (element_orders e) order.Store (drop (suc (length (element_orders e))) os) (element-ends e) refl)
     cases (block.Count down line) sh = left-so 2 _ sh (left-before (order.Const 1 ∷ []) (count_order down line) (drop 2 os) refl (count-ends down line))
     cases (block.Halve w power places line) sh = left-so 2 _ sh.0 refl
+    cases (block.FetchBoth n m) sh = left-so 4 _ sh refl
+    cases (block.CompareWord n w c m) sh = left-so 4 _ sh refl
     cases (block.Bounded b) sh =
         left-so 3 _ sh.0 (left-before (order.Save ∷ order.Home b.family b.first ∷ []) (form_order b.bounds.lower b.form) (drop 3 os) refl (form-ends b.bounds.lower b.form))
+    cases (block.Row r) sh = left-so (length (orders_to_row r)) _ sh.0 (left-behind (orders_to_row r) (row_order r) (drop (length (orders_to_row r)) os) (row-ends r) refl)
     cases (block.Operate s u) sh = left-so (suc (length (operand_orders s))) _ sh.0 (left-before (operand_orders s) (order_of u) (drop (suc (length (operand_orders s))) os) (operand-ends s) (use-ends u))
 
 left-next : (left : ℕ) (o : Order) (os : List Order) → IsTrue (left_over left (o ∷ os)) → IsTrue (left_over (orders_left (block_at left (o ∷ os))) os)
@@ -178,6 +196,10 @@ module _ (reach : Reach) where
       let z = before-end (suc number) (orders_left (block_at left (o ∷ os))) os k (let y : k ≤ length os = omega (arith, le) in y) in
       omega (arith, z)
 
+  entered-long : (number n : ℕ) → 0 < size-of number block.Single (order.Enter n)
+  entered-long number zero = let one : size-of number block.Single (order.Enter zero) ≡ 7 = refl in omega (arith, one)
+  entered-long number (suc n) = let one : size-of number block.Single (order.Enter (suc n)) ≡ 34 = refl in omega (arith, one)
+
   -- and that of an entry before it
   entry-before : (number left : ℕ) (os : List Order) → IsTrue (left_over left os) → (k : ℕ) → IsTrue (enters (slice_get os k)) → size-to number left os k < size-to number left os (length os)
   entry-before number left [] l k h = no h
@@ -187,7 +209,7 @@ module _ (reach : Reach) where
   entry-before number left (order.Enter n ∷ os) l zero h = by_left left l
     where
       by_left : (left : ℕ) → IsTrue (left_over left (order.Enter n ∷ os)) → 0 < size-to number left (order.Enter n ∷ os) (suc (length os))
-      by_left zero l = let one : size-of number block.Single (order.Enter n) ≡ 7 = refl in omega (arith, one)
+      by_left zero l = omega (arith, entered-long number n)
       by_left (suc m) l = no l
   entry-before number left (o ∷ os) l zero h = no h
 
@@ -221,11 +243,15 @@ alone-long (order.GoCommon d) h = omega arith
 alone-long (order.GoSpecial k) h = omega arith
 alone-long _ h = absurd h
 
--- a short jump saves not all of them
+-- the short form saves not all of them
 saved-less : (o : Order) → BeginsStatement o → saved block.Single o < listed_size o
 saved-less (order.Jump m) h = omega arith
 saved-less (order.JumpIf c m) h = absurd h
 saved-less (order.LoopWay marks) h = absurd h
+saved-less (order.Add line) h = absurd h
+saved-less (order.Sub line) h = absurd h
+saved-less (order.Neg line) h = absurd h
+saved-less (order.Mul s line) h = absurd h
 saved-less o h = alone-long o h
 
 -- and so has that of the block which it begins
@@ -247,6 +273,8 @@ begins-long short o os h = cases (block_at 0 (o ∷ os)) (shape (o ∷ os))
     cases (block.Fetch (cell.Frame n)) sh = omega arith
     cases (block.FetchPart (cell.Word f n) t b is_signed) sh = omega arith
     cases (block.FetchPart (cell.Frame n) t b is_signed) sh = omega arith
+    cases (block.FetchBoth n m) sh = omega arith
+    cases (block.CompareWord n w c m) sh = omega arith
     cases (block.FetchElement e) sh = let z = element_at_long e (load ax at_si) refl in omega (arith, z)
     cases (block.Assign x) sh = absurd (not-so _ sh)
     cases block.Write sh = absurd (not-so _ sh)
@@ -257,6 +285,7 @@ begins-long short o os h = cases (block_at 0 (o ∷ os)) (shape (o ∷ os))
     cases (block.Count down line) sh = absurd (not-so _ sh)
     cases (block.Halve w power places line) sh = absurd (not-so _ sh.0)
     cases (block.Bounded b) sh = absurd (not-so _ sh.0)
+    cases (block.Row r) sh = absurd (not-so _ sh.0)
 
 module _ (reach : Reach) (n : ℕ) (fs : List Family) (places : List ℕ) (size : ℕ) (small : size ≤ 2097120) where
   pub begun-from : (os : List Order) → Fit n fs os → AreBegun os → (number left at low k : ℕ) → IsTrue (left_over left os) → low ≤ at → at + size-to reach number left os (length os) ≤ size
@@ -298,20 +327,28 @@ module _ (reach : Reach) (n : ℕ) (fs : List Family) (places : List ℕ) (size 
 
 -- ---- the length of the code
 
+abbrev InBody : List LabelMark → ℕ → Type 0
+InBody ms l = (m : LabelMark) → slice_get ms l ≡ Some m → m.in_procedure ≡ false
+
+-- what is defined in common is outside of procedures
+abbrev pub Outside : Orders → Def → Type 0
+Outside o (def.Label l) = InBody o.labels l
+Outside o _ = Unit {0}
+
 module _ (o : Orders) where
   abbrev pub Whole : ℕ
   Whole = length (orders_code o).bytes
 
-  pub code-long : Whole ≡ entry_size + (size-to (reach_of o) 0 0 o.list (length o.list) + (15 * length o.labels + switch_sizes o.switches))
+  pub code-long : Whole ≡ entry_size + (size-to (reach_of o) 0 0 o.list (length o.list) + (landing_sizes (is_named_label o) 0 o.labels + routine_sizes (is_named_switch o) 0 o.switches))
   code-long =
       let N = names_of o in
       let T = templates N entry_size 0 0 o.list in
-      let L = landings N (landings_place o) o.labels in
-      let S = switches N (switches_place o) o.switches in
+      let L = landings N (is_named_label o) (landings_place o) 0 o.labels in
+      let S = switches N (is_named_switch o) (switches_place o) 0 o.switches in
       let first = ap length (blanks-append entry_pieces (T ++ (L ++ S))) ∙ length-append (blanks entry_pieces) (blanks (T ++ (L ++ S))) in
       let second = ap length (blanks-append T (L ++ S)) ∙ length-append (blanks T) (blanks (L ++ S)) in
       let third = ap length (blanks-append L S) ∙ length-append (blanks L) (blanks S) in
-      omega (arith, first, second, third, size_of_templates N entry_size 0 0 o.list, size_of_landings N (landings_place o) o.labels, size_of_switches N (switches_place o) o.switches)
+      omega (arith, first, second, third, size_of_templates N entry_size 0 0 o.list, size_of_landings N (is_named_label o) (landings_place o) 0 o.labels, size_of_switches N (is_named_switch o) (switches_place o) 0 o.switches)
 
   pub statements : (n : ℕ) (fs : List Family) → Whole ≤ 2097120 → Fit n fs o.list → AreBegun o.list → IsTrue (list_all has_code o.list) → IsTrue (are_begun Whole 0 (orders_code o).statements)
   statements n fs small fit begin coded =
@@ -376,41 +413,56 @@ module _ (o : Orders) where
     procedure-inside (m ∷ ms) h zero = entry-inside m (parts (is_entry o.list o.marks m) (list_all (is_entry o.list o.marks) ms) h).0
     procedure-inside (m ∷ ms) h (suc q) = procedure-inside ms (parts (is_entry o.list o.marks m) (list_all (is_entry o.list o.marks) ms) h).1 q
 
-    landing-inside : (l : ℕ) → l < length o.labels → landing_start (names_of o) l < Whole
-    landing-inside l lt =
+    -- where something has its place, if there is one
+    one-inside : (has : Bool) (at size : ℕ) → at + size ≤ Whole → (has ≡ true → 0 < size) → place_of_one has at < Whole
+    one-inside true at size le some = let z = some refl in omega (arith, le, z)
+    one-inside false at size le some = some-code
+
+    landing-some : (has : Bool) (rest : ℕ) → has ≡ true → 0 < landing_bytes has + rest
+    landing-some true rest e = omega arith
+    landing-some false rest e = absurd (cc)
+
+    landing-inside : (at n : ℕ) (ms : List LabelMark) (l : ℕ) → at + landing_sizes (is_named_label o) n ms ≤ Whole → slice_index (landing_places (is_named_label o) at n ms) l < Whole
+    landing-inside at n [] l le = some-code
+    landing-inside at n (m ∷ ms) zero le =
+        let has = has_landing (is_named_label o) n m in
+        one-inside has at (landing_bytes has + landing_sizes (is_named_label o) (suc n) ms) le (landing-some has (landing_sizes (is_named_label o) (suc n) ms))
+    landing-inside at n (m ∷ ms) (suc l) le =
+        let size = landing_bytes (has_landing (is_named_label o) n m) in
+        landing-inside (at + size) (suc n) ms l (let z : at + size + landing_sizes (is_named_label o) (suc n) ms ≤ Whole = omega (arith, le) in z)
+
+    -- a label of the segment's body is reached by its landing
+    label-inside : (first : ℕ) (ms : List LabelMark) (l : ℕ) → InBody ms l → slice_index (label_starts (names_of o) first ms) l < Whole
+    label-inside first [] l body = some-code
+    label-inside first (m ∷ ms) zero body =
         let long = code-long in
         let at = landings_at o in
-        omega (arith, long, at, lt)
+        let inside = landing-inside (landings_place o) 0 o.labels first (let z : landings_place o + landing_sizes (is_named_label o) 0 o.labels ≤ Whole = omega (arith, long, at) in z) in
+        subst (λ b. (if b then mark_place (names_of o) m.mark else landing_start (names_of o) first) < Whole) (sym (body m refl)) inside
+    label-inside first (m ∷ ms) (suc l) body = label-inside (first + 1) ms l (λ x e. body x e)
 
-    way-inside : (l : ℕ) (m : LabelMark) → l < length o.labels → way_to_label (names_of o) l (Some m) < Whole
-    way-inside l m lt = by_body m.in_procedure
-      where
-        by_body : (b : Bool) → (if b then mark_place (names_of o) m.mark else landing_start (names_of o) l) < Whole
-        by_body true =
-            let long = code-long in
-            let inside = mark-inside m.mark in
-            omega (arith, long, inside, lt)
-        by_body false = landing-inside l lt
+    routine-some : (has : Bool) (gs : List Goal) (rest : ℕ) → has ≡ true → 0 < switch_bytes has gs + rest
+    routine-some true gs rest e = omega arith
+    routine-some false gs rest e = absurd (cc)
 
-    label-inside : (first : ℕ) (ms : List LabelMark) (l : ℕ) → first + length ms ≤ length o.labels → slice_index (label_starts (names_of o) first ms) l < Whole
-    label-inside first [] l le = some-code
-    label-inside first (m ∷ ms) zero le = way-inside first m (let z : first < length o.labels = omega (arith, le) in z)
-    label-inside first (m ∷ ms) (suc l) le = label-inside (first + 1) ms l (let z : first + 1 + length ms ≤ length o.labels = omega (arith, le) in z)
+    switch-inside : (at n : ℕ) (list : List (List Goal)) (s : ℕ) → at + routine_sizes (is_named_switch o) n list ≤ Whole → slice_index (switch_places (is_named_switch o) at n list) s < Whole
+    switch-inside at n [] s le = some-code
+    switch-inside at n (gs ∷ rest) zero le =
+        let has = is_named_switch o n in
+        one-inside has at (switch_bytes has gs + routine_sizes (is_named_switch o) (suc n) rest) le (routine-some has gs (routine_sizes (is_named_switch o) (suc n) rest))
+    switch-inside at n (gs ∷ rest) (suc s) le =
+        let size = switch_bytes (is_named_switch o n) gs in
+        switch-inside (at + size) (suc n) rest s (let z : at + size + routine_sizes (is_named_switch o) (suc n) rest ≤ Whole = omega (arith, le) in z)
 
-    switch-inside : (at : ℕ) (list : List (List Goal)) (s : ℕ) → at + switch_sizes list ≤ Whole → slice_index (switch_places at list) s < Whole
-    switch-inside at [] s le = some-code
-    switch-inside at (gs ∷ rest) zero le = omega (arith, le)
-    switch-inside at (gs ∷ rest) (suc s) le = switch-inside (at + switch_size gs) rest s (let z : at + switch_size gs + switch_sizes rest ≤ Whole = omega (arith, le) in z)
-
-    definition-inside : (d : Def) → definition_place (orders_code o) d < Whole
-    definition-inside (def.Proc q) = procedure-inside o.procedures entered q
-    definition-inside (def.Label l) = label-inside 0 o.labels l (let z : 0 + length o.labels ≤ length o.labels = omega arith in z)
-    definition-inside (def.Switch s) =
+    definition-inside : (d : Def) → Outside o d → definition_place (orders_code o) d < Whole
+    definition-inside (def.Proc q) outside = procedure-inside o.procedures entered q
+    definition-inside (def.Label l) outside = label-inside 0 o.labels l outside
+    definition-inside (def.Switch s) outside =
         let long = code-long in
         let at = landings_at o in
-        switch-inside (switches_place o) o.switches s (let z : switches_place o + switch_sizes o.switches ≤ Whole = omega (arith, long, at) in z)
+        switch-inside (switches_place o) 0 o.switches s (let z : switches_place o + routine_sizes (is_named_switch o) 0 o.switches ≤ Whole = omega (arith, long, at) in z)
 
-    module _ (u : SourceUnit) (few : length u.descs ≤ 65536) (small : Whole ≤ 2097120) where
+    module _ (u : SourceUnit) (few : length u.descs ≤ 65536) (small : Whole ≤ 2097120) (outside : (y : Option Desc) (x : Def) → IsTrue (meets u y x) → Outside o x) where
       listed : (d : ℕ) (x : Def) → IsTrue (meets u (slice_get u.descs d) x) → d < length u.descs
       listed d x h = by_descriptor (slice_get u.descs d) refl h
         where
@@ -426,7 +478,7 @@ module _ (o : Orders) where
           let there = listed d.0 d.1 q.0 in
           let word : d.0 < 65536 = omega (arith, there, few) in
           let place = definition_place (orders_code o) d.1 in
-          let inside : place < Whole = definition-inside d.1 in
+          let inside : place < Whole = definition-inside d.1 (outside (slice_get u.descs d.0) d.1 q.0) in
           let long : place < 4294967296 = omega (arith, inside, small) in
           both (is_defined (length u.descs) Whole low (definition_of (orders_code o) d)) (are_defined (length u.descs) (orders_code o) (d.0 + 1) ds)
           (both (fits_definition (d.0, place)) (nat_le low d.0 && (nat_lt d.0 (length u.descs) && nat_lt place Whole)) (both (is_word d.0) (is_long place) (lt_true d.0 65536 word) (lt_true place 4294967296 long))

@@ -40,7 +40,7 @@ use Rattle.cw_gen_expr.proofs.Layers.{total}
 use Rattle.cw_gen_unit.specs.BuiltStatements as built
 use Rattle.cw_gen_unit.specs.Endings.{comes_to_end}
 use Rattle.cw_gen_unit.proofs.Layers.{statement_layer, statement-made, jump-holds}
-use Rattle.cw_gen_unit.specs.ReferenceStatements.{begin_orders, after_statement_call, from_procedure, own_order, goal_order, jump_piece, with_middle, keep_orders, number_orders, set_orders, bump_orders, turn_piece, while_values, step_values, element_piece, elements_piece, element_ways, ring_piece, loop_place, value_orders, limit_orders, past_orders, turn_orders, simple_orders, simple_beginning, first_turn, stepped_piece, begun_loop, jump_past, statement_piece}
+use Rattle.cw_gen_unit.specs.ReferenceStatements.{begin_orders, after_statement_call, from_procedure, own_order, goal_order, owned_marks, switch_order, jump_piece, with_middle, keep_orders, number_orders, set_orders, bump_orders, turn_piece, while_values, step_values, element_piece, elements_piece, element_ways, ring_piece, loop_place, value_orders, limit_orders, past_orders, turn_orders, simple_orders, simple_beginning, first_turn, stepped_piece, begun_loop, jump_past, statement_piece}
 use Rattle.cw_gen_unit.specs.declared.simple.Simple.{Simple}
 use Rattle.cw_gen_unit.specs.declared.simple.Simple.TheVariants as simple
 use Rattle.cw_gen_unit.specs.declared.simple.SimpleStep.{SimpleStep}
@@ -132,12 +132,17 @@ module _ (u : SourceUnit) (stored : IsStorable u) (few : length u.items ≤ 6553
       by_owner (Some q) x = from x
   goal-named (goal.Common d) h = both (nat_lt d (length u.descs)) true (listed u is_named d (λ x. reaches (alone u) o (label_of_def x)) refl h) refl
 
+  -- by its marks, or by the list of the unit
+  switch-named : (n line : ℕ) (x : Option (List ℕ)) → Well (switch_order x n line ∷ [])
+  switch-named n line None = refl
+  switch-named n line (Some ms) = refl
+
   jump_good : (line : ℕ) (d : Dest) → IsTrue (built.is_jump u Has who answer d) → IsTrue (formed.is_goal (alone u) 0 o d) → Sound (jump_piece (at_line line At) who d)
   jump_good line (dest.Goal g) h k = plainly (goal_order u who g ∷ []) (goal-named g k)
   jump_good line (dest.Special m) h k = plainly (order.GoSpecial (control_place At.parameters m) ∷ []) refl
   jump_good line (dest.Switch n e) h k =
       let p = parts (formed.is_expression (alone u) 0 o e) (reaches_switch (alone u) o (Some (0, n))) k in
-      both_good (expression line e 0 most_levels h p.0 0) (plainly (order.GoSwitch n line ∷ []) refl)
+      both_good (expression line e 0 most_levels h p.0 0) (plainly (switch_order (owned_marks u who n) n line ∷ []) (switch-named n line (owned_marks u who n)))
   jump_good line (dest.CommonSwitch d e) h k =
       let asked : Option (ℕ × Def) → Bool = λ x. reaches_switch (alone u) o (switch_of_def x) in
       let p = parts (formed.is_expression (alone u) 0 o e) (asked (definition_of (alone u) 0 d)) k in

@@ -17,11 +17,15 @@ use Rattle.cw_tmpl.specs.declared.pieces.Target.{Target}
 use Rattle.cw_tmpl.specs.declared.pieces.Target.TheVariants as target
 use Rattle.cw_tmpl.specs.declared.pieces.Coded.{Coded}
 use Rattle.cw_tmpl.specs.declared.pieces.Coded.TheVariants as pieces
-use Rattle.cw_tmpl.specs.Mnemonics.{ax, bx, cx, si, di, at_si, load, store, set_word, compare, double, multiply, operate, jump_if_below, operate_number}
+use Rattle.cw_tmpl.specs.Mnemonics.{add, ax, bx, cx, si, di, at_si, load, store, set_word, compare, double, multiply, operate, jump_if_below, operate_number}
+use Rattle.cw_tmpl.specs.declared.rows.Column.{Column}
+use Rattle.cw_tmpl.specs.declared.rows.Column.TheVariants as column
+use Rattle.cw_tmpl.specs.declared.rows.Row.{Row}
 use Rattle.cw_tmpl.specs.declared.blocks.Use.{Use}
 use Rattle.cw_tmpl.specs.declared.blocks.Use.TheVariants as uses
 use Rattle.cw_tmpl.specs.Pieces.{size_of, target_of, relocation_of, relocation_before, relocations}
-use Rattle.cw_tmpl.specs.Names.{Names, mark_place, label_start, procedure_start, switch_start, landing_size, switch_size, own}
+use Rattle.cw_tmpl.specs.Names.{Names, mark_place, label_start, procedure_start, switch_start, landing_size, switch_size, own, call_place, has_landing, landing_bytes, switch_bytes}
+use Rattle.cw_tmpl.specs.Named.{is_named_label, is_named_switch}
 use Rattle.cw_tmpl.specs.Library.{overflow_entry, address_entry, bounds_entry}
 use Rattle.cw_order.specs.declared.order.Place.{Place}
 use Rattle.cw_order.specs.declared.order.Place.TheVariants as cell
@@ -36,10 +40,10 @@ use Rattle.cw_tmpl.specs.declared.blocks.Simple.{Simple}
 use Rattle.cw_tmpl.specs.declared.blocks.Simple.TheVariants as simple
 use Rattle.cw_tmpl.specs.declared.blocks.Block.{Block}
 use Rattle.cw_tmpl.specs.declared.blocks.Block.TheVariants as block
-use Rattle.cw_tmpl.specs.Blocks.{address_orders, bounds_orders, form_within, entries_within, element_orders, operand_orders, zero_word, block_at, orders_left}
+use Rattle.cw_tmpl.specs.Blocks.{address_orders, bounds_orders, column_orders, orders_in_row, row_order, form_within, entries_within, element_orders, operand_orders, zero_word, block_at, orders_left}
 use Rattle.cw_tmpl.proofs.Shapes.{IsBlock, IsNear, TestNear, OperandIs, shape}
-use Rattle.cw_tmpl.specs.Templates.{is_short, template, template_by, branch_by, pieces_size, mark_words, goal_words, landing_pieces, switch_pieces, times_if, times, rescale_if, product_start, product_down, less_bound, plus_word, times_width, based, in_row, element_of_two, block_pieces, block_size, entry_pieces, checked, address_pieces, load_place, store_place, with_operand, product_with, operated, shifted_up, shifted_down, shifted_down_signed, lowest_if, part_taken, operate_place, change_place, index_added, index_loaded, from_lower, indexes_between, top_from_lower, top_below, times_entry, formed, bounded_address, element_tested, element_address, call_stop}
-use Rattle.cw_tmpl.specs.ReferenceCode.{templates, landings, switches, entry_size, landings_place, switches_place, names_of, pieces_of}
+use Rattle.cw_tmpl.specs.Templates.{word_compared, is_short, template, template_by, branch_by, pieces_size, mark_words, goal_words, landing_pieces, switch_pieces, times_if, times, rescale_if, product_start, product_down, less_bound, plus_word, times_width, based, in_row, element_of_two, block_pieces, block_size, entry_pieces, checked, checked_by, address_pieces, load_place, store_place, with_operand, product_with, operated, shifted_up, shifted_down, shifted_down_signed, lowest_if, part_taken, operate_place, change_place, index_added, index_loaded, from_lower, indexes_between, top_from_lower, top_below, times_entry, formed, bounded_address, element_tested, element_address, call_stop, argument_load_size, column_loaded, column_below, row_summed, column_tested, row_address}
+use Rattle.cw_tmpl.specs.ReferenceCode.{templates, landings, switches, entry_size, landings_place, switches_place, names_of, pieces_of, landing_where, switch_where}
 use Rattle.cw_tmpl.proofs.Sizes.{pieces_by}
 use Rattle.cw_tmpl.specs.Blanks.{FillsBlank, Rise}
 use Rattle.cw_view.specs.ObjectFormat.{is_blank, has_index}
@@ -201,10 +205,13 @@ module _ (n : ℕ) (fs : List Family) where
   template-sound names place (order.LoopWay []) h = own-only (place + 20) [] refl
   template-sound names place (order.LoopWay (m ∷ [])) h = refl
   template-sound names place (order.LoopWay (m ∷ k ∷ ms)) h = own-only (place + 20) (mark_words names (m ∷ k ∷ ms)) (marks-sound names (m ∷ k ∷ ms))
+  template-sound names place (order.SwitchWay marks line) h = own-only (place + 20) (mark_words names marks) (marks-sound names marks)
   template-sound names place (order.NextStep (cell.Word f k) line m) h = only (is_place fs f k) h
   template-sound names place (order.NextStep (cell.Frame k) line m) h = refl
   template-sound names place (order.CallCommon d line) h = only (nat_lt d n) h
-  template-sound names place (order.CallSpecial k line) h = own-only (place + 13) [] refl
+  template-sound names place (order.Enter zero) h = refl
+  template-sound names place (order.Enter (suc k)) h = refl
+  template-sound names place (order.CallSpecial k line) h = own-only (place + (argument_load_size k + 9)) [] refl
   template-sound names place (order.Bind k f offset) h = only (is_place fs f offset) h
   template-sound names place (order.LabelOut l) h = own-only (label_start names l) [] refl
   template-sound names place (order.LabelCommon d) h = only (nat_lt d n) h
@@ -217,15 +224,24 @@ module _ (n : ℕ) (fs : List Family) where
   template-sound names place (order.Start line) h = no h
   template-sound names place _ h = refl
 
-  -- with its jump short or near
-  alone-sound : (names : Names) (place : ℕ) (short : Bool) (o : Order) → IsTrue (names_well n fs o) → Sound (template_by short names place o)
-  alone-sound names place false o h = template-sound names place o h
-  alone-sound names place true (order.Jump m) h = refl
-  alone-sound names place true (order.JumpIf c m) h = refl
-  alone-sound names place true (order.LoopWay []) h = template-sound names place (order.LoopWay []) h
-  alone-sound names place true (order.LoopWay (m ∷ [])) h = refl
-  alone-sound names place true (order.LoopWay (m ∷ k ∷ ms)) h = template-sound names place (order.LoopWay (m ∷ k ∷ ms)) h
-  alone-sound names place true o h = template-sound names place o h
+  -- with its jump short or near, and its check whole or a jump back
+  checked-sound : (short : Bool) (line place to : ℕ) → Sound (checked_by short line place to)
+  checked-sound true line place to = refl
+  checked-sound false line place to = refl
+
+  alone-sound : (names : Names) (place number : ℕ) (short : Bool) (o : Order) → IsTrue (names_well n fs o) → Sound (template_by short names place number o)
+  alone-sound names place number false o h = template-sound names place o h
+  alone-sound names place number true (order.Add line) h = refl
+  alone-sound names place number true (order.Sub line) h = refl
+  alone-sound names place number true (order.Neg line) h = refl
+  alone-sound names place number true (order.Mul (pos zero) line) h = refl
+  alone-sound names place number true (order.Mul s line) h = template-sound names place (order.Mul s line) h
+  alone-sound names place number true (order.Jump m) h = refl
+  alone-sound names place number true (order.JumpIf c m) h = refl
+  alone-sound names place number true (order.LoopWay []) h = template-sound names place (order.LoopWay []) h
+  alone-sound names place number true (order.LoopWay (m ∷ [])) h = refl
+  alone-sound names place number true (order.LoopWay (m ∷ k ∷ ms)) h = template-sound names place (order.LoopWay (m ∷ k ∷ ms)) h
+  alone-sound names place number true o h = template-sound names place o h
 
   -- ---- blocks
 
@@ -333,6 +349,30 @@ module _ (n : ℕ) (fs : List Family) where
       sound-both (top_from_lower b.bounds.lower) (below ++ formed b.family b.first b.form) (top-lower-sound b.bounds.lower)
       (sound-both below (formed b.family b.first b.form) refl (formed-sound b.bounds b.family b.first b.form h within))
 
+  -- the address that is made of two indexes, the second one at a place
+  abbrev ColumnNamed : Column → Type 0
+  ColumnNamed (column.Number w) = Unit {0}
+  ColumnNamed (column.Contents x) = Named x
+
+  column-sound : (c : Column) → ColumnNamed c → Sound (column_loaded c)
+  column-sound (column.Number w) h = refl
+  column-sound (column.Contents x) h = loaded-sound x h
+
+  compared-row-sound : (r : Row) → ColumnNamed r.column → IsTrue (is_place fs r.family r.first) → Sound (row_address r)
+  compared-row-sound r named h =
+      let first : List Coded = top_below r.rows.line (indexes_between (r.rows.upper -ℤ r.rows.lower)) in
+      let second : List Coded = column_below r.columns.line (indexes_between (r.columns.upper -ℤ r.columns.lower)) in
+      let base : List Coded = pieces.Sum ax (target.Word r.family (r.first + 0)) ∷ [] in
+      let sum : List Coded = pieces.Whole (add ax si) ∷ [] in
+      let same : r.first ≡ r.first + 0 = omega arith in
+      let place = only (is_place fs r.family (r.first + 0)) (subst (λ k. IsTrue (is_place fs r.family k)) same h) in
+      sound-both (top_from_lower r.rows.lower) (first ++ column_tested r) (top-lower-sound r.rows.lower)
+      (sound-both first (column_tested r) refl
+      (sound-both (column_loaded r.column) (from_lower r.columns.lower ++ (second ++ row_summed r)) (column-sound r.column named)
+      (sound-both (from_lower r.columns.lower) (second ++ row_summed r) (lower-sound r.columns.lower)
+      (sound-both second (row_summed r) refl
+      (sound-both (times_entry r.width ++ base) sum (sound-both (times_entry r.width) base (times-entry-sound (r.width == 1) r.width) place) refl)))))
+
   change-sound : (x : Place) (p : Coded) → IsTrue (is_piece p) → Named x → Sound (address_pieces x ++ operate_place 6 x ∷ p ∷ change_place 6 x ∷ [])
   change-sound (cell.Word f k) p h named = both (is_place fs f k) (is_piece p && (is_place fs f k && true)) named (both (is_piece p) (is_place fs f k && true) h (only (is_place fs f k) named))
   change-sound (cell.Frame k) p h named = both (is_piece p) true h refl
@@ -358,19 +398,19 @@ module _ (n : ℕ) (fs : List Family) where
   branch-sound true c place to = refl
   branch-sound false c place to = refl
 
-  operated-sound : (names : Names) (place : ℕ) (short : Bool) (s : Simple) (u : Use) → SimpleNamed s → Sound (operated names place short s u)
-  operated-sound names place short s (uses.Add line) h = sound-both (with_operand 0 s) (checked line) (operand-sound 0 s h) refl
-  operated-sound names place short s (uses.Subtract line) h = sound-both (with_operand 5 s) (checked line) (operand-sound 5 s h) refl
-  operated-sound names place short s (uses.Multiply line) h = sound-both (product_with s) (checked line) (product-sound s h) refl
-  operated-sound names place short s uses.Mask h = operand-sound 4 s h
-  operated-sound names place short s uses.Union h = operand-sound 1 s h
-  operated-sound names place short s uses.Differ h = operand-sound 6 s h
-  operated-sound names place short s (uses.Compare c m) h =
+  operated-sound : (names : Names) (place number : ℕ) (short : Bool) (s : Simple) (u : Use) → SimpleNamed s → Sound (operated names place number short s u)
+  operated-sound names place number short s (uses.Add line) h = sound-both (with_operand 0 s) _ (operand-sound 0 s h) (checked-sound short line (place + pieces_size (with_operand 0 s)) (call_place names number))
+  operated-sound names place number short s (uses.Subtract line) h = sound-both (with_operand 5 s) _ (operand-sound 5 s h) (checked-sound short line (place + pieces_size (with_operand 5 s)) (call_place names number))
+  operated-sound names place number short s (uses.Multiply line) h = sound-both (product_with s) _ (product-sound s h) (checked-sound short line (place + pieces_size (product_with s)) (call_place names number))
+  operated-sound names place number short s uses.Mask h = operand-sound 4 s h
+  operated-sound names place number short s uses.Union h = operand-sound 1 s h
+  operated-sound names place number short s uses.Differ h = operand-sound 6 s h
+  operated-sound names place number short s (uses.Compare c m) h =
       let behind : ℕ = place + pieces_size (with_operand 7 s) in
       sound-both (with_operand 7 s) (branch_by short c behind (mark_place names m)) (operand-sound 7 s h) (branch-sound short c behind (mark_place names m))
 
-  first-sound : (names : Names) (place : ℕ) (short : Bool) (o : Order) (os : List Order) → IsTrue (names_well n fs o) → Fit n fs os → Sound (block_pieces names place short (block_at 0 (o ∷ os)) o)
-  first-sound names place short o os h r = cases (block_at 0 (o ∷ os)) (shape (o ∷ os))
+  first-sound : (names : Names) (place number : ℕ) (short : Bool) (o : Order) (os : List Order) → IsTrue (names_well n fs o) → Fit n fs os → Sound (block_pieces names place number short (block_at 0 (o ∷ os)) o)
+  first-sound names place number short o os h r = cases (block_at 0 (o ∷ os)) (shape (o ∷ os))
     where
       -- what the orders behind a Save name
       behind : (x : Place) (rest : List Order) → o ∷ os ≡ order.Save ∷ (address_orders x ++ rest) → Named x
@@ -413,27 +453,43 @@ module _ (n : ℕ) (fs : List Family) where
       simple-behind (simple.Number w) rest near e = tt
       simple-behind (simple.Contents x) rest near e = behind x (order.Load ∷ rest) (e ∙ ap (λ l. order.Save ∷ l) (append_assoc (address_orders x) (order.Load ∷ []) rest))
 
-      cases : (b : Block) → IsBlock b (o ∷ os) → Sound (block_pieces names place short b o)
+      -- what the orders of an element of two dimensions name
+      column-named : (x : Row) (c : Column) (rest : List Order)
+          → o ∷ os ≡ (order.InBounds x.rows.lower x.rows.upper x.rows.line ∷ order.Save ∷ (column_orders c ++ orders_in_row x)) ++ row_order x ∷ rest → ColumnNamed c
+      column-named x (column.Number w) rest is = tt
+      column-named x (column.Contents (cell.Word f k)) rest is = named-there (o ∷ os) (next o os h r) 2 f k (ap (λ l. slice_get l 2) is)
+      column-named x (column.Contents (cell.Frame k)) rest is = tt
+
+      row-home : (x : Row) (c : Column) (rest : List Order)
+          → o ∷ os ≡ (order.InBounds x.rows.lower x.rows.upper x.rows.line ∷ order.Save ∷ (column_orders c ++ orders_in_row x)) ++ row_order x ∷ rest → IsTrue (is_place fs x.family x.first)
+      row-home x (column.Number w) rest is = named-there (o ∷ os) (next o os h r) 5 x.family x.first (ap (λ l. slice_get l 5) is)
+      row-home x (column.Contents (cell.Word f k)) rest is = named-there (o ∷ os) (next o os h r) 6 x.family x.first (ap (λ l. slice_get l 6) is)
+      row-home x (column.Contents (cell.Frame k)) rest is = named-there (o ∷ os) (next o os h r) 6 x.family x.first (ap (λ l. slice_get l 6) is)
+
+      cases : (b : Block) → IsBlock b (o ∷ os) → Sound (block_pieces names place number short b o)
       cases (block.Within k) sh = absurd sh
-      cases block.Single sh = alone-sound names place short o h
+      cases block.Single sh = alone-sound names place number short o h
       cases (block.Fetch x) sh = fetch-sound x (named-first x _ (subst Placed sh (placed-first o os h)))
       cases (block.Assign x) sh = assign-sound x (behind x _ sh)
       cases block.Write sh = refl
       cases (block.Divide w line) sh = refl
-      cases (block.Operate s u) sh = operated-sound names place short s u (simple-behind s _ sh.1 sh.0)
+      cases (block.Operate s u) sh = operated-sound names place number short s u (simple-behind s _ sh.1 sh.0)
       cases (block.FetchPart x t b is_signed) sh = fetch-part-sound x t b is_signed (named-first x _ (subst Placed sh.0 (placed-first o os h)))
       cases (block.AssignPart x t b) sh =
           sound-both (shifted_up b) _ (up-sound b) (change-sound x _ refl (behind x _ sh.0))
       cases (block.FetchElement e) sh = sound-both (element_address e) (pieces.Whole (load ax at_si) ∷ []) (element-sound e (element-named e (o ∷ os) _ sh.1 (next o os h r) (placed-first o os h) sh.0)) refl
       cases (block.AssignElement e) sh = sound-both (element_address e) (pieces.Whole (store at_si ax) ∷ []) (element-sound e (element-named e os _ sh.1 r (first-placed os r) (ap (drop 1) sh.0))) refl
-      cases (block.Count true line) sh = refl
-      cases (block.Count false line) sh = refl
+      cases (block.Count true line) sh = checked-sound short line (place + 1) (call_place names number)
+      cases (block.Count false line) sh = checked-sound short line (place + 1) (call_place names number)
       cases (block.Halve w power places line) sh = signed-sound places
+      cases (block.FetchBoth n m) sh = refl
+      cases (block.CompareWord n w c m) sh = branch-sound short c (place + pieces_size (word_compared n w)) (mark_place names m)
+      cases (block.Row r) sh = compared-row-sound r (column-named r r.column _ sh.0) (row-home r r.column _ sh.0)
       cases (block.Bounded b) sh = bounded-sound b (named-there (o ∷ os) (next o os h r) 2 b.family b.first (ap (λ l. slice_get l 2) sh.0)) sh.1
 
-  block-sound : (names : Names) (place : ℕ) (short : Bool) (left : ℕ) (o : Order) (os : List Order) → IsTrue (names_well n fs o) → Fit n fs os → Sound (block_pieces names place short (block_at left (o ∷ os)) o)
-  block-sound names place short (suc left) o os h r = refl
-  block-sound names place short zero o os h r = first-sound names place short o os h r
+  block-sound : (names : Names) (place number : ℕ) (short : Bool) (left : ℕ) (o : Order) (os : List Order) → IsTrue (names_well n fs o) → Fit n fs os → Sound (block_pieces names place number short (block_at left (o ∷ os)) o)
+  block-sound names place number short (suc left) o os h r = refl
+  block-sound names place number short zero o os h r = first-sound names place number short o os h r
 
   start-sound : (names : Names) (place number left line : ℕ) (os : List Order) → Sound (pieces_by names place number (block_at left (order.Start line ∷ os)) (order.Start line))
   start-sound names place number (suc left) line os = refl
@@ -444,32 +500,44 @@ module _ (n : ℕ) (fs : List Family) where
   templates-sound names place number left _ (next o os h r) =
       let b = block_at left (o ∷ os) in
       let short = is_short names.reach number b o in
-      sound-both (block_pieces names place short b o) (templates names (place + block_size short b o) (suc number) (orders_left b) os) (block-sound names place short left o os h r) (templates-sound names (place + block_size short b o) (suc number) (orders_left b) os r)
+      sound-both (block_pieces names place number short b o) (templates names (place + block_size short b o) (suc number) (orders_left b) os) (block-sound names place number short left o os h r) (templates-sound names (place + block_size short b o) (suc number) (orders_left b) os r)
   templates-sound names place number left _ (begun line os h r) =
       let o = order.Start line in
       let b = block_at left (o ∷ os) in
       let short = is_short names.reach number b o in
-      sound-both (block_pieces names place short b o) (templates names (place + block_size short b o) (suc number) (orders_left b) os) (start-sound names place number left line os) (templates-sound names (place + block_size short b o) (suc number) (orders_left b) os r)
+      sound-both (block_pieces names place number short b o) (templates names (place + block_size short b o) (suc number) (orders_left b) os) (start-sound names place number left line os) (templates-sound names (place + block_size short b o) (suc number) (orders_left b) os r)
 
   -- ---- the segment
 
-  landings-sound : (names : Names) (place : ℕ) (ms : List LabelMark) → Sound (landings names place ms)
-  landings-sound names place [] = refl
-  landings-sound names place (m ∷ ms) = sound-both (landing_pieces names place m) (landings names (place + landing_size) ms) refl (landings-sound names (place + landing_size) ms)
+  landing-sound : (has : Bool) (names : Names) (place : ℕ) (m : LabelMark) → Sound (landing_where has names place m)
+  landing-sound true names place m = refl
+  landing-sound false names place m = refl
 
-  switches-sound : (names : Names) (place : ℕ) (list : List (List Goal)) → IsTrue (list_all (list_all (is_goal n)) list) → Sound (switches names place list)
-  switches-sound names place [] h = refl
-  switches-sound names place (gs ∷ rest) h =
+  landings-sound : (names : Names) (named : ℕ → Bool) (place l : ℕ) (ms : List LabelMark) → Sound (landings names named place l ms)
+  landings-sound names named place l [] = refl
+  landings-sound names named place l (m ∷ ms) =
+      let has = has_landing named l m in
+      sound-both (landing_where has names place m) (landings names named (place + landing_bytes has) (suc l) ms) (landing-sound has names place m) (landings-sound names named (place + landing_bytes has) (suc l) ms)
+
+  switch-sound : (has : Bool) (names : Names) (place : ℕ) (gs : List Goal) → IsTrue (list_all (is_goal n) gs) → Sound (switch_where has names place gs)
+  switch-sound true names place gs h = own-only (place + 29) (goal_words names gs) (goals-sound names gs h)
+  switch-sound false names place gs h = refl
+
+  switches-sound : (names : Names) (named : ℕ → Bool) (place k : ℕ) (list : List (List Goal)) → IsTrue (list_all (list_all (is_goal n)) list) → Sound (switches names named place k list)
+  switches-sound names named place k [] h = refl
+  switches-sound names named place k (gs ∷ rest) h =
       let p = parts (list_all (is_goal n) gs) (list_all (list_all (is_goal n)) rest) h in
-      sound-both (switch_pieces names place gs) (switches names (place + switch_size gs) rest) (own-only (place + 29) (goal_words names gs) (goals-sound names gs p.0)) (switches-sound names (place + switch_size gs) rest p.1)
+      let next = place + switch_bytes (named k) gs in
+      sound-both (switch_where (named k) names place gs) (switches names named next (suc k) rest) (switch-sound (named k) names place gs p.0) (switches-sound names named next (suc k) rest p.1)
 
   pub pieces-sound : (o : Orders) → Fit n fs o.list → IsTrue (list_all (list_all (is_goal n)) o.switches) → Sound (pieces_of o)
   pieces-sound o h k =
       let N = names_of o in
       let T = templates N entry_size 0 0 o.list in
-      let L = landings N (landings_place o) o.labels in
-      let S = switches N (switches_place o) o.switches in
-      sound-both entry_pieces (T ++ (L ++ S)) refl (sound-both T (L ++ S) (templates-sound N entry_size 0 0 o.list h) (sound-both L S (landings-sound N (landings_place o) o.labels) (switches-sound N (switches_place o) o.switches k)))
+      let L = landings N (is_named_label o) (landings_place o) 0 o.labels in
+      let S = switches N (is_named_switch o) (switches_place o) 0 o.switches in
+      sound-both entry_pieces (T ++ (L ++ S)) refl
+      (sound-both T (L ++ S) (templates-sound N entry_size 0 0 o.list h) (sound-both L S (landings-sound N (is_named_label o) (landings_place o) 0 o.labels) (switches-sound N (is_named_switch o) (switches_place o) 0 o.switches k)))
 
   -- ---- relocations
 

@@ -28,7 +28,8 @@ use Rattle.cw_gen_expr.specs.UnitTables.{label_mark}
 use Rattle.cw_gen_expr.proofs.Layers.{total}
 use Rattle.cw_gen_unit.specs.Endings.{comes_to_end}
 use Rattle.cw_gen_unit.proofs.Layers.{statement_layer, statement-made, jump-holds}
-use Rattle.cw_gen_unit.specs.ReferenceStatements.{begin_orders, after_statement_call, from_procedure, own_order, goal_order, jump_piece, with_middle, keep_orders, number_orders, set_orders, bump_orders, turn_piece, while_values, step_values, element_piece, elements_piece, element_ways, ring_piece, loop_place, value_orders, limit_orders, past_orders, turn_orders, simple_orders, simple_beginning, first_turn, stepped_piece, begun_loop, loop_piece, jump_past, statement_piece}
+use Rattle.cw_gen_unit.proofs.SwitchMarks.{few-marks}
+use Rattle.cw_gen_unit.specs.ReferenceStatements.{begin_orders, after_statement_call, from_procedure, own_order, goal_order, owned_marks, switch_order, jump_piece, with_middle, keep_orders, number_orders, set_orders, bump_orders, turn_piece, while_values, step_values, element_piece, elements_piece, element_ways, ring_piece, loop_place, value_orders, limit_orders, past_orders, turn_orders, simple_orders, simple_beginning, first_turn, stepped_piece, begun_loop, loop_piece, jump_past, statement_piece}
 use Rattle.cw_gen_unit.specs.declared.simple.Simple.{Simple}
 use Rattle.cw_gen_unit.specs.declared.simple.Simple.TheVariants as simple
 use Rattle.cw_gen_unit.specs.declared.simple.SimpleStep.{SimpleStep}
@@ -269,10 +270,17 @@ module _ (s : Scope) (few : argument_words s.parameters < 256) (line : IsTrue (i
 -- ---- statements
 
 module _ (s : Scope) (few : argument_words s.parameters < 256) (who : Option ℕ) (answer : ℕ) where
+  -- a table has few marks
+  switched_good : (n line : ℕ) → IsTrue (is_line line) → (x : Option (List ℕ)) → owned_marks s.unit who n ≡ x → Good (plain (switch_order x n line ∷ []))
+  switched_good n line l None is = plainly (order.GoSwitch n line ∷ []) (first_by (order.GoSwitch n line) [] refl l refl)
+  switched_good n line l (Some ms) is =
+      let short : length ms < 32768 = omega (arith, (few-marks s.unit who n ms is).1) in
+      plainly (order.SwitchWay ms line ∷ []) (first_by (order.SwitchWay ms line) [] (lt_true (length ms) 32768 short) l refl)
+
   jump_good : (line : ℕ) → IsTrue (is_line line) → (d : Dest) → IsTrue (is_ranged_jump s.unit d) → Good (jump_piece (at_line line s) who d)
   jump_good line l (dest.Goal g) h = plainly (goal_order s.unit who g ∷ []) (first (goal_order s.unit who g) [] (goal-coded s.unit who g) refl)
   jump_good line l (dest.Special k) h = plainly (order.GoSpecial (control_place s.parameters k) ∷ []) (first_by (order.GoSpecial (control_place s.parameters k)) [] (control-coded s.parameters k few) refl refl)
-  jump_good line l (dest.Switch n e) h = both_good (expression_good (at_line line s) few l e 0 h) (plainly (order.GoSwitch n line ∷ []) (first_by (order.GoSwitch n line) [] refl l refl))
+  jump_good line l (dest.Switch n e) h = both_good (expression_good (at_line line s) few l e 0 h) (switched_good n line l (owned_marks s.unit who n) refl)
   jump_good line l (dest.CommonSwitch d e) h = both_good (expression_good (at_line line s) few l e 0 h) (plainly (order.GoSwitchCommon d line ∷ []) (first_by (order.GoSwitchCommon d line) [] refl l refl))
   jump_good line l (dest.SpecialSwitch k e) h =
       let o = order.GoSwitchSpecial (control_place s.parameters k) line in

@@ -3,10 +3,10 @@ use Rattle.cw_assemble.proofs.assembling.code_of.Goals as goal
 
 pub returns-clause-bytes : goal.returns-clause-bytes
 returns-clause-bytes c =
-    (whole_from c.put_entry.new.code c.put_orders.new.code c.put_landings.new.code c.put_switches.new.code c.new.result c.new-2.result c.args.orders.now c.args.names.now c.as_slice.result.now c.as_slice-2.result.now c.as_slice-3.result.now
-    c.new.ensures c.new-2.ensures c.as_slice.ensures c.as_slice-2.ensures c.as_slice-3.ensures c.requires.names c.in_ok-put_entry.ensures c.in_ok-put_orders.ensures c.in_ok-put_landings.ensures c.in_ok-put_switches.ensures).0
+    (whole_from c.put_entry.new.code c.put_orders.new.code c.put_landings.new.code c.put_switches.new.code c.new.result c.new-2.result c.args.orders.now c.args.names.now c.as_slice.result.now
+    c.new.ensures c.new-2.ensures c.as_slice.ensures c.requires.names c.in_ok-put_entry.ensures c.in_ok-put_orders.ensures c.in_ok-put_landings.ensures c.in_ok-put_switches.ensures).0
 
 pub returns-clause-relocs : goal.returns-clause-relocs
 returns-clause-relocs c =
-    (whole_from c.put_entry.new.code c.put_orders.new.code c.put_landings.new.code c.put_switches.new.code c.new.result c.new-2.result c.args.orders.now c.args.names.now c.as_slice.result.now c.as_slice-2.result.now c.as_slice-3.result.now
-    c.new.ensures c.new-2.ensures c.as_slice.ensures c.as_slice-2.ensures c.as_slice-3.ensures c.requires.names c.in_ok-put_entry.ensures c.in_ok-put_orders.ensures c.in_ok-put_landings.ensures c.in_ok-put_switches.ensures).1
+    (whole_from c.put_entry.new.code c.put_orders.new.code c.put_landings.new.code c.put_switches.new.code c.new.result c.new-2.result c.args.orders.now c.args.names.now c.as_slice.result.now
+    c.new.ensures c.new-2.ensures c.as_slice.ensures c.requires.names c.in_ok-put_entry.ensures c.in_ok-put_orders.ensures c.in_ok-put_landings.ensures c.in_ok-put_switches.ensures).1

@@ -1,12 +1,14 @@
-use Rattle.std.proofs.Common.{length, subst}
-use Rattle.cw_tmpl.specs.Assembling.{Adds}
-use Rattle.cw_tmpl.specs.Templates.{switch_pieces}
+use Rattle.std.proofs.Common.{◌<◌, length, ap, arith}
+use Rattle.cw_tmpl.specs.Named.{is_named_switch}
 use Rattle.cw_assemble.proofs.Composed.{next_switch, item_first}
 use Rattle.cw_assemble.proofs.assembling.put_switches.Goals as goal
 
-pub loop-goals-preserved : goal.loop-goals-preserved
-loop-goals-preserved c =
-    let old = c.loop-goals.code in
-    let added = subst (λ gs. Adds old (switch_pieces c.args.names.now (length old.bytes) gs) c.put_switch.new.code) c.as_slice.ensures c.in_ok-put_switch.ensures in
-    next_switch old c.put_switch.new.code c.args.names.now c.args.list.now c.loop-goals.goals-index c.goals-item.result _ _
-    (item_first c.args.list.now c.loop-goals.goals-index c.goals-item.result c.loop-goals-test.true c.goals-item.is) added c.loop-goals.invariant
+pub loop-number-preserved : goal.loop-number-preserved
+loop-number-preserved c =
+    let list = c.as_slice-switches.result.now in
+    let k = c.loop-number.number in
+    let gs = c.index-switches-number.result in
+    let many = ap length c.as_slice-switches.ensures in
+    let within : k < length list = omega (arith, c.loop-number-test.true) in
+    next_switch c.loop-number.code c.put_switch.new.code c.args.names.now (is_named_switch c.args.orders.now) list k gs _ _ _ (item_first list k gs within c.index-switches-number.is) (c.requires.each k (omega (arith, many, within)))
+    c.in_ok-put_switch.ensures c.loop-number.invariant

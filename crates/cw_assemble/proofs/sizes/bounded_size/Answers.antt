@@ -1,5 +1,5 @@
 use Rattle.std.proofs.Common.{rules, ◌≡◌, arith, ap, to_z, of_z, w16}
-use Rattle.cw_tmpl.specs.Templates.{top_lower_size}
+use Rattle.cw_tmpl.specs.Sizes.{top_lower_size}
 use Rattle.cw_tmpl.proofs.Sizes.{bounded_long}
 use Rattle.cw_assemble.proofs.sizes.bounded_size.Goals as goal
 

@@ -1,4 +1,5 @@
 use Rattle.cw_built.proofs.Programs.{codes, lines, tables, switches, marks, callable}
+use Rattle.cw_built.proofs.Sharing.{definitions-shared}
 use Rattle.cw_built.proofs.laws.programs.Goals as goal
 
 pub returns-clause-codes : goal.returns-clause-codes
@@ -18,3 +19,6 @@ returns-clause-marks c us m limits room g mark place h = marks us m limits room 
 
 pub returns-clause-callable : goal.returns-clause-callable
 returns-clause-callable c us m limits room passed h frames = callable us m limits room h passed frames
+
+pub returns-clause-shared : goal.returns-clause-shared
+returns-clause-shared c = definitions-shared

@@ -1,7 +1,6 @@
 use Rattle.cw_follow.proofs.WordLaws.{WordLaws}
 use Rattle.cw_follow.proofs.RoutineLaws.{RoutineLaws}
 use Rattle.cw_follow.proofs.Rows.{Rows}
-use Rattle.cw_follow.proofs.Fields.{load_word}
 use Rattle.cw_follow.proofs.Placement.{all_stand}
 use Rattle.cw_follow.proofs.Following.{following}
 use Rattle.cw_follow.proofs.laws.code_follows_orders.Goals as goal
@@ -44,6 +43,7 @@ returns c =
       bounds = c.bodies.ensures.bounds;
       switch = c.bodies.ensures.switch;
       enter = c.calls.ensures.enter;
+      beginning = c.calls.ensures.beginning;
       leaving = c.calls.ensures.leaving;
       read = c.calls.ensures.read;
       product = c.numbers-2.ensures.product;
@@ -71,10 +71,7 @@ returns c =
       load = c.memory.ensures.load;
       store = c.memory.ensures.store;
       load_slot = c.memory.ensures.load_slot;
-      load_argument = c.fields-2.ensures.load_argument;
-      store_field = c.fields-2.ensures.store_field;
       store_slot = c.fields-2.ensures.store_slot;
-      load_word = load_word c.fetching.ensures.finds;
       add = c.arithmetic.ensures.add;
       subtract = c.arithmetic.ensures.subtract;
       negate = c.arithmetic.ensures.negate;

@@ -5,7 +5,7 @@ use Rattle.cw_order.specs.declared.order.Order.TheVariants as order
 use Rattle.cw_gen_expr.specs.Pieces.{plain}
 use Rattle.cw_gen_expr.specs.Output.{made, added}
 use Rattle.cw_gen_expr.specs.ReferenceExpressions.{scope_with, at_line, control_place, expression_piece}
-use Rattle.cw_gen_unit.specs.ReferenceStatements.{goal_order}
+use Rattle.cw_gen_unit.specs.ReferenceStatements.{goal_order, owned_marks, switch_order}
 use Rattle.cw_gen_unit.proofs.Chains.{one, and_then, jumped}
 use Rattle.cw_gen_unit.proofs.statements.emit_go.Goals as goal
 
@@ -44,7 +44,9 @@ returns-in_ok-emit_expression-in-Switch c =
     on_ok_weaker c.push-in-Switch.result
     (λ h.
     jumped s c.args.who c.args.line (dest.Switch d.switch d.e) c.args.dest.now x x1 x3 d.is c.in_ok-emit_begin.ensures
-    (and_then (one (expression_piece (at_line c.args.line s) d.e 0) x1 x2 c.in_ok-emit_expression-in-Switch.ensures.orders) (one (plain (order.GoSwitch d.switch c.args.line ∷ [])) x2 x3 h)))
+    (and_then (one (expression_piece (at_line c.args.line s) d.e 0) x1 x2 c.in_ok-emit_expression-in-Switch.ensures.orders)
+    (one (plain (switch_order (owned_marks s.unit c.args.who d.switch) d.switch c.args.line ∷ [])) x2 x3
+    (h ∙ ap (λ o. added (plain (o ∷ [])) x2) (c.switch_order.ensures ∙ ap (λ ms. switch_order ms d.switch c.args.line) c.in_ok-marks-in-Switch.ensures)))))
     c.push-in-Switch.ensures
 
 pub returns-in_ok-emit_expression-in-CommonSwitch : goal.returns-in_ok-emit_expression-in-CommonSwitch

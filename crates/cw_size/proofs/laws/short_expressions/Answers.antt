@@ -1,6 +1,6 @@
 use Rattle.std.proofs.Common.{◌+◌, ◌*◌, ◌≤◌, arith}
 use Rattle.cw_tokens.specs.LeastTokens.{expression_tokens}
-use Rattle.cw_tmpl.specs.Templates.{listed_sizes}
+use Rattle.cw_tmpl.specs.Sizes.{listed_sizes}
 use Rattle.cw_gen_expr.specs.ReferenceExpressions.{expression_piece}
 use Rattle.cw_size.proofs.Expressions.{expression_short}
 use Rattle.cw_size.proofs.laws.short_expressions.Goals as goal

@@ -1,4 +1,6 @@
-use Rattle.cw_tmpl.proofs.Sizes.{size_everywhere, saves, listed, whole, segment_size, stands_at}
+use Rattle.cw_tmpl.proofs.Endings.{saves}
+use Rattle.cw_tmpl.proofs.Sizes.{size_everywhere, listed, whole, stands_at}
+use Rattle.cw_tmpl.proofs.Ways.{segment_size}
 use Rattle.cw_tmpl.proofs.laws.sizes.Goals as goal
 
 pub returns-clause-each : goal.returns-clause-each

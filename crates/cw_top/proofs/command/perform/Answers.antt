@@ -2,7 +2,7 @@ use Rattle.std.proofs.Common.{◌≡◌, ℕ, List, [], map, slice_index_or, Som
 use Rattle.cw_stop.specs.Stopping.{stop_in}
 use Rattle.cw_words.specs.Parts.{command_parts, copies_of, stop_of}
 use Rattle.cw_words.specs.declared.action.Action.TheVariants.{Big, Trace}
-use Rattle.cw_top.proofs.Asked.{asked, copies_told, stop_told, no_stop, asked_map, asked_depth, asked_list, asked_compile, asked_lib, asked_link, asked_migrate, asked_hex}
+use Rattle.cw_top.proofs.Asked.{asked, copies_told, stop_told, no_stop, asked_map, asked_depth, asked_code, asked_list, asked_compile, asked_lib, asked_link, asked_migrate, asked_hex}
 use Rattle.cw_top.proofs.command.perform.Goals as goal
 
 pub returns-in-Compile : goal.returns-in-Compile
@@ -22,6 +22,9 @@ returns-in-Map g c = asked_map (command_parts c.args.command.now) _ _ _ c.in-Map
 
 pub returns-in-Depth : goal.returns-in-Depth
 returns-in-Depth g c = asked_depth (command_parts c.args.command.now) _ _ _ c.in-Depth.is (rw c.as_slice-names.ensures.value at (c.depth_files.ensures (g.I.Source.left c.args.input.now) (g.I.Source.faults c.args.input.now)))
+
+pub returns-in-Code : goal.returns-in-Code
+returns-in-Code g c = asked_code (command_parts c.args.command.now) _ _ _ c.in-Code.is (rw c.as_slice-names.ensures.value at (c.code_files.ensures (g.I.Source.left c.args.input.now) (g.I.Source.faults c.args.input.now)))
 
 pub returns-in-Migrate : goal.returns-in-Migrate
 returns-in-Migrate g c = asked_migrate (command_parts c.args.command.now) _ _ _ c.in-Migrate.is (rw c.as_slice-names.ensures.value at (c.migrate.ensures (g.I.Source.left c.args.input.now) (g.I.Source.faults c.args.input.now) (g.O.Sink.held c.args.out.now) (g.O.Sink.faults c.args.out.now)))

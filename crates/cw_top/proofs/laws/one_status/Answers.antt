@@ -9,6 +9,7 @@ returns c =
       exec = c.one_status_of_exec.ensures;
       map = c.one_status_of_results.ensures.map;
       depth = c.one_status_of_results.ensures.depth;
+      code = c.one_status_of_results.ensures.code;
       list = c.one_status_of_results.ensures.list;
       compile = c.one_status_of_results.ensures.compile;
       lib = c.one_status_of_libraries.ensures.lib;

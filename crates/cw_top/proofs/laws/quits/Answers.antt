@@ -9,6 +9,7 @@ returns c =
       exec = c.idle-2.ensures;
       map = c.idle-3.ensures.map;
       depth = c.idle-3.ensures.depth;
+      code = c.idle-3.ensures.code;
       list = c.idle-3.ensures.list;
       compile = c.idle-3.ensures.compile;
       lib = c.idle_of_libraries.ensures.lib;

@@ -29,10 +29,10 @@ returns-in-Ok g c = λ steps left input_faults said said' faults faults' closed.
     let given : OneOfText = record { one_unit = c.one_outcome.ensures.one_unit; one_refusal = c.one_outcome.ensures.one_refusal; not_both = c.one_outcome.ensures.not_both; tokens = c.one_outcome.ensures.tokens } in
     let sizes : HasSizes = λ texts us have. c.linked_units.ensures.size us c.args.limits.now (c.compiled_units.ensures texts us have) in
     let us = c.in-Ok.segments.units in
-    written given sizes IsDepth _ (record { input = refl; faults = refl }) c.in-Ok.ensures.stay _ closed us (units_taken _ _ us c.in-Ok.ensures.taken.0) c.in-Ok.ensures.taken.2 c.depth_units.ensures
+    written given sizes (λ texts. IsDepth) _ (record { input = refl; faults = refl }) c.in-Ok.ensures.stay _ closed us (units_taken _ _ us c.in-Ok.ensures.taken.0) c.in-Ok.ensures.taken.2 c.depth_units.ensures
 
 pub returns-in-Err : goal.returns-in-Err
 returns-in-Err g c = λ steps left input_faults said said' faults faults' closed.
     let given : OneOfText = record { one_unit = c.one_outcome.ensures.one_unit; one_refusal = c.one_outcome.ensures.one_refusal; not_both = c.one_outcome.ensures.not_both; tokens = c.one_outcome.ensures.tokens } in
     let sizes : HasSizes = λ texts us have. c.linked_units.ensures.size us c.args.limits.now (c.compiled_units.ensures texts us have) in
-    stopped given sizes IsDepth _ (record { input = refl; faults = refl }) c.in-Err.ensures.stay _ closed (record { out = refl; faults = refl }) (units_stopped _ _ _ _ _ c.in-Err.ensures.taken)
+    stopped given sizes (λ texts. IsDepth) _ (record { input = refl; faults = refl }) c.in-Err.ensures.stay _ closed (record { out = refl; faults = refl }) (units_stopped _ _ _ _ _ c.in-Err.ensures.taken)

@@ -1,5 +1,5 @@
 use Rattle.cw_actions.proofs.Resulting.Texts.{OneOfText}
-use Rattle.cw_actions.proofs.Resulting.Statuses.{maps_once, depths_once, shows_once, compiles_once, migrates_once}
+use Rattle.cw_actions.proofs.Resulting.Statuses.{maps_once, depths_once, codes_once, shows_once, compiles_once, migrates_once}
 use Rattle.cw_actions.proofs.Resulting.Hexes.{once}
 use Rattle.cw_actions.proofs.results.laws.one_status_of_results.Goals as goal
 
@@ -9,6 +9,7 @@ returns c =
     record {
       map = maps_once given;
       depth = depths_once given;
+      code = codes_once given;
       list = shows_once given;
       compile = compiles_once given;
       migrate = migrates_once c.object_format.ensures.fault;

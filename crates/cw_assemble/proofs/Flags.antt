@@ -1,0 +1,48 @@
+-- Flags that are set one after another.
+use Rattle.std.proofs.Common.{ap, ap₂, ◌∙◌, arith}
+use Rattle.std.specs.Prelude.{◌≡◌, ℕ, ◌<◌, List, length, Bool, false, ◌||◌}
+use Rattle.cw_unit.specs.declared.unit.Goal.{Goal}
+use Rattle.cw_unit.specs.declared.unit.Def.{Def}
+use Rattle.cw_order.specs.declared.order.Order.{Order}
+use Rattle.cw_order.specs.declared.order.Orders.{Orders}
+use Rattle.cw_tmpl.specs.Named.{orders_name_switch, shared_has_switch, is_named_switch, orders_name_label, shared_has_label, switches_list_label, is_named_label}
+use Rattle.cw_assemble.specs.Flags.{flag, AreFlags}
+
+-- The flags of now, with what is still to be set, are those of the beginning with all that is to be set.
+pub record Setting (now old : List Bool) (left all : ℕ → Bool) : Type 0 where
+  pub long : length now ≡ length old
+  pub each : (k : ℕ) → k < length old → (flag now k || left k) ≡ (flag old k || all k)
+
+-- those of a test are set
+abbrev Sets : (old new : List Bool) → (test : ℕ → Bool) → Type 0
+Sets old new test = (k : ℕ) → k < length old → flag new k ≡ (flag old k || test k)
+
+set_more : (old new : List Bool) (n : ℕ) (before test : ℕ → Bool) → AreFlags old n before → length new ≡ length old → Sets old new test → AreFlags new n (λ k. before k || test k)
+set_more old new n before test flags long sets =
+    let many = flags.long in
+    record { long = long ∙ flags.long; each = λ k lt. sets k (let l : k < length old = omega arith in l) ∙ ap (λ b. b || test k) (flags.each k lt) }
+
+same_flags : (old new : List Bool) (m n : ℕ) (test other : ℕ → Bool) → new ≡ old → m ≡ n → ((k : ℕ) → test k ≡ other k) → AreFlags old m test → AreFlags new n other
+same_flags old new m n test other same count tests flags =
+    record { long = ap length same ∙ flags.long ∙ count; each = λ k lt. ap (λ fs. flag fs k) same ∙ flags.each k (let l : k < m = omega arith in l) ∙ tests k }
+
+pub switches_told : (o : Orders) (n : ℕ) (flags one two last : List Bool) (list : List Order) (shared : List Def) → AreFlags flags n (λ k. false) → n ≡ length o.switches → list ≡ o.list → shared ≡ o.shared
+    → length one ≡ length flags → Sets flags one (orders_name_switch list) → length two ≡ length one → Sets one two (shared_has_switch shared) → last ≡ two → AreFlags last (length o.switches) (is_named_switch o)
+unfolding is_named_switch
+switches_told o n flags one two last list shared none count el es long1 sets1 long2 sets2 same =
+    let first = set_more flags one n (λ k. false) (orders_name_switch list) none long1 sets1 in
+    let both = set_more one two n (orders_name_switch list) (shared_has_switch shared) first long2 sets2 in
+    same_flags two last n (length o.switches) (λ k. orders_name_switch list k || shared_has_switch shared k) (λ k. orders_name_switch o.list k || shared_has_switch o.shared k) same count
+    (λ k. ap₂ (λ l s. orders_name_switch l k || shared_has_switch s k) el es) both
+
+pub labels_told : (o : Orders) (n : ℕ) (flags one two three last : List Bool) (list : List Order) (shared : List Def) → AreFlags flags n (λ k. false) → n ≡ length o.labels → list ≡ o.list → shared ≡ o.shared
+    → length one ≡ length flags → Sets flags one (orders_name_label list) → length two ≡ length one → Sets one two (shared_has_label shared)
+    → length three ≡ length two → Sets two three (switches_list_label (is_named_switch o) 0 o.switches) → last ≡ three → AreFlags last (length o.labels) (is_named_label o)
+unfolding is_named_label
+labels_told o n flags one two three last list shared none count el es long1 sets1 long2 sets2 long3 sets3 same =
+    let first = set_more flags one n (λ k. false) (orders_name_label list) none long1 sets1 in
+    let both = set_more one two n (orders_name_label list) (shared_has_label shared) first long2 sets2 in
+    let all = set_more two three n (λ k. orders_name_label list k || shared_has_label shared k) (switches_list_label (is_named_switch o) 0 o.switches) both long3 sets3 in
+    same_flags three last n (length o.labels) (λ k. (orders_name_label list k || shared_has_label shared k) || switches_list_label (is_named_switch o) 0 o.switches k)
+    (λ k. (orders_name_label o.list k || shared_has_label o.shared k) || switches_list_label (is_named_switch o) 0 o.switches k) same count
+    (λ k. ap₂ (λ l s. (orders_name_label l k || shared_has_label s k) || switches_list_label (is_named_switch o) 0 o.switches k) el es) all

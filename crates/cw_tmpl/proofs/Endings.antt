@@ -1,0 +1,136 @@
+-- The two forms of a block, by how it ends.
+use Rattle.std.proofs.Common.{◌≡◌, ℕ, zero, ◌+◌, ◌≤◌, List, [], ◌∷◌, ◌++◌, length, Some, None, refl, sym, ap, ◌∙◌, arith, length-append}
+use Rattle.std.specs.Prelude.{pos, Bool, true, false, if◌then◌else◌}
+use Rattle.cw_i86.specs.declared.instr.Instr.TheVariants as i86
+use Rattle.cw_order.specs.declared.order.Order.{Order}
+use Rattle.cw_order.specs.declared.order.Order.TheVariants as order
+use Rattle.cw_order.specs.declared.order.Comparator.{Comparator}
+use Rattle.cw_tmpl.specs.declared.blocks.Use.TheVariants as uses
+use Rattle.cw_tmpl.specs.declared.blocks.Block.{Block}
+use Rattle.cw_tmpl.specs.declared.blocks.Block.TheVariants as block
+use Rattle.cw_tmpl.specs.declared.pieces.Coded.{Coded}
+use Rattle.cw_tmpl.specs.declared.pieces.Coded.TheVariants as coded
+use Rattle.cw_tmpl.specs.Mnemonics.{ax, bx, add, subtract, negate, multiply, move}
+use Rattle.cw_tmpl.specs.Pieces.{blanks}
+use Rattle.cw_tmpl.specs.Names.{Names, no_names, mark_place, call_place}
+use Rattle.cw_tmpl.specs.Templates.{checked, checked_by, branch_by, with_operand, product_with, counted, word_compared, pieces_size, jump_of, check_of, saved, block_pieces, block_size}
+use Rattle.cw_tmpl.proofs.Growing.{blanks-append}
+
+-- a comparison, and the jump behind it
+pub compared_long : (short : Bool) (before : List Coded) (c : Comparator) (place to : ℕ) → length (blanks (before ++ branch_by short c place to)) ≡ length (blanks before) + (if short then 2 else 5)
+compared_long true before c place to = ap length (blanks-append before (branch_by true c place to)) ∙ length-append (blanks before) (blanks (branch_by true c place to))
+compared_long false before c place to = ap length (blanks-append before (branch_by false c place to)) ∙ length-append (blanks before) (blanks (branch_by false c place to))
+
+-- an operation, and the check behind it
+pub checked_long : (short : Bool) (before : List Coded) (line place to : ℕ) → length (blanks (before ++ checked_by short line place to)) ≡ length (blanks before) + (if short then 2 else 7)
+checked_long true before line place to = ap length (blanks-append before (checked_by true line place to)) ∙ length-append (blanks before) (blanks (checked_by true line place to))
+checked_long false before line place to = ap length (blanks-append before (checked_by false line place to)) ∙ length-append (blanks before) (blanks (checked_by false line place to))
+
+pub checked_same : (short : Bool) (before : List Coded) (line place to other there : ℕ) → length (blanks (before ++ checked_by short line place to)) ≡ length (blanks (before ++ checked_by short line other there))
+checked_same short before line place to other there = checked_long short before line place to ∙ sym (checked_long short before line other there)
+
+-- a block without a jump that can be short, and without a check that can jump back, has one form
+pub one_form : (names : Names) (place number : ℕ) (short : Bool) (b : Block) (o : Order) → jump_of b o ≡ None → check_of b o ≡ None → block_pieces names place number short b o ≡ block_pieces names place number false b o
+one_form names place number false b o e c = refl
+one_form names place number true (block.Within n) o e c = refl
+one_form names place number true block.Single (order.Add line) e c = absurd (cc)
+one_form names place number true block.Single (order.Sub line) e c = absurd (cc)
+one_form names place number true block.Single (order.Neg line) e c = absurd (cc)
+one_form names place number true block.Single (order.Mul (pos zero) line) e c = absurd (cc)
+one_form names place number true block.Single (order.Mul s line) e c = refl
+one_form names place number true block.Single (order.Jump m) e c = absurd (cc)
+one_form names place number true block.Single (order.JumpIf x m) e c = absurd (cc)
+one_form names place number true block.Single (order.LoopWay []) e c = refl
+one_form names place number true block.Single (order.LoopWay (m ∷ [])) e c = absurd (cc)
+one_form names place number true block.Single (order.LoopWay (m ∷ n ∷ ms)) e c = refl
+one_form names place number true block.Single o e c = refl
+one_form names place number true (block.Operate s (uses.Add line)) o e c = absurd (cc)
+one_form names place number true (block.Operate s (uses.Subtract line)) o e c = absurd (cc)
+one_form names place number true (block.Operate s (uses.Multiply line)) o e c = absurd (cc)
+one_form names place number true (block.Operate s (uses.Compare x m)) o e c = absurd (cc)
+one_form names place number true (block.Count down line) o e c = absurd (cc)
+one_form names place number true (block.CompareWord n w x m) o e c = absurd (cc)
+one_form names place number true (block.Operate s u) o e c = refl
+one_form names place number true b o e c = refl
+
+-- ---- the bytes that the short form saves
+
+branch_saves : (before : List Coded) (c : Comparator) (place to : ℕ) → length (blanks (before ++ branch_by true c place to)) + 3 ≡ length (blanks (before ++ branch_by false c place to))
+branch_saves before c place to = omega (arith, compared_long true before c place to, compared_long false before c place to)
+
+check_saves : (before : List Coded) (line place to : ℕ) → length (blanks (before ++ checked_by true line place to)) + 5 ≡ length (blanks (before ++ checked_by false line place to))
+check_saves before line place to = omega (arith, checked_long true before line place to, checked_long false before line place to)
+
+pub saves : (b : Block) (o : Order) → block_size true b o + saved b o ≡ block_size false b o
+saves (block.Within n) o = refl
+saves block.Single (order.Add line) = refl
+saves block.Single (order.Sub line) = refl
+saves block.Single (order.Neg line) = refl
+saves block.Single (order.Mul (pos zero) line) = refl
+saves block.Single (order.Mul s line) = omega arith
+saves block.Single (order.Jump m) = refl
+saves block.Single (order.JumpIf c m) = refl
+saves block.Single (order.LoopWay []) = omega arith
+saves block.Single (order.LoopWay (m ∷ [])) = refl
+saves block.Single (order.LoopWay (m ∷ n ∷ ms)) = omega arith
+saves (block.Operate s (uses.Add line)) o = check_saves (with_operand 0 s) line _ _
+saves (block.Operate s (uses.Subtract line)) o = check_saves (with_operand 5 s) line _ _
+saves (block.Operate s (uses.Multiply line)) o = check_saves (product_with s) line _ _
+saves (block.Operate s (uses.Compare c m)) o = branch_saves (with_operand 7 s) c (0 + pieces_size (with_operand 7 s)) (mark_place no_names m)
+saves (block.Count down line) o = check_saves (coded.Whole (counted down) ∷ []) line (0 + 1) (call_place no_names 0)
+saves (block.CompareWord n w c m) o = branch_saves (word_compared n w) c (0 + pieces_size (word_compared n w)) (mark_place no_names m)
+saves b o = omega arith
+
+pub shorter_by : (short : Bool) (b : Block) (o : Order) → block_size short b o ≤ block_size false b o
+shorter_by true b o = omega (arith, saves b o)
+shorter_by false b o = omega arith
+
+-- a block with a check that can jump back has no jump, and saves 5 bytes by it
+pub no_jump : (b : Block) (o : Order) (line : ℕ) → check_of b o ≡ Some line → jump_of b o ≡ None
+no_jump block.Single (order.Add n) line e = refl
+no_jump block.Single (order.Sub n) line e = refl
+no_jump block.Single (order.Neg n) line e = refl
+no_jump block.Single (order.Mul s n) line e = refl
+no_jump block.Single o line e = absurd (cc)
+no_jump (block.Operate s (uses.Add n)) o line e = refl
+no_jump (block.Operate s (uses.Subtract n)) o line e = refl
+no_jump (block.Operate s (uses.Multiply n)) o line e = refl
+no_jump (block.Operate s u) o line e = absurd (cc)
+no_jump (block.Count down n) o line e = refl
+no_jump b o line e = absurd (cc)
+
+pub check_saved : (b : Block) (o : Order) (line : ℕ) → check_of b o ≡ Some line → saved b o ≡ 5
+check_saved block.Single (order.Add n) line e = refl
+check_saved block.Single (order.Sub n) line e = refl
+check_saved block.Single (order.Neg n) line e = refl
+check_saved block.Single (order.Mul (pos zero) n) line e = refl
+check_saved block.Single (order.Mul s n) line e = absurd (cc)
+check_saved block.Single o line e = absurd (cc)
+check_saved (block.Operate s (uses.Add n)) o line e = refl
+check_saved (block.Operate s (uses.Subtract n)) o line e = refl
+check_saved (block.Operate s (uses.Multiply n)) o line e = refl
+check_saved (block.Operate s u) o line e = absurd (cc)
+check_saved (block.Count down n) o line e = refl
+check_saved b o line e = absurd (cc)
+
+-- in its whole form it ends with the check
+pub record EndsChecked (pieces : List Coded) (line : ℕ) : Type 0 where
+  pub body : List Coded
+  pub is : pieces ≡ body ++ checked line
+
+ends_so : (body : List Coded) (n line : ℕ) → Some n ≡ Some line → EndsChecked (body ++ checked n) line
+ends_so body n line e = let same : n ≡ line = cc in record { body = body; is = ap (λ x. body ++ checked x) same }
+
+pub ends_checked : (names : Names) (place number : ℕ) (b : Block) (o : Order) (line : ℕ) → check_of b o ≡ Some line → EndsChecked (block_pieces names place number false b o) line
+ends_checked names place number block.Single (order.Add n) line e = ends_so (coded.Whole (i86.Pop bx) ∷ coded.Whole (add ax bx) ∷ []) n line e
+ends_checked names place number block.Single (order.Sub n) line e = ends_so (coded.Whole (move bx ax) ∷ coded.Whole (i86.Pop ax) ∷ coded.Whole (subtract ax bx) ∷ []) n line e
+ends_checked names place number block.Single (order.Neg n) line e = ends_so (coded.Whole (negate ax) ∷ []) n line e
+ends_checked names place number block.Single (order.Mul (pos zero) n) line e = ends_so (coded.Whole (i86.Pop bx) ∷ coded.Whole (multiply bx) ∷ []) n line e
+ends_checked names place number block.Single (order.Mul s n) line e = absurd (cc)
+ends_checked names place number block.Single o line e = absurd (cc)
+ends_checked names place number (block.Operate s (uses.Add n)) o line e = ends_so (with_operand 0 s) n line e
+ends_checked names place number (block.Operate s (uses.Subtract n)) o line e = ends_so (with_operand 5 s) n line e
+ends_checked names place number (block.Operate s (uses.Multiply n)) o line e = ends_so (product_with s) n line e
+ends_checked names place number (block.Operate s u) o line e = absurd (cc)
+ends_checked names place number (block.Count down n) o line e = ends_so (coded.Whole (counted down) ∷ []) n line e
+ends_checked names place number b o line e = absurd (cc)
