@@ -13,7 +13,8 @@ use cw_tmpl::laws::sizes;
 /// The image of units that can be compiled has at most 32 bytes of code for each token of their texts, and 4,096 for the library. So it is too long only where
 /// the texts are. And the storage map of their objects is that of the units.
 pub fn linked_units()
-    ensures size { (us : List SourceUnit) (limits : RunLimits) → All IsCompilable us → linked_size (contents_of_units us) ≤ 32 * sum (map (λ u. u.tokens) us) + 4096 }
+    ensures size { (us : List SourceUnit) (limits : RunLimits) → All IsCompilable us
+        → linked_size (contents_of_units us) ≤ 32 * sum (map (λ u. u.tokens) us) + 4096 }
     ensures code { (us : List SourceUnit) (limits : RunLimits) → length (image_of us limits).code ≡ linked_size (contents_of_units us) }
     ensures map { (us : List SourceUnit) → linked_map (contents_of_units us) ≡ storage_map us }
 {

@@ -87,4 +87,6 @@ has_few gs = nat_lt (length gs) 32768
 -- each order has code, marks and entries stand where they may, and no switch has too many goals
 abbrev pub have_code : Orders → Bool
 have_code o =
-    nat_eq o.entry 0 && (list_all has_code o.list && (list_all (is_mark o.list) o.marks && (list_all has_few o.switches && list_all (is_entry o.list o.marks) o.procedures)))
+    nat_eq o.entry 0 && (list_all has_code o.list &&
+    (list_all (is_mark o.list) o.marks && (list_all has_few o.switches && list_all (is_entry o.list o.marks)
+    o.procedures)))

@@ -27,7 +27,8 @@ ghost use Rattle.cw_built.specs.Coded.{have_code, is_landing};
 /// Units that are built and agree are well formed together at every storage map and limits. Each of them has a layout, and what it defines in
 /// common with others is there.
 pub fn built_units()
-    ensures well_formed { (us : List SourceUnit) (m : Map) (limits : Limits) → us ≢ [] → All (λ u. IsTrue (is_built u)) us → Agree (faces_of us) → WellFormed (program_at us m limits) }
+    ensures well_formed { (us : List SourceUnit) (m : Map) (limits : Limits) → us ≢ []
+        → All (λ u. IsTrue (is_built u)) us → Agree (faces_of us) → WellFormed (program_at us m limits) }
     ensures built { (us : List SourceUnit) → All (λ u. IsTrue (is_built u)) us → IsTrue (are_built us) }
     ensures layout { (u : SourceUnit) → IsTrue (is_built u) → HasLayout u }
     ensures defined { (u : SourceUnit) (k d : ℕ) (def : Def) → IsTrue (is_built u) → slice_get u.defined k ≡ Some (d, def) → Defines u d def }
@@ -41,12 +42,26 @@ pub fn coded()
 /// What code needs of the program of the orders of such units, where these have code: each order has code, lines are words, switches
 /// have few goals, a mark stands at the first order or at one where a jump may land, calls are in order, and what descriptors stand for is shared.
 pub fn programs()
-    ensures codes { (us : List SourceUnit) (m : Map) (limits : Limits) (room g place : ℕ) (o : Order) → All (λ u. IsTrue (have_code (unit_orders u))) us → order_at (orders_program us m limits room) g place ≡ Some o → HasCode o }
-    ensures lines { (us : List SourceUnit) (m : Map) (limits : Limits) (room : ℕ) → All (λ u. IsTrue (have_code (unit_orders u))) us → LinesFit (orders_program us m limits room) }
-    ensures tables { (us : List SourceUnit) (m : Map) (limits : Limits) (room g : ℕ) (t : Tables) (o : Orders) → slice_get (orders_program us m limits room).tables g ≡ Some t → slice_get (orders_program us m limits room).units g ≡ Some o → NamesAgree t o }
-    ensures switches { (us : List SourceUnit) (m : Map) (limits : Limits) (room g n : ℕ) (o : Orders) (gs : List Goal) → All (λ u. IsTrue (have_code (unit_orders u))) us → slice_get (orders_program us m limits room).units g ≡ Some o → slice_get o.switches n ≡ Some gs → length gs < 32768 }
-    ensures marks { (us : List SourceUnit) (m : Map) (limits : Limits) (room g mark place : ℕ) → All (λ u. IsTrue (have_code (unit_orders u))) us → place_of (orders_program us m limits room) g mark ≡ Some place → (place ≡ 0) ⊎ ((o : Order) × (order_at (orders_program us m limits room) g place ≡ Some o) × IsTrue (is_landing o)) }
-    ensures callable { (us : List SourceUnit) (m : Map) (limits : Limits) (room : ℕ) → All (λ u. IsTrue (is_built u)) us → All (λ u. IsTrue (have_code (unit_orders u))) us → limits.frames ≤ limits.area → Callable (orders_program us m limits room) }
+    ensures codes { (us : List SourceUnit) (m : Map) (limits : Limits) (room g place : ℕ) (o : Order)
+        → All (λ u. IsTrue (have_code (unit_orders u))) us
+        → order_at (orders_program us m limits room) g place ≡ Some o → HasCode o }
+    ensures lines { (us : List SourceUnit) (m : Map) (limits : Limits) (room : ℕ)
+        → All (λ u. IsTrue (have_code (unit_orders u))) us → LinesFit (orders_program us m limits room) }
+    ensures tables { (us : List SourceUnit) (m : Map) (limits : Limits) (room g : ℕ) (t : Tables) (o : Orders)
+        → slice_get (orders_program us m limits room).tables g ≡ Some t
+        → slice_get (orders_program us m limits room).units g ≡ Some o → NamesAgree t o }
+    ensures switches { (us : List SourceUnit) (m : Map) (limits : Limits) (room g n : ℕ) (o : Orders)
+        (gs : List Goal) → All (λ u. IsTrue (have_code (unit_orders u))) us
+        → slice_get (orders_program us m limits room).units g ≡ Some o → slice_get o.switches n ≡ Some gs
+        → length gs < 32768 }
+    ensures marks { (us : List SourceUnit) (m : Map) (limits : Limits) (room g mark place : ℕ)
+        → All (λ u. IsTrue (have_code (unit_orders u))) us
+        → place_of (orders_program us m limits room) g mark ≡ Some place
+        → (place ≡ 0) ⊎ ((o : Order) × (order_at (orders_program us m limits room) g place ≡ Some o)
+        × IsTrue (is_landing o)) }
+    ensures callable { (us : List SourceUnit) (m : Map) (limits : Limits) (room : ℕ)
+        → All (λ u. IsTrue (is_built u)) us → All (λ u. IsTrue (have_code (unit_orders u))) us
+        → limits.frames ≤ limits.area → Callable (orders_program us m limits room) }
     ensures shared { (us : List SourceUnit) (m : Map) (limits : Limits) (room : ℕ) → DefinitionsShared (orders_program us m limits room) }
 {}
 

@@ -17,7 +17,17 @@ struct Tape {
 }
 
 impl Ports for Tape {
-    ghost device = { λ t. record { left = Some []; at_end = Some true; is_used = true; is_cut = false; held = None; kind = t.kind; segment = t.segment; line_low = t.line_low; line_high = t.line_high } };
+    ghost device = { λ t. record {
+      left = Some [];
+      at_end = Some true;
+      is_used = true;
+      is_cut = false;
+      held = None;
+      kind = t.kind;
+      segment = t.segment;
+      line_low = t.line_low;
+      line_high = t.line_high;
+    } };
 
     ghost faults = { λ _. 0 };
 

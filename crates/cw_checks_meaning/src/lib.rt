@@ -6,7 +6,9 @@ ghost use Rattle.cw_unit.specs.Allocation.{storage_map};
 ghost use Rattle.cw_unit.specs.StackBound.{control_need};
 ghost use Rattle.cw_checks_meaning.specs.WellFormed.{well_formed, are_well_formed, not_well_formed};
 ghost use Rattle.cw_checks_meaning.specs.MoreExamples.{more_examples};
-ghost use Rattle.cw_checks_meaning.specs.Examples.{Example, result_of, wanted_of, before_of, running_of, expressions, addresses, control, procedures, frame_area_full, several_segments, counted, calls_300, filter_and_control, first_sum, packed_table_overlay, map_of_example, absolute_word, absolute_map, filter_map, packed_map};
+ghost use Rattle.cw_checks_meaning.specs.Examples.{Example, result_of, wanted_of, before_of, running_of, expressions, addresses, control, procedures};
+ghost use Rattle.cw_checks_meaning.specs.Examples.{frame_area_full, several_segments, counted, calls_300, filter_and_control, first_sum, packed_table_overlay};
+ghost use Rattle.cw_checks_meaning.specs.Examples.{map_of_example, absolute_word, absolute_map, filter_map, packed_map};
 
 /// Each example shows what is wanted of it.
 pub fn examples()

@@ -62,7 +62,18 @@ procedure name = record { name = name; answer = None; recursive = true; params =
 
 abbrev pub segment : (name : List ℕ) → List Desc → List Item → List Proc → SourceUnit
 segment name descs items procs =
-    record { name = name; tokens = 0; bounds = false; descs = descs; items = items; procs = procs; labels = []; switches = []; defined = []; body = roll-Stmt (statement.Seq []) }
+    record {
+      name = name;
+      tokens = 0;
+      bounds = false;
+      descs = descs;
+      items = items;
+      procs = procs;
+      labels = [];
+      switches = [];
+      defined = [];
+      body = roll-Stmt (statement.Seq []);
+    }
 
 -- ---- examples
 

@@ -82,9 +82,13 @@ pub record IsFirstLister (faces : List Face) (name : Name) (segment : ℕ) (told
 
 pub data IsFirstClash (faces : List Face) : Clash → Type 0 where
   twice : {name : Name} → first_twice [] faces ≡ Some name → IsFirstClash faces (SegmentTwice name)
-  differs : {j d i : ℕ} {name : Name} → first_twice [] faces ≡ None → IsFirst (IsDifference faces) j d i name → IsFirstClash faces (Differs name (i + 1) (j + 1))
-  defined_twice : {j d i : ℕ} {name : Name} → first_twice [] faces ≡ None → HasNone (IsDifference faces) → IsFirst (IsSecondDefinition faces) j d i name → IsFirstClash faces (DefinedTwice name (i + 1) (j + 1))
-  undefined : {j d i : ℕ} {name : Name} → first_twice [] faces ≡ None → HasNone (IsDifference faces) → HasNone (IsSecondDefinition faces) → IsFirst (IsUndefined faces) j d i name → IsFirstClash faces (Undefined name)
+  differs : {j d i : ℕ} {name : Name} → first_twice [] faces ≡ None → IsFirst (IsDifference faces) j d i name
+      → IsFirstClash faces (Differs name (i + 1) (j + 1))
+  defined_twice : {j d i : ℕ} {name : Name} → first_twice [] faces ≡ None → HasNone (IsDifference faces)
+      → IsFirst (IsSecondDefinition faces) j d i name → IsFirstClash faces (DefinedTwice name (i + 1) (j + 1))
+  undefined : {j d i : ℕ} {name : Name} → first_twice [] faces ≡ None → HasNone (IsDifference faces)
+      → HasNone (IsSecondDefinition faces) → IsFirst (IsUndefined faces) j d i name
+      → IsFirstClash faces (Undefined name)
 
 pub record Agree (faces : List Face) : Type 0 where
   pub once : first_twice [] faces ≡ None

@@ -38,7 +38,8 @@ pub record TellsDefiners (names : List Name) (faces : List Face) (table : List (
 -- the entries of the names that a segment lists are its own
 pub record TellsHere (names : List Name) (faces : List Face) (segment : ℕ) (table : List (Option (ℕ × ℕ))) : Type 0 where
   pub count : length table ≡ length names
-  pub at : (k p : ℕ) (f : Face) → k < length names → slice_get faces segment ≡ Some f → place_from 0 (name_at names k) f.descs ≡ Some p → slice_index_or table k None ≡ Some (segment, p)
+  pub at : (k p : ℕ) (f : Face) → k < length names → slice_get faces segment ≡ Some f
+      → place_from 0 (name_at names k) f.descs ≡ Some p → slice_index_or table k None ≡ Some (segment, p)
 
 -- the entries of the names that a segment defines are its own, and no others
 pub record TellsOwn (names : List Name) (faces : List Face) (segment : ℕ) (table : List (Option ℕ)) : Type 0 where
@@ -52,7 +53,8 @@ TellsWanted faces g d wanted = (f : Face) (x : Desc) → slice_get faces g ≡ S
 -- two descriptors tell the same, if they are there
 abbrev pub AreAlike : List Face → (segment descriptor other place : ℕ) → Type 0
 AreAlike faces g d i p =
-    (f e : Face) (x y : Desc) → slice_get faces g ≡ Some f → slice_get f.descs d ≡ Some x → slice_get faces i ≡ Some e → slice_get e.descs p ≡ Some y → as_listed f.descs x ≡ as_listed e.descs y
+    (f e : Face) (x y : Desc) → slice_get faces g ≡ Some f → slice_get f.descs d ≡ Some x
+    → slice_get faces i ≡ Some e → slice_get e.descs p ≡ Some y → as_listed f.descs x ≡ as_listed e.descs y
 
 -- the first clash of a kind is at this descriptor, with an earlier segment
 pub record IsFirstTold (P : Kind) (faces : List Face) (segment descriptor earlier : ℕ) : Type 0 where

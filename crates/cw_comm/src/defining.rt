@@ -26,7 +26,9 @@ fn second_definition_at(
     requires here { TellsOwn names.now segments.now segment here.now }
     requires segment { segment < length segments.now }
     requires descriptor { (f : SegmentFace) → slice_get segments.now segment ≡ Some f → descriptor < length f.descs }
-    ensures { NoneBefore (IsSecondDefinition segments.now) segment descriptor → MatchOption result (NoneBefore (IsSecondDefinition segments.now) segment (descriptor + 1)) (IsFirstTold (IsSecondDefinition segments.now) segments.now segment descriptor) }
+    ensures { NoneBefore (IsSecondDefinition segments.now) segment descriptor
+        → MatchOption result (NoneBefore (IsSecondDefinition segments.now) segment (descriptor + 1))
+        (IsFirstTold (IsSecondDefinition segments.now) segments.now segment descriptor) }
 {
     let name = number(numbers, segment, descriptor);
     if !is_definer(here, name, segment) {
@@ -56,7 +58,9 @@ fn segment_second_definition(
     requires definers { TellsDefiners names.now segments.now definers.now }
     requires here { TellsOwn names.now segments.now segment here.now }
     requires segment { segment < length segments.now }
-    ensures { NoneBefore (IsSecondDefinition segments.now) segment 0 → MatchOption result (NoneBefore (IsSecondDefinition segments.now) (segment + 1) 0) (λ clash. IsFirstIn (IsSecondDefinition segments.now) clash.0 clash.1 segment) }
+    ensures { NoneBefore (IsSecondDefinition segments.now) segment 0
+        → MatchOption result (NoneBefore (IsSecondDefinition segments.now) (segment + 1) 0)
+        (λ clash. IsFirstIn (IsSecondDefinition segments.now) clash.0 clash.1 segment) }
 {
     let descriptors = segments[segment].descs.as_slice();
     for d in 0..descriptors.len() {
@@ -79,7 +83,8 @@ pub(crate) fn second_definition(
     requires numbered { AreNumbered segments.now names.now numbers.now }
     requires few { length segments.now ≤ 200 }
     requires definers { TellsDefiners names.now segments.now definers.now }
-    ensures { IfOk result (λ found. MatchOption found (HasNone (IsSecondDefinition segments.now)) (λ clash. IsFirstIn (IsSecondDefinition segments.now) clash.0 clash.1 clash.2)) }
+    ensures { IfOk result (λ found. MatchOption found (HasNone (IsSecondDefinition segments.now))
+        (λ clash. IsFirstIn (IsSecondDefinition segments.now) clash.0 clash.1 clash.2)) }
 {
     let mut here = vec![in alloc; None; names.len()].map_err(|_| NoMemory)?;
     for segment in 0..segments.len() {

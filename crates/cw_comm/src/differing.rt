@@ -27,7 +27,9 @@ fn difference_at(
     requires here { TellsHere names.now segments.now segment here.now }
     requires segment { segment < length segments.now }
     requires descriptor { (f : SegmentFace) → slice_get segments.now segment ≡ Some f → descriptor < length f.descs }
-    ensures { NoneBefore (IsDifference segments.now) segment descriptor → MatchOption result (NoneBefore (IsDifference segments.now) segment (descriptor + 1)) (IsFirstTold (IsDifference segments.now) segments.now segment descriptor) }
+    ensures { NoneBefore (IsDifference segments.now) segment descriptor
+        → MatchOption result (NoneBefore (IsDifference segments.now) segment (descriptor + 1))
+        (IsFirstTold (IsDifference segments.now) segments.now segment descriptor) }
 {
     let name = number(numbers, segment, descriptor);
     match entry(here, name) {
@@ -65,7 +67,9 @@ fn segment_difference(
     requires firsts { TellsListings names.now segments.now firsts.now }
     requires here { TellsHere names.now segments.now segment here.now }
     requires segment { segment < length segments.now }
-    ensures { NoneBefore (IsDifference segments.now) segment 0 → MatchOption result (NoneBefore (IsDifference segments.now) (segment + 1) 0) (λ clash. IsFirstIn (IsDifference segments.now) clash.0 clash.1 segment) }
+    ensures { NoneBefore (IsDifference segments.now) segment 0
+        → MatchOption result (NoneBefore (IsDifference segments.now) (segment + 1) 0)
+        (λ clash. IsFirstIn (IsDifference segments.now) clash.0 clash.1 segment) }
 {
     let descriptors = segments[segment].descs.as_slice();
     for d in 0..descriptors.len() {
@@ -88,7 +92,8 @@ pub(crate) fn first_difference(
     requires numbered { AreNumbered segments.now names.now numbers.now }
     requires few { length segments.now ≤ 200 }
     requires firsts { TellsListings names.now segments.now firsts.now }
-    ensures { IfOk result (λ found. MatchOption found (HasNone (IsDifference segments.now)) (λ clash. IsFirstIn (IsDifference segments.now) clash.0 clash.1 clash.2)) }
+    ensures { IfOk result (λ found. MatchOption found (HasNone (IsDifference segments.now))
+        (λ clash. IsFirstIn (IsDifference segments.now) clash.0 clash.1 clash.2)) }
 {
     let mut here = vec![in alloc; None; names.len()].map_err(|_| NoMemory)?;
     for segment in 0..segments.len() {

@@ -24,7 +24,9 @@ pub(crate) fn enter_listings(
     requires segment { segment < length segments.now }
     requires count { length table.old.items ≡ length names.now }
     ensures count { length table.new.items ≡ length table.old.items }
-    ensures told { (k : ℕ) (f : SegmentFace) → k < length names.now → slice_get segments.now segment ≡ Some f → slice_index_or table.new.items k None ≡ listed_in segment (place_from 0 (name_at names.now k) f.descs) (slice_index_or table.old.items k None) }
+    ensures told { (k : ℕ) (f : SegmentFace) → k < length names.now → slice_get segments.now segment ≡ Some f
+        → slice_index_or table.new.items k None
+        ≡ listed_in segment (place_from 0 (name_at names.now k) f.descs) (slice_index_or table.old.items k None) }
 {
     let numbers = numbers[segment].as_slice();
     for d in (0..numbers.len()).rev() {
@@ -63,7 +65,10 @@ pub(crate) fn enter_definitions(
     requires segment { segment < length segments.now }
     requires count { length table.old.items ≡ length names.now }
     ensures count { length table.new.items ≡ length table.old.items }
-    ensures told { (k : ℕ) (f : SegmentFace) → k < length names.now → slice_get segments.now segment ≡ Some f → slice_index_or table.new.items k None ≡ defined_in segment (defines (name_at names.now k) f.descs f.defined) (slice_index_or table.old.items k None) }
+    ensures told { (k : ℕ) (f : SegmentFace) → k < length names.now → slice_get segments.now segment ≡ Some f
+        → slice_index_or table.new.items k None
+        ≡ defined_in segment (defines (name_at names.now k) f.descs f.defined)
+        (slice_index_or table.old.items k None) }
 {
     let numbers = numbers[segment].as_slice();
     let defined = segments[segment].defined.as_slice();

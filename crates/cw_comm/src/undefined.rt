@@ -52,7 +52,9 @@ fn is_undefined(
     requires same { HasNone (IsDifference segments.now) }
     requires segment { segment < length segments.now }
     requires descriptor { (f : SegmentFace) → slice_get segments.now segment ≡ Some f → descriptor < length f.descs }
-    ensures { NoneBefore (IsUndefined segments.now) segment descriptor → (IsFalse result → NoneBefore (IsUndefined segments.now) segment (descriptor + 1)) × (IsTrue result → IsFirstTold (IsUndefined segments.now) segments.now segment descriptor 0) }
+    ensures { NoneBefore (IsUndefined segments.now) segment descriptor
+        → (IsFalse result → NoneBefore (IsUndefined segments.now) segment (descriptor + 1))
+        × (IsTrue result → IsFirstTold (IsUndefined segments.now) segments.now segment descriptor 0) }
 {
     let name = number(numbers, segment, descriptor);
     match entry(firsts, name) {
@@ -83,7 +85,9 @@ fn segment_undefined(
     requires definers { TellsDefiners names.now segments.now definers.now }
     requires same { HasNone (IsDifference segments.now) }
     requires segment { segment < length segments.now }
-    ensures { NoneBefore (IsUndefined segments.now) segment 0 → MatchOption result (NoneBefore (IsUndefined segments.now) (segment + 1) 0) (λ name. IsFirstIn (IsUndefined segments.now) name 0 segment) }
+    ensures { NoneBefore (IsUndefined segments.now) segment 0
+        → MatchOption result (NoneBefore (IsUndefined segments.now) (segment + 1) 0)
+        (λ name. IsFirstIn (IsUndefined segments.now) name 0 segment) }
 {
     let descriptors = segments[segment].descs.as_slice();
     for d in 0..descriptors.len() {

@@ -20,9 +20,21 @@ pub record Surroundings : Type 0 where
   pub say : Option (List ℕ)
   pub say_faults : ℕ
 
-abbrev pub surroundings_of : (files : List ℕ → Told) → (store_faults absences : ℕ) → (left : Option (List ℕ)) → (input_faults : ℕ) → (out : Option (List ℕ)) → (out_faults : ℕ) → (say : Option (List ℕ)) → (say_faults : ℕ) → Surroundings
+abbrev pub surroundings_of : (files : List ℕ → Told) → (store_faults absences : ℕ) → (left : Option (List ℕ))
+    → (input_faults : ℕ) → (out : Option (List ℕ)) → (out_faults : ℕ) → (say : Option (List ℕ)) → (say_faults : ℕ)
+    → Surroundings
 surroundings_of files store_faults absences left input_faults out out_faults say say_faults =
-    record { files = files; store_faults = store_faults; absences = absences; left = left; input_faults = input_faults; out = out; out_faults = out_faults; say = say; say_faults = say_faults }
+    record {
+      files = files;
+      store_faults = store_faults;
+      absences = absences;
+      left = left;
+      input_faults = input_faults;
+      out = out;
+      out_faults = out_faults;
+      say = say;
+      say_faults = say_faults;
+    }
 
 -- ---- the call
 

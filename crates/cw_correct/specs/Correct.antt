@@ -68,9 +68,11 @@ abbrev pub TellsBytes : Option (List ℕ) → Type 0
 TellsBytes None = Unit {0}
 TellsBytes (Some bytes) = AreBytes bytes
 
--- Two statuses never come of one call, where the store tells its files, which are bytes, no count rose, and memory was found; and where one is TooLong(Input), the
+-- Two statuses never come of one call, where the store tells its files, which are bytes, no count rose, and memory
+-- was found; and where one is TooLong(Input), the
 -- source its input.
 abbrev pub HasOneStatus : Type 0
 HasOneStatus =
-    (c : Call) (input : List ℕ) (a b : Status) (found : List (Option (List ℕ))) → told_files c ≡ map Some found → All TellsBytes found → NoFault c.before c.after → a ≢ NoMemory → b ≢ NoMemory
+    (c : Call) (input : List ℕ) (a b : Status) (found : List (Option (List ℕ))) → told_files c ≡ map Some found
+    → All TellsBytes found → NoFault c.before c.after → a ≢ NoMemory → b ≢ NoMemory
     → ((a ≡ TooLong long.Input) ⊎ (b ≡ TooLong long.Input) → (told : List ℕ) × (c.before.left ≡ Some told)) → Correct c input a → Correct c input b → a ≡ b

@@ -14,7 +14,8 @@ use Rattle.cw_correct.specs.Saying.{SaysLast}
 use Rattle.cw_correct.specs.Running.{Begins, RunsImage, ReadsInput}
 use Rattle.cw_correct.specs.Meaning.{TellBytes}
 use Rattle.cw_say.specs.declared.status.Status.{Status}
-use Rattle.cw_say.specs.declared.status.Status.TheVariants.{Ended, Usage, Refused, Unlinked, Stopped, Unfinished, NoFile, Outside, NoMemory, BadFile, TooLong, BadCode, Divided, TooMany, NoPlace, NoItem}
+use Rattle.cw_say.specs.declared.status.Status.TheVariants.{Ended, Usage, Refused, Unlinked, Stopped, Unfinished, NoFile, Outside, NoMemory}
+use Rattle.cw_say.specs.declared.status.Status.TheVariants.{BadFile, TooLong, BadCode, Divided, TooMany, NoPlace, NoItem}
 use Rattle.cw_say.specs.declared.status.Which.TheVariants.{Store, Input, Out, Say}
 use Rattle.cw_say.specs.declared.status.Long.TheVariants.{File}
 use Rattle.cw_say.specs.declared.status.Long.TheVariants as long
@@ -38,9 +39,11 @@ ExecComes c texts runnables NoPlace = ⊥
 ExecComes c texts runnables (NoItem index) = ⊥
 ExecComes c texts runnables (Outside Say) = ⊥
 ExecComes c texts runnables NoMemory = Unit {0}
-ExecComes c texts runnables (BadFile number fault) = StopsRunnables (told_files c) texts (length runnables) (counts_before c) (counts_after c) (BadFile number fault)
+ExecComes c texts runnables (BadFile number fault) = StopsRunnables (told_files c) texts (length runnables)
+    (counts_before c) (counts_after c) (BadFile number fault)
 ExecComes c texts runnables (NoFile number) = StopsRunnables (told_files c) texts (length runnables) (counts_before c) (counts_after c) (NoFile number)
-ExecComes c texts runnables (TooLong (File number)) = StopsRunnables (told_files c) texts (length runnables) (counts_before c) (counts_after c) (TooLong (File number))
+ExecComes c texts runnables (TooLong (File number)) = StopsRunnables (told_files c) texts (length runnables)
+    (counts_before c) (counts_after c) (TooLong (File number))
 ExecComes c texts runnables (Outside Store) = StopsRunnables (told_files c) texts (length runnables) (counts_before c) (counts_after c) (Outside Store)
 ExecComes c texts runnables (Outside Input) = AllAccepted c runnables × Rose c.before.input_faults c.after.input_faults
 ExecComes c texts runnables (Outside Out) = AllAccepted c runnables × Rose c.before.out_faults c.after.out_faults
@@ -60,7 +63,9 @@ IsRunEnd status = ⊥
 -- an image or HEX text that the store tells runs, where nothing outside fails, the input is no longer than it may be, and memory is found
 abbrev pub CompletesExec : Call → (input : List ℕ) → Status → Type 0
 CompletesExec c input status =
-    (texts : List (List ℕ)) (runnables : List Runnable) → TellBytes (told_files c) texts → AllTaken object_limit HasRunnable (told_files c) runnables → NoFault c.before c.after → length input ≤ input_limit → IsRunEnd status
+    (texts : List (List ℕ)) (runnables : List Runnable) → TellBytes (told_files c) texts
+    → AllTaken object_limit HasRunnable (told_files c) runnables → NoFault c.before c.after
+    → length input ≤ input_limit → IsRunEnd status
 
 pub record ExecutesRight (c : Call) (input : List ℕ) (status : Status) : Type 0 where
   pub texts : List (List ℕ)

@@ -1,4 +1,5 @@
--- What the actions promise that run nothing: `map`, `depth`, `code` and `list` write their result to `out`; `compile`, `lib`, `link`, `migrate` and `hex` write it to a file.
+-- What the actions promise that run nothing: `map`, `depth`, `code` and `list` write their result to `out`;
+-- `compile`, `lib`, `link`, `migrate` and `hex` write it to a file.
 use Rattle.std.specs.Prelude.{◌≡◌, ◌≢◌, ◌⊎◌, ℕ, ◌<◌, ◌≤◌, List, [], ◌∷◌, ◌++◌, length, map, take, codes}
 use Rattle.cw_io.specs.Bytes.{after_told}
 use Rattle.cw_io.specs.Count.{Rose}
@@ -42,17 +43,20 @@ use Rattle.cw_say.specs.declared.status.Which.TheVariants.{Store, Out}
 -- What becomes of a result that is written to `out`: all of it, or a proper part where the count of `out` rose, or none.
 abbrev pub WritesOut : Call → (result : List ℕ) → Status → Type 0
 WritesOut c result Ended = (c.after.out ≡ after_told c.before.out result) × SameCounts c.before c.after
-WritesOut c result (Outside Out) = (count : ℕ) × (count < length result) × (c.after.out ≡ after_told c.before.out (take count result)) × Rose c.before.out_faults c.after.out_faults
+WritesOut c result (Outside Out) = (count : ℕ) × (count < length result)
+    × (c.after.out ≡ after_told c.before.out (take count result)) × Rose c.before.out_faults c.after.out_faults
 WritesOut c result status = IsUnwritten c.before c.after
 
--- What becomes of a result that is written to a file: the file is the result and all others stay; or the writing failed, and the file is as it was or as it was to
+-- What becomes of a result that is written to a file: the file is the result and all others stay; or the writing
+-- failed, and the file is as it was or as it was to
 -- be; or all stay.
 abbrev pub WritesFile : Call → (name result : List ℕ) → (all : Type 0) → Status → Type 0
 WritesFile c name result all Ended =
     (c.after.files name ≡ as_file (c.before.files name) result) × OthersStay c.before.files c.after.files name × SameCounts c.before c.after
 WritesFile c name result all (Outside Store) =
     AllStay c.before.files c.after.files
-    ⊎ (all × KeptOrWhole c.before.files c.after.files name result × OthersStay c.before.files c.after.files name × Rose c.before.store_faults c.after.store_faults)
+    ⊎ (all × KeptOrWhole c.before.files c.after.files name result × OthersStay c.before.files c.after.files name
+    × Rose c.before.store_faults c.after.store_faults)
 WritesFile c name result all status = AllStay c.before.files c.after.files
 
 -- the result was written, or memory was wanted
@@ -88,7 +92,8 @@ pub record TellsOfUnits (IsText : (texts : List (List ℕ)) → List SourceUnit 
   pub writes : WritesOut c text status
   pub untouched : IsUntouched c.before c.after
   pub stays : AllStay c.before.files c.after.files
-  pub completes : (told : List (List ℕ)) (us : List SourceUnit) → TellBytes (told_files c) told → AllTaken text_limit HasUnit (told_files c) us → Links us c.limits → NoFault c.before c.after → IsDone status
+  pub completes : (told : List (List ℕ)) (us : List SourceUnit) → TellBytes (told_files c) told
+      → AllTaken text_limit HasUnit (told_files c) us → Links us c.limits → NoFault c.before c.after → IsDone status
 
 -- the storage map that `go` writes to `say`
 abbrev pub IsMap : List SourceUnit → Limits → (text : List ℕ) → Type 0
@@ -103,7 +108,8 @@ MapsRight c status = TellsOfUnits (λ texts. IsMap) c status
 -- stopped by the depth of its calls, over any input and after any number of steps.
 abbrev pub BoundsRuns : List SourceUnit → Report → Type 0
 BoundsRuns us (Bound chain) =
-    (limits : Limits) (input : List ℕ) (m segment line : ℕ) → Links us limits → length chain ≤ limits.depth → (observed (program_of us limits) input m).end ≢ Stopped DepthReached segment line
+    (limits : Limits) (input : List ℕ) (m segment line : ℕ) → Links us limits → length chain ≤ limits.depth
+    → (observed (program_of us limits) input m).end ≢ Stopped DepthReached segment line
 BoundsRuns us (Unbounded segment number) = Unit {0}
 
 -- the depth report
@@ -145,7 +151,8 @@ pub record ShowsRight (c : Call) (status : Status) : Type 0 where
   pub writes : WritesOut c (first_shown shown) status
   pub untouched : IsUntouched c.before c.after
   pub stays : AllStay c.before.files c.after.files
-  pub completes : (told canonical : List (List ℕ)) → TellBytes (told_files c) told → AllTaken text_limit IsCanonicalOf (told_files c) canonical → NoFault c.before c.after → IsDone status
+  pub completes : (told canonical : List (List ℕ)) → TellBytes (told_files c) told
+      → AllTaken text_limit IsCanonicalOf (told_files c) canonical → NoFault c.before c.after → IsDone status
 
 -- ---- compile
 
@@ -169,7 +176,8 @@ pub record CompilesRight (c : Call) (status : Status) : Type 0 where
   pub writes : WritesFile c (first_name c ++ codes ".SEG") (first_object units) (AllAccepted c units) status
   pub untouched : IsUntouched c.before c.after
   pub unwritten : IsUnwritten c.before c.after
-  pub completes : (told : List (List ℕ)) (us : List SourceUnit) → TellBytes (told_files c) told → AllTaken text_limit HasUnit (told_files c) us → NoFault c.before c.after → IsDone status
+  pub completes : (told : List (List ℕ)) (us : List SourceUnit) → TellBytes (told_files c) told
+      → AllTaken text_limit HasUnit (told_files c) us → NoFault c.before c.after → IsDone status
 
 -- ---- objects in, one result out
 
@@ -191,7 +199,8 @@ pub record MakesLibrary (name : List ℕ) (c : Call) (status : Status) : Type 0 
   pub writes : WritesFile c name (library_bytes objects) (AllAccepted c objects) status
   pub untouched : IsUntouched c.before c.after
   pub unwritten : IsUnwritten c.before c.after
-  pub completes : (told objects : List (List ℕ)) → TellBytes (told_files c) told → AllTaken object_limit HasObject (told_files c) objects → NoFault c.before c.after → IsDone status
+  pub completes : (told objects : List (List ℕ)) → TellBytes (told_files c) told
+      → AllTaken object_limit HasObject (told_files c) objects → NoFault c.before c.after → IsDone status
 
 -- of the objects behind the first name, in the file of that name
 abbrev pub LibsRight : Call → Status → Type 0
@@ -234,7 +243,8 @@ pub record LinksRight (c : Call) (status : Status) : Type 0 where
   pub untouched : IsUntouched c.before c.after
   pub unwritten : IsUnwritten c.before c.after
   pub completes : (told : List (List ℕ)) (parts : List Part) (list : List (List ℕ)) →
-      TellBytes (told_files c) told → AllTaken object_limit HasPart (told_files c) parts → IsLinkList parts list → AreFew list → AreLinked (all_contents list) c.limits → NoFault c.before c.after → IsDone status
+      TellBytes (told_files c) told → AllTaken object_limit HasPart (told_files c) parts → IsLinkList parts list
+      → AreFew list → AreLinked (all_contents list) c.limits → NoFault c.before c.after → IsDone status
 
 -- ---- migrate
 
@@ -256,7 +266,8 @@ pub record MigratesRight (c : Call) (status : Status) : Type 0 where
   pub writes : WritesFile c (first_name c ++ codes ".SG2") result (AllAccepted c objects) status
   pub untouched : IsUntouched c.before c.after
   pub unwritten : IsUnwritten c.before c.after
-  pub completes : (told objects : List (List ℕ)) → TellBytes (told_files c) told → AllTaken object_limit HasObject (told_files c) objects → NoFault c.before c.after → IsDone status
+  pub completes : (told objects : List (List ℕ)) → TellBytes (told_files c) told
+      → AllTaken object_limit HasObject (told_files c) objects → NoFault c.before c.after → IsDone status
 
 -- ---- hex
 
@@ -280,4 +291,5 @@ pub record HexesRight (c : Call) (status : Status) : Type 0 where
   pub writes : WritesFile c (first_name c ++ codes ".HEX") (first_hex_text images) (AllAccepted c images) status
   pub untouched : IsUntouched c.before c.after
   pub unwritten : IsUnwritten c.before c.after
-  pub completes : (told : List (List ℕ)) (images : List Image) → TellBytes (told_files c) told → AllTaken object_limit HasImage (told_files c) images → NoFault c.before c.after → IsDone status
+  pub completes : (told : List (List ℕ)) (images : List Image) → TellBytes (told_files c) told
+      → AllTaken object_limit HasImage (told_files c) images → NoFault c.before c.after → IsDone status

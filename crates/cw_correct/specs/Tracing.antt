@@ -73,7 +73,8 @@ ReportsAt stop limits input us n shown text = AreBytes input → ReportsUnits us
 abbrev pub ReportsNext : Stop → Limits → (input : List ℕ) → List SourceUnit → (n : ℕ) → (text : List ℕ) → Type 0
 ReportsNext stop limits input us n text = AreBytes input → (shown : run.Observed) × ReportsUnits us limits stop input (n + 1) shown text
 
--- What is reported of a run behind whose n instructions this shows. Where it was cut short at an instruction that asks for input, that one was reported of too; where
+-- What is reported of a run behind whose n instructions this shows. Where it was cut short at an instruction that
+-- asks for input, that one was reported of too; where
 -- `out` failed, maybe. Nothing is reported where the image did not run.
 abbrev pub ReportsRun : Stop → Limits → (input : List ℕ) → List SourceUnit → (n : ℕ) → (shown : run.Observed) → (text : List ℕ) → Status → Type 0
 ReportsRun stop limits input us n shown text Ended = Watches us limits stop × ReportsAt stop limits input us n shown text
@@ -83,7 +84,8 @@ ReportsRun stop limits input us n shown text (BadCode offset) = Watches us limit
 ReportsRun stop limits input us n shown text (Divided offset) = Watches us limits stop × ReportsAt stop limits input us n shown text
 ReportsRun stop limits input us n shown text (Outside Input) = Watches us limits stop × ReportsNext stop limits input us n text
 ReportsRun stop limits input us n shown text (TooLong long.Input) = Watches us limits stop × ReportsNext stop limits input us n text
-ReportsRun stop limits input us n shown text (Outside Out) = Watches us limits stop × (ReportsAt stop limits input us n shown text ⊎ ReportsNext stop limits input us n text)
+ReportsRun stop limits input us n shown text (Outside Out) = Watches us limits stop
+    × (ReportsAt stop limits input us n shown text ⊎ ReportsNext stop limits input us n text)
 ReportsRun stop limits input us n shown text (Outside Say) = Watches us limits stop × (text ≡ [])
 ReportsRun stop limits input us n shown text status = text ≡ []
 
@@ -95,7 +97,8 @@ pub record Traces (stop : Stop) (c : Call) (input : List ℕ) (status : Status) 
   pub runs : RunsTexts (λ us. map_text us c.limits ++ reports) c input status
   pub right : ReportsRun stop c.limits input runs.units runs.instructions runs.shown reports status
 
--- A report could not be written whole. The run was cut short behind so many instructions, before the one of which it tells: `say` got the storage map, all that is
+-- A report could not be written whole. The run was cut short behind so many instructions, before the one of which it
+-- tells: `say` got the storage map, all that is
 -- reported in these, and a proper first part of what is reported with one more; `out` got all that they write, unless it failed too.
 pub record FailsToReport (stop : Stop) (c : Call) (input : List ℕ) : Type 0 where
   pub texts : List (List ℕ)

@@ -63,4 +63,5 @@ stands_before (Some declared) token = nat_lt declared token
 abbrev pub base_judged : Named → RawBase → Judgement
 base_judged named b =
     both (indexes_judged b)
-    (unless (stands_before (item_at named.uses (base_name b).at.token) (base_name b).at.token && can_be_laid_on (kind_of named (base_name b)) b) rule.BadOverlay (base_name b).at)
+    (unless (stands_before (item_at named.uses (base_name b).at.token) (base_name b).at.token && can_be_laid_on
+    (kind_of named (base_name b)) b) rule.BadOverlay (base_name b).at)

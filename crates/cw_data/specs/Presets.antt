@@ -1,6 +1,7 @@
 -- The places of a preset list: each has a value that fits a word, and there are no more of them than words.
 -- Official Definition of CORAL 66, "Presetting"; BS 5905, "Presetting".
-use Rattle.std.specs.Prelude.{ℕ, zero, suc, nat_le, nat_lt, ◌-◌, ◌*◌, ◌^◌, List, [], ◌∷◌, length, drop, Bool, true, false, ◌&&◌, not, Option, Some, None, is_some, if◌then◌else◌}
+use Rattle.std.specs.Prelude.{ℕ, zero, suc, nat_le, nat_lt, ◌-◌, ◌*◌, ◌^◌, List, [], ◌∷◌, length, drop, Bool}
+use Rattle.std.specs.Prelude.{true, false, ◌&&◌, not, Option, Some, None, is_some, if◌then◌else◌}
 use Rattle.cw_word.specs.Decimal.{decimal_floor}
 use Rattle.cw_tree.specs.declared.leaf.Position.{Position}
 use Rattle.cw_tree.specs.declared.leaf.RawName.{RawName}

@@ -4,7 +4,8 @@ ghost use Rattle.cw_table.specs.Rows.{item_at};
 ghost use Rattle.cw_facts.specs.Facts.{base_name};
 ghost use Rattle.cw_amount.specs.Amounts.{place_sint};
 ghost use Rattle.cw_scale.specs.Kinds.{kind_of};
-ghost use Rattle.cw_data.specs.Overlays.{indexes_judged, not_above, within_range, array_index, word_within, table_index, no_index, can_be_laid_on, stands_before, base_judged};
+ghost use Rattle.cw_data.specs.Overlays.{indexes_judged, not_above, within_range, array_index, word_within, table_index};
+ghost use Rattle.cw_data.specs.Overlays.{no_index, can_be_laid_on, stands_before, base_judged};
 
 use crate::presets::table_words;
 use cw_amount::amount::{place_amount, place_sint};

@@ -1,7 +1,9 @@
 //! Specifications, parameters, switches, and what stands at an address.
 ghost use Rattle.std.specs.Prelude.{◌≡◌, length};
 ghost use Rattle.cw_table.specs.Rows.{item_at};
-ghost use Rattle.cw_data.specs.Specifications.{plain_judged, plains_judged, procedure_judged, specified_judged, each_specified_judged, spec_judged, specs_judged, param_judged, params_judged, few_if, heading_judged, switch_judged, is_address, address_judged, bounds_judged, aitem_judged, aitems_judged};
+ghost use Rattle.cw_data.specs.Specifications.{plain_judged, plains_judged, procedure_judged, specified_judged, each_specified_judged};
+ghost use Rattle.cw_data.specs.Specifications.{spec_judged, specs_judged, param_judged, params_judged, few_if, heading_judged, switch_judged};
+ghost use Rattle.cw_data.specs.Specifications.{is_address, address_judged, bounds_judged, aitem_judged, aitems_judged};
 
 use crate::data::{good_bounds, judge_range, judge_second, judge_size, judge_table};
 use cw_amount::amount::place_amount;

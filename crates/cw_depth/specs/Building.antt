@@ -26,7 +26,8 @@ module _ (us : List SourceUnit) (heads : Specifications) (a : Node) where
   -- the numbers that a mention has to give
   pub record HasGiven (row : List ℕ) (m : Mention) : Type 0 where
     pub by_call : (g q : ℕ) (p : Proc) → called_by us (segment_of a) m ≡ Some (g, q) → procedure_at us g q ≡ Some p → StandsIn row (first_number us g + q)
-    pub by_parameter : (k : ℕ) (s : Spec) → m ≡ mention.Parameter k → parameter_of us a k ≡ Some s → (j : ℕ) × (IsHead heads j s × StandsIn row (length (nodes_of us) + j))
+    pub by_parameter : (k : ℕ) (s : Spec) → m ≡ mention.Parameter k → parameter_of us a k ≡ Some s
+        → (j : ℕ) × (IsHead heads j s × StandsIn row (length (nodes_of us) + j))
 
   -- the row for the first mentions of a node
   pub record IsRowFor (row : List ℕ) (count : ℕ) : Type 0 where
@@ -87,7 +88,9 @@ handed_in_all us nodes = joined_places (map (handed_in us) nodes)
 pub record Joins (us : List SourceUnit) (heads : Specifications) (segment number : ℕ) (j : ℕ) (row row' : List ℕ) : Type 0 where
   pub kept : (x : ℕ) → StandsIn row x → StandsIn row' x
   pub all : (p : Proc) → procedure_at us segment number ≡ Some p → IsHead heads j (spec_of p) → StandsIn row' (first_number us segment + number)
-  pub only : (x : ℕ) → StandsIn row' x → StandsIn row x ⊎ ((p : Proc) × ((procedure_at us segment number ≡ Some p) × (IsHead heads j (spec_of p) × (x ≡ first_number us segment + number))))
+  pub only : (x : ℕ) → StandsIn row' x → StandsIn row x
+      ⊎ ((p : Proc) × ((procedure_at us segment number ≡ Some p)
+      × (IsHead heads j (spec_of p) × (x ≡ first_number us segment + number))))
 
 -- what it adds to the rows of all groups
 abbrev pub JoinGroups : List SourceUnit → Specifications → (segment number : ℕ) → (groups groups' : List (List ℕ)) → Type 0
@@ -95,8 +98,13 @@ JoinGroups us heads g q groups groups' = (j : ℕ) → Joins us heads g q j (row
 
 -- the row of the group of a head, by the first of these places
 pub record IsGroup (us : List SourceUnit) (handed : List Place) (heads : Specifications) (j : ℕ) (row : List ℕ) (count : ℕ) : Type 0 where
-  pub all : (i g q : ℕ) (p : Proc) → i < count → slice_get handed i ≡ Some (g, q) → procedure_at us g q ≡ Some p → IsHead heads j (spec_of p) → StandsIn row (first_number us g + q)
-  pub only : (x : ℕ) → StandsIn row x → (i : ℕ) × ((g : ℕ) × ((q : ℕ) × ((p : Proc) × ((slice_get handed i ≡ Some (g, q)) × ((procedure_at us g q ≡ Some p) × (IsHead heads j (spec_of p) × (x ≡ first_number us g + q)))))))
+  pub all : (i g q : ℕ) (p : Proc) → i < count → slice_get handed i ≡ Some (g, q) → procedure_at us g q ≡ Some p
+      → IsHead heads j (spec_of p) → StandsIn row (first_number us g + q)
+  pub only : (x : ℕ) → StandsIn row x → (i : ℕ)
+      × ((g : ℕ) × ((q : ℕ)
+      × ((p : Proc) × ((slice_get handed i ≡ Some (g, q))
+      × ((procedure_at us g q ≡ Some p) × (IsHead heads j (spec_of p)
+      × (x ≡ first_number us g + q)))))))
 
 -- the rows of the groups of all heads, by the first of these places
 abbrev pub AreGroups : List SourceUnit → (handed : List Place) → Specifications → (groups : List (List ℕ)) → (count : ℕ) → Type 0

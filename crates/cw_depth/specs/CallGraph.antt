@@ -107,8 +107,11 @@ module _ (units : List SourceUnit) where
 
   -- a node leads to a procedure of the program
   pub data Leads (a : Node) : Node → Type 0 where
-    by_call : (m : Mention) (g q : ℕ) (p : Proc) → Mentioned a m → called_by (segment_of a) m ≡ Some (g, q) → procedure_at g q ≡ Some p → Leads a (Procedure g q)
-    by_parameter : (k : ℕ) (s : Spec) (g q : ℕ) (p : Proc) → Mentioned a (mention.Parameter k) → parameter_of a k ≡ Some s → IsHanded g q → procedure_at g q ≡ Some p → spec_of p ≡ s → Leads a (Procedure g q)
+    by_call : (m : Mention) (g q : ℕ) (p : Proc) → Mentioned a m → called_by (segment_of a) m ≡ Some (g, q)
+        → procedure_at g q ≡ Some p → Leads a (Procedure g q)
+    by_parameter : (k : ℕ) (s : Spec) (g q : ℕ) (p : Proc) → Mentioned a (mention.Parameter k)
+        → parameter_of a k ≡ Some s → IsHanded g q → procedure_at g q ≡ Some p → spec_of p ≡ s
+        → Leads a (Procedure g q)
 
   abbrev pub IsBody : Node → Type 0
   IsBody (Body g) = g < length units

@@ -1,4 +1,5 @@
-//! Benchmark of the compiler: how many bytes of code small programs take and how many instructions their runs, beside those of what bcc makes of the same in C, and how long a text takes by its size.
+//! Benchmark of the compiler: how many bytes of code small programs take and how many instructions their runs, beside
+//! those of what bcc makes of the same in C, and how long a text takes by its size.
 #![tactic(auto)]
 
 use cw_cpu86::Cpu;

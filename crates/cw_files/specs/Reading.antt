@@ -114,7 +114,8 @@ pub record AreSegmentsOf (us : List SourceUnit) (segments : Segments) : Type 0 w
   pub objects : segments.objects ≡ map object_of us
 
 abbrev pub AnswersUnits : List Told → (before after : Counts) → Result Segments Status → Type 0
-AnswersUnits files before after (Ok segments) = AllTaken text_limit HasUnit files segments.units × AreSegmentsOf segments.units segments × SameCounts before after
+AnswersUnits files before after (Ok segments) = AllTaken text_limit HasUnit files segments.units
+    × AreSegmentsOf segments.units segments × SameCounts before after
 AnswersUnits files before after (Err status) = Stopped text_limit HasUnit (λ texts taken. StopsTexts files texts taken before after status) files
 
 abbrev pub AnswersObjects : List Told → (before after : Counts) → Result (List (List ℕ)) Status → Type 0
@@ -124,7 +125,8 @@ AnswersObjects files before after (Err status) = Stopped object_limit HasObject 
 -- of the one file of `exec`
 abbrev pub AnswersRunnable : Told → (before after : Counts) → Result Runnable Status → Type 0
 AnswersRunnable file before after (Ok runnable) = AllTaken object_limit HasRunnable (file ∷ []) (runnable ∷ []) × SameCounts before after
-AnswersRunnable file before after (Err status) = Stopped object_limit HasRunnable (λ texts taken. StopsRunnables (file ∷ []) texts taken before after status) (file ∷ [])
+AnswersRunnable file before after (Err status) = Stopped object_limit HasRunnable
+    (λ texts taken. StopsRunnables (file ∷ []) texts taken before after status) (file ∷ [])
 
 -- of the one file of `hex`
 abbrev pub AnswersImage : Told → (before after : Counts) → Result Image Status → Type 0

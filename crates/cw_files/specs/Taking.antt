@@ -18,7 +18,8 @@ pub record Takes {X : Type 0} (limit : ℕ) (Accepts : List ℕ → X → Type 0
 
 -- behind those that were compiled to these units the next is compiled too, or the call stops there
 abbrev pub AnswersUnit : List Told → List SourceUnit → (before after : Counts) → Result Segment Status → Type 0
-AnswersUnit files us before after (Ok segment) = Takes text_limit HasUnit files (us ++ segment.unit ∷ []) × IsMadeOf segment.unit segment.made × SameCounts before after
+AnswersUnit files us before after (Ok segment) = Takes text_limit HasUnit files (us ++ segment.unit ∷ [])
+    × IsMadeOf segment.unit segment.made × SameCounts before after
 AnswersUnit files us before after (Err status) = Stopped text_limit HasUnit (λ texts taken. StopsTexts files texts taken before after status) files
 
 -- the same behind these objects

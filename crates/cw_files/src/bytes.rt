@@ -21,8 +21,11 @@ pub fn read_bytes<F: Store>(
     requires { limit ≤ 16777216 }
     ensures whole { IfOk result (λ bytes. Is (F.file files.old name.now) bytes.items) }
     ensures within { IfOk result (λ bytes. length bytes.items ≤ limit) }
-    ensures same { IfOk result (λ _. SameCounts (counts_at (F.faults files.old) (F.absences files.old)) (counts_at (F.faults files.new) (F.absences files.new))) }
-    ensures unread { (told : List Told) → slice_get told number ≡ Some (F.file files.old name.now) → IfErr result (λ status. IsUnread limit told number (counts_at (F.faults files.old) (F.absences files.old)) (counts_at (F.faults files.new) (F.absences files.new)) status) }
+    ensures same { IfOk result (λ _. SameCounts (counts_at (F.faults files.old) (F.absences files.old))
+        (counts_at (F.faults files.new) (F.absences files.new))) }
+    ensures unread { (told : List Told) → slice_get told number ≡ Some (F.file files.old name.now)
+        → IfErr result (λ status. IsUnread limit told number (counts_at (F.faults files.old) (F.absences files.old))
+        (counts_at (F.faults files.new) (F.absences files.new)) status) }
     ensures stay { AllStay (F.file files.old) (F.file files.new) }
 {
     match read_file(alloc, files, name, limit) {

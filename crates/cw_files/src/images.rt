@@ -27,7 +27,8 @@ pub struct Runnable {
 fn image_of(alloc: Global, bytes: &[u8]) -> Result<Image, Status>
     ensures image { IfOk result (λ image. HasImage bytes.now image) }
     ensures format { IfOk result IsImage }
-    ensures stops { (told : List Told) (texts : List (List ℕ)) (before after : Counts) → slice_get texts 0 ≡ Some bytes.now → IfErr result (λ status. StopsImages told texts 0 before after status) }
+    ensures stops { (told : List Told) (texts : List (List ℕ)) (before after : Counts)
+        → slice_get texts 0 ≡ Some bytes.now → IfErr result (λ status. StopsImages told texts 0 before after status) }
 {
     image_format();
     match read_image(alloc, bytes) {
@@ -42,7 +43,8 @@ fn image_of(alloc: Global, bytes: &[u8]) -> Result<Image, Status>
 
 /// Reads an image, the first file of the call; or the status where it is not read or is no image.
 pub fn read_image_file<F: Store>(alloc: Global, files: &mut F, name: &str) -> Result<Image, Status>
-    ensures taken { AnswersImage (F.file files.old name.now) (counts_at (F.faults files.old) (F.absences files.old)) (counts_at (F.faults files.new) (F.absences files.new)) result }
+    ensures taken { AnswersImage (F.file files.old name.now) (counts_at (F.faults files.old) (F.absences files.old))
+        (counts_at (F.faults files.new) (F.absences files.new)) result }
     ensures format { IfOk result IsImage }
     ensures stay { AllStay (F.file files.old) (F.file files.new) }
 {
@@ -78,7 +80,9 @@ fn begins_hex(bytes: &[u8]) -> bool
 fn hex_of(alloc: Global, bytes: &[u8]) -> Result<Runnable, Status>
     requires { begins_hex bytes.now ≡ true }
     ensures runnable { IfOk result (λ runnable. HasRunnable bytes.now runnable) }
-    ensures stops { (told : List Told) (texts : List (List ℕ)) (before after : Counts) → slice_get texts 0 ≡ Some bytes.now → IfErr result (λ status. StopsRunnables told texts 0 before after status) }
+    ensures stops { (told : List Told) (texts : List (List ℕ)) (before after : Counts)
+        → slice_get texts 0 ≡ Some bytes.now → IfErr result
+        (λ status. StopsRunnables told texts 0 before after status) }
 {
     match load_hex(alloc, bytes) {
         Ok(cpu) => Ok(Runnable {
@@ -96,7 +100,9 @@ fn hex_of(alloc: Global, bytes: &[u8]) -> Result<Runnable, Status>
 // What the bytes of the first file tell.
 fn runnable_of(alloc: Global, bytes: &[u8]) -> Result<Runnable, Status>
     ensures runnable { IfOk result (λ runnable. HasRunnable bytes.now runnable) }
-    ensures stops { (told : List Told) (texts : List (List ℕ)) (before after : Counts) → slice_get texts 0 ≡ Some bytes.now → IfErr result (λ status. StopsRunnables told texts 0 before after status) }
+    ensures stops { (told : List Told) (texts : List (List ℕ)) (before after : Counts)
+        → slice_get texts 0 ≡ Some bytes.now → IfErr result
+        (λ status. StopsRunnables told texts 0 before after status) }
 {
     if begins_hex(bytes) {
         return hex_of(alloc, bytes);
@@ -109,7 +115,9 @@ fn runnable_of(alloc: Global, bytes: &[u8]) -> Result<Runnable, Status>
 
 /// Reads what runs, the first file of the call, an image or a HEX text, and loads it; or the status where it is not read, or is neither.
 pub fn read_runnable<F: Store>(alloc: Global, files: &mut F, name: &str) -> Result<Runnable, Status>
-    ensures taken { AnswersRunnable (F.file files.old name.now) (counts_at (F.faults files.old) (F.absences files.old)) (counts_at (F.faults files.new) (F.absences files.new)) result }
+    ensures taken { AnswersRunnable (F.file files.old name.now)
+        (counts_at (F.faults files.old) (F.absences files.old))
+        (counts_at (F.faults files.new) (F.absences files.new)) result }
     ensures stay { AllStay (F.file files.old) (F.file files.new) }
 {
     match read_bytes(alloc, files, name, 0, OBJECT_LIMIT) {

@@ -17,7 +17,9 @@ use std::alloc::Global;
 // Whether the bytes of the file with this number are an object.
 fn check_object(bytes: &[u8], number: u16) -> Result<(), Status>
     ensures is_object { OnOk result (IsObject bytes.now) }
-    ensures stops { (told : Sequence Told) (texts : Sequence (Sequence ℕ)) (before after : Counts) → slice_get texts number ≡ Some bytes.now → IfErr result (λ status. StopsObjects told texts number before after status) }
+    ensures stops { (told : Sequence Told) (texts : Sequence (Sequence ℕ)) (before after : Counts)
+        → slice_get texts number ≡ Some bytes.now
+        → IfErr result (λ status. StopsObjects told texts number before after status) }
 {
     match View::open(bytes) {
         Ok(_) => Ok(()),
@@ -31,7 +33,9 @@ fn check_object(bytes: &[u8], number: u16) -> Result<(), Status>
 // The object that the bytes of the file with this number are.
 fn object_of(bytes: Vec<u8>, number: u16) -> Result<List<u8>, Status>
     ensures object { IfOk result (λ object. HasObject bytes.items object) }
-    ensures stops { (told : Sequence Told) (texts : Sequence (Sequence ℕ)) (before after : Counts) → slice_get texts number ≡ Some bytes.items → IfErr result (λ status. StopsObjects told texts number before after status) }
+    ensures stops { (told : Sequence Told) (texts : Sequence (Sequence ℕ)) (before after : Counts)
+        → slice_get texts number ≡ Some bytes.items
+        → IfErr result (λ status. StopsObjects told texts number before after status) }
 {
     match check_object(bytes.as_slice(), number) {
         Ok(()) => Ok(List::of(bytes)),
@@ -46,7 +50,11 @@ fn read_object<F: Store>(
     name: &str,
     number: u16,
 ) -> Result<List<u8>, Status>
-    ensures taken { (told : Sequence Told) (objects : Sequence (Sequence ℕ)) → Takes object_limit HasObject told objects → length objects ≡ number → slice_get told number ≡ Some (F.file files.old name.now) → AnswersObject told objects (counts_at (F.faults files.old) (F.absences files.old)) (counts_at (F.faults files.new) (F.absences files.new)) result }
+    ensures taken { (told : Sequence Told) (objects : Sequence (Sequence ℕ))
+        → Takes object_limit HasObject told objects → length objects ≡ number
+        → slice_get told number ≡ Some (F.file files.old name.now)
+        → AnswersObject told objects (counts_at (F.faults files.old) (F.absences files.old))
+        (counts_at (F.faults files.new) (F.absences files.new)) result }
     ensures stay { AllStay (F.file files.old) (F.file files.new) }
 {
     match read_bytes(alloc, files, name, number, OBJECT_LIMIT) {
@@ -62,7 +70,9 @@ pub fn read_objects<F: Store>(
     names: &[&str],
 ) -> Result<List<List<u8>>, Status>
     requires { length names.now ≤ 200 }
-    ensures taken { AnswersObjects (map (λ name. F.file files.old name.now) names.now) (counts_at (F.faults files.old) (F.absences files.old)) (counts_at (F.faults files.new) (F.absences files.new)) result }
+    ensures taken { AnswersObjects (map (λ name. F.file files.old name.now) names.now)
+        (counts_at (F.faults files.old) (F.absences files.old))
+        (counts_at (F.faults files.new) (F.absences files.new)) result }
     ensures stay { AllStay (F.file files.old) (F.file files.new) }
 {
     let mut objects = List::new(alloc);

@@ -47,8 +47,14 @@ size_at o k it =
 -- The list of places is one of the image. A Start has no code, and its statement begins where the code of the next order does; none begins
 -- at the code of another order, strictly inside the code of a block, outside the code of the orders of a segment, and in the library.
 pub record PlacesStand (p : OrderProgram) (image : List ℕ) (places : List StatementPlace) : Type 0 where
-  pub starts : (g k line : ℕ) (o : Orders) → slice_get p.units g ≡ Some o → slice_get o.list k ≡ Some (order.Start line) → lines_at places (base_of p g + slice_index (order_places o) (suc k)) ≡ (g + 1, line) ∷ []
-  pub others : (g k : ℕ) (o : Orders) (a : Order) → slice_get p.units g ≡ Some o → slice_get o.list k ≡ Some a → 0 < size_at o k a → NotBehindStart o.list k → lines_at places (base_of p g + slice_index (order_places o) k) ≡ []
-  pub inside : (g k n : ℕ) (o : Orders) (a : Order) → slice_get p.units g ≡ Some o → slice_get o.list k ≡ Some a → 0 < n → n < size_at o k a → lines_at places (base_of p g + slice_index (order_places o) k + n) ≡ []
-  pub around : (g at : ℕ) (o : Orders) → slice_get p.units g ≡ Some o → base_of p g ≤ at → at < base_of p (suc g) → (at < base_of p g + entry_size) ⊎ (base_of p g + landings_place o ≤ at) → lines_at places at ≡ []
+  pub starts : (g k line : ℕ) (o : Orders) → slice_get p.units g ≡ Some o
+      → slice_get o.list k ≡ Some (order.Start line)
+      → lines_at places (base_of p g + slice_index (order_places o) (suc k)) ≡ (g + 1, line) ∷ []
+  pub others : (g k : ℕ) (o : Orders) (a : Order) → slice_get p.units g ≡ Some o → slice_get o.list k ≡ Some a
+      → 0 < size_at o k a → NotBehindStart o.list k
+      → lines_at places (base_of p g + slice_index (order_places o) k) ≡ []
+  pub inside : (g k n : ℕ) (o : Orders) (a : Order) → slice_get p.units g ≡ Some o → slice_get o.list k ≡ Some a
+      → 0 < n → n < size_at o k a → lines_at places (base_of p g + slice_index (order_places o) k + n) ≡ []
+  pub around : (g at : ℕ) (o : Orders) → slice_get p.units g ≡ Some o → base_of p g ≤ at → at < base_of p (suc g)
+      → (at < base_of p g + entry_size) ⊎ (base_of p g + landings_place o ≤ at) → lines_at places at ≡ []
   pub library : (place : ℕ) → place < length library_bytes → lines_at places place ≡ []

@@ -1,5 +1,6 @@
 -- The image of a program of orders: its code with all words filled, as the orders mean them.
-use Rattle.std.specs.Prelude.{◌≡◌, ◌≢◌, ◌⊎◌, ℕ, ◌+◌, ◌-◌, ◌*◌, ◌%◌, ◌<◌, ◌≤◌, ℤ, pos, List, [], ◌∷◌, ◌++◌, length, take, All, Option, None, Some, slice_get, slice_index, slice_index_or}
+use Rattle.std.specs.Prelude.{◌≡◌, ◌≢◌, ◌⊎◌, ℕ, ◌+◌, ◌-◌, ◌*◌, ◌%◌, ◌<◌, ◌≤◌, ℤ, pos, List, [], ◌∷◌, ◌++◌, length}
+use Rattle.std.specs.Prelude.{take, All, Option, None, Some, slice_get, slice_index, slice_index_or}
 use Rattle.cw_word.specs.Word.{signed}
 use Rattle.cw_track.specs.Machine.{shown_after}
 use Rattle.cw_unit.specs.Stop.{Stuck}
@@ -121,7 +122,8 @@ StandsBehind order.WriteByte = Unit {0}
 StandsBehind _ = ⊥
 
 -- What templates need of the orders: their numbers are words, what those of references count on is in the data area, the unit's lists tell
--- what the tables tell, and an index of a switch is a word with a sign. Calls and control arguments are in order, and what descriptors stand for is shared. Each body begins with the
+-- what the tables tell, and an index of a switch is a word with a sign. Calls and control arguments are in order, and
+-- what descriptors stand for is shared. Each body begins with the
 -- first order of its list, a mark stands there or at an order that begins a block wherever it stands and no statement, an order with code that may
 -- begin a statement stands behind each Start, the frame area lies in the data area, and operands and records leave room on the control stack.
 pub record Codable (p : OrderProgram) : Type 0 where

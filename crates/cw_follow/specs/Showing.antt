@@ -1,7 +1,8 @@
 -- What the 8086 shows, in the words of the source semantics.
 use Rattle.std.specs.Prelude.{ℕ, ◌==◌, Option, None, Some, if◌then◌else◌}
 use Rattle.cw_i86.specs.MachineRun as run
-use Rattle.cw_unit.specs.Stop.{StopKind, Overflow, ZeroDivisor, SwitchRange, AddressRange, FramesFull, DepthReached, IndexRange, End, Running, Ended, Stopped, Stuck}
+use Rattle.cw_unit.specs.Stop.{StopKind, Overflow, ZeroDivisor, SwitchRange, AddressRange, FramesFull}
+use Rattle.cw_unit.specs.Stop.{DepthReached, IndexRange, End, Running, Ended, Stopped, Stuck}
 use Rattle.cw_unit.specs.Behaviour.{Observation}
 
 -- the stop of a number

@@ -31,7 +31,8 @@ use cw_word::laws::{fields, many_places, masks, products, quotients, readings, s
 /// that image, and every input of bytes.
 pub fn code_follows_orders()
     ensures { (p : OrderProgram) (image words : List ℕ) (memory : List ℤ) (input : List ℕ) (s : State) (places : List StatementPlace) →
-        IsImage p image → PlacesStand p image places → Codable p → BeginsWith p memory words → NeverStuck p memory input → IsStart image words s → All (λ b. b < 256) input →
+        IsImage p image → PlacesStand p image places → Codable p → BeginsWith p memory words
+        → NeverStuck p memory input → IsStart image words s → All (λ b. b < 256) input →
         TracksAfter (λ o. is_running o.0) startup_cost (watched (order_machine p) (starts p)) (order_start p memory input, []) (watched (processor_machine shown_as) (passes places p.limits.area)) (processor_start s input, []) }
 {
     readings();

@@ -22,7 +22,8 @@ module _ (u : SourceUnit) (has_words : (item words : ℕ) → Bool) (who : Optio
   abbrev pub is_element : (scale : ℕ) → Felem → Bool
   is_element f (element.One e) = is_expression u has_words e f 63
   is_element f (element.While e c) = is_expression u has_words e f most_levels && is_condition u has_words c
-  is_element f (element.Step a b d) = is_expression u has_words a f most_levels && (is_expression u has_words b f most_levels && is_expression u has_words d f most_levels)
+  is_element f (element.Step a b d) = is_expression u has_words a f most_levels &&
+      (is_expression u has_words b f most_levels && is_expression u has_words d f most_levels)
 
   abbrev pub are_elements : (scale : ℕ) → List Felem → Bool
   are_elements f [] = true
@@ -41,7 +42,9 @@ module _ (u : SourceUnit) (has_words : (item words : ℕ) → Bool) (who : Optio
   statement_step (statement.Answer line e) n = is_some who && is_expression u has_words e answer most_levels
   statement_step (statement.If line c a b) n = is_condition u has_words c && (within n a && b n)
   statement_step (statement.For line item r es s) n =
-      (built_reference u has_words r).good && (has_words item 4 && (nat_lt (length es) 32767 && (are_elements (out-Ref r).f es && (within n (λ m. true) && s most_levels))))
+      (built_reference u has_words r).good &&
+      (has_words item 4 && (nat_lt (length es) 32767 &&
+      (are_elements (out-Ref r).f es && (within n (λ m. true) && s most_levels))))
   statement_step (statement.Seq ss) n = all_within n ss
   statement_step (statement.Mark ls s) n = s n
 

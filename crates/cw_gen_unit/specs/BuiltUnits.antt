@@ -19,9 +19,11 @@ HasWords = (segment : ℕ) → SourceUnit → (who : Option ℕ) → (item words
 -- each body has orders that do what it means, and no procedure has more than 32 parameters
 pub record Built (us : List SourceUnit) (h : HasWords) : Type 0 where
   pub bodies : (g : ℕ) (u : SourceUnit) → slice_get us g ≡ Some u → IsTrue (is_statement u (h g u None) None 0 u.body 64)
-  pub procedures : (g p : ℕ) (u : SourceUnit) (q : Proc) → slice_get us g ≡ Some u → slice_get u.procs p ≡ Some q → IsTrue (is_statement u (h g u (Some p)) (Some p) (answer_of u (Some p)) q.body 64)
+  pub procedures : (g p : ℕ) (u : SourceUnit) (q : Proc) → slice_get us g ≡ Some u → slice_get u.procs p ≡ Some q
+      → IsTrue (is_statement u (h g u (Some p)) (Some p) (answer_of u (Some p)) q.body 64)
   pub few : (g p : ℕ) (u : SourceUnit) (q : Proc) → slice_get us g ≡ Some u → slice_get u.procs p ≡ Some q → length q.params ≤ 32
-  pub items : (g p : ℕ) (u : SourceUnit) (q : Proc) → slice_get us g ≡ Some u → slice_get u.procs p ≡ Some q → ItemsFit (λ i. IsTrue (h g u (Some p) i 1)) q.params
+  pub items : (g p : ℕ) (u : SourceUnit) (q : Proc) → slice_get us g ≡ Some u → slice_get u.procs p ≡ Some q
+      → ItemsFit (λ i. IsTrue (h g u (Some p) i 1)) q.params
 
 -- where the items that a body may name are those that it has
 abbrev pub AllBuilt : List SourceUnit → Type 0
@@ -49,7 +51,8 @@ items_fit f (q ∷ qs) = item_fits f q && items_fit f qs
 
 abbrev pub is_procedure : SourceUnit → (procedure : ℕ) → Proc → Bool
 is_procedure u p q =
-    is_statement u (has_words u (Some p)) (Some p) (answer_of u (Some p)) q.body 64 && (nat_le (length q.params) 32 && items_fit (λ i. has_words u (Some p) i 1) q.params)
+    is_statement u (has_words u (Some p)) (Some p) (answer_of u (Some p)) q.body 64 &&
+    (nat_le (length q.params) 32 && items_fit (λ i. has_words u (Some p) i 1) q.params)
 
 abbrev pub are_procedures : SourceUnit → (procedure : ℕ) → List Proc → Bool
 are_procedures u p [] = true

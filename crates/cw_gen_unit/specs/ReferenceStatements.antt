@@ -1,5 +1,6 @@
 -- The orders of statements.
-use Rattle.std.specs.Prelude.{ℕ, zero, suc, ◌+◌, nat_lt, ℤ, pos, negsuc, List, [], ◌∷◌, ◌++◌, map, length, Bool, true, false, not, ◌&&◌, Option, Some, None, slice_get, if◌then◌else◌}
+use Rattle.std.specs.Prelude.{ℕ, zero, suc, ◌+◌, nat_lt, ℤ, pos, negsuc, List, [], ◌∷◌, ◌++◌, map, length, Bool}
+use Rattle.std.specs.Prelude.{true, false, not, ◌&&◌, Option, Some, None, slice_get, if◌then◌else◌}
 use Rattle.cw_order.specs.declared.order.Order.{Order}
 use Rattle.cw_order.specs.declared.order.Order.TheVariants as order
 use Rattle.cw_order.specs.declared.order.Place.{Place}
@@ -26,7 +27,8 @@ use Rattle.cw_unit.specs.declared.unit.Stmt.{Stmt, Stmt-F}
 use Rattle.cw_unit.specs.declared.unit.Stmt.TheFolds.{para-Stmt}
 use Rattle.cw_unit.specs.declared.unit.Stmt.TheOpen as statement
 use Rattle.cw_gen_expr.specs.Pieces.{Piece, plain, followed_by, sequence, with_end, with_labels}
-use Rattle.cw_gen_expr.specs.ReferenceExpressions.{Scope, at_line, saved, argument_words, control_place, item_order, store_orders, ConditionPiece, number_order, call_order, condition_piece, argument_piece, reference_of, expression_piece}
+use Rattle.cw_gen_expr.specs.ReferenceExpressions.{Scope, at_line, saved, argument_words, control_place, item_order, store_orders, ConditionPiece}
+use Rattle.cw_gen_expr.specs.ReferenceExpressions.{number_order, call_order, condition_piece, argument_piece, reference_of, expression_piece}
 use Rattle.cw_gen_expr.specs.UnitTables.{label_mark}
 use Rattle.cw_gen_unit.specs.declared.simple.Simple.{Simple}
 use Rattle.cw_gen_unit.specs.declared.simple.Simple.TheVariants as simple
@@ -187,7 +189,8 @@ module _ (s : Scope) where
   abbrev pub while_values : (item scale body next number : ℕ) → Expr → Cond → Piece
   while_values item f body next i e c =
       followed_by (plain (number_orders s.layout item i))
-      (followed_by (expression_piece s e f) (followed_by (plain (set_orders s.layout s.line item)) (followed_by (condition_piece s c false next) (plain (order.Jump body ∷ [])))))
+      (followed_by (expression_piece s e f) (followed_by (plain (set_orders s.layout s.line item))
+      (followed_by (condition_piece s c false next) (plain (order.Jump body ∷ [])))))
 
   -- the three values of a STEP element: the first is set, the step and the limit are kept
   abbrev pub step_values : (item scale turn number : ℕ) → (first step limit : Expr) → Piece
@@ -207,7 +210,8 @@ module _ (s : Scope) where
   element_piece item f set body i (element.While e c) =
       with_middle (λ own. plain []) (λ own. with_end (λ next. while_values item f body next i e c))
   element_piece item f set body i (element.Step a b d) =
-      with_middle (λ turn. followed_by (with_end (λ bump. step_values item f turn i a b d)) (plain (bump_orders s.layout s.line item))) (λ turn. turn_piece s.layout s.line item body)
+      with_middle (λ turn. followed_by (with_end (λ bump. step_values item f turn i a b d))
+      (plain (bump_orders s.layout s.line item))) (λ turn. turn_piece s.layout s.line item body)
 
   abbrev pub elements_piece : (item scale set body number : ℕ) → List Felem → Piece
   elements_piece item f set body i [] = plain []
@@ -224,8 +228,13 @@ module _ (s : Scope) where
   ring_piece item f es body place next =
       with_end
       (λ end.
-      with_middle (λ start. followed_by (with_end (λ set. followed_by (elements_piece item f set start 1 es) (plain (order.Jump end ∷ [])))) (plain (set_orders s.layout s.line item)))
-      (λ start. followed_by body (plain (item_order s.layout item 3 ∷ order.Load ∷ order.LoopWay (element_ways item f (next + 1 + 1) (next + 1) 1 es place (next + 1 + 1 + 1)) ∷ []))))
+      with_middle (λ start. followed_by (with_end
+      (λ set. followed_by (elements_piece item f set start 1 es) (plain (order.Jump end ∷ []))))
+      (plain (set_orders s.layout s.line item)))
+      (λ start. followed_by body
+      (plain (item_order s.layout item 3 ∷ order.Load
+      ∷ order.LoopWay (element_ways item f (next + 1 + 1) (next + 1) 1 es place (next + 1 + 1 + 1))
+      ∷ []))))
       place
       next
 
@@ -292,7 +301,9 @@ module _ (s : Scope) (who : Option ℕ) (answer : ℕ) where
       let h = at_line line s in
       followed_by (plain (begin_orders line)) (followed_by (sequence (map (argument_piece h) args)) (plain (call_order h t ∷ after_statement_call t)))
   statement_step (statement.Answer line e) =
-      followed_by (plain (begin_orders line)) (followed_by (expression_piece (at_line line s) e answer) (plain (order.Return (argument_words s.parameters) true ∷ [])))
+      followed_by (plain (begin_orders line))
+      (followed_by (expression_piece (at_line line s) e answer)
+      (plain (order.Return (argument_words s.parameters) true ∷ [])))
   statement_step (statement.If line c a b) = followed_by (plain (begin_orders line)) (branches_piece (condition_piece (at_line line s) c) a b)
   statement_step (statement.For line item r es body) = loop_piece (at_line line s) item r es body.1
   statement_step (statement.Seq ss) = sequence (map (λ t. t.1) ss)

@@ -1,5 +1,6 @@
 -- The orders of a unit, and the program of the orders of units.
-use Rattle.std.specs.Prelude.{ℕ, suc, ◌+◌, nat_eq, List, [], ◌∷◌, ◌++◌, map, length, is_some, Bool, true, false, Option, Some, None, slice_get, slice_index, if◌then◌else◌}
+use Rattle.std.specs.Prelude.{ℕ, suc, ◌+◌, nat_eq, List, [], ◌∷◌, ◌++◌, map, length, is_some, Bool, true}
+use Rattle.std.specs.Prelude.{false, Option, Some, None, slice_get, slice_index, if◌then◌else◌}
 use Rattle.cw_track.specs.Machine.{Machine}
 use Rattle.cw_track.specs.Tracking.{step_budget}
 use Rattle.cw_unit.specs.declared.unit.Unit.{Unit as SourceUnit}
@@ -60,7 +61,8 @@ module _ (u : SourceUnit) where
 
   abbrev pub procedure_piece : (procedure : ℕ) → Proc → Piece
   procedure_piece p q =
-      followed_by (plain (entry_orders p q)) (followed_by (statement_piece (scope_of u (Some p)) (Some p) (answer_of u (Some p)) q.body) (plain (leave_orders q)))
+      followed_by (plain (entry_orders p q)) (followed_by
+      (statement_piece (scope_of u (Some p)) (Some p) (answer_of u (Some p)) q.body) (plain (leave_orders q)))
 
   abbrev pub procedures_piece : (procedure : ℕ) → List Proc → Piece
   procedures_piece p [] = plain []

@@ -96,5 +96,6 @@ simple_parts _ _ _ _ = None
 
 abbrev pub simple_step : Layout → (loop : ℕ) → Ref → List Felem → Option SimpleStep
 simple_step y i r (element.Step a b d ∷ []) =
-    simple_parts (variable_if y i (direct_item (out-Spot (out-Ref r).at))) (simple_of a (out-Ref r).f) (known_number b (out-Ref r).f) (simple_of d (out-Ref r).f)
+    simple_parts (variable_if y i (direct_item (out-Spot (out-Ref r).at))) (simple_of a (out-Ref r).f)
+    (known_number b (out-Ref r).f) (simple_of d (out-Ref r).f)
 simple_step y i r _ = None

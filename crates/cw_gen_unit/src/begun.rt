@@ -3,7 +3,8 @@ ghost use Rattle.std.specs.Prelude.{◌≡◌, OnOk, IfOk};
 ghost use Rattle.cw_gen_expr.specs.Pieces.{plain};
 ghost use Rattle.cw_gen_expr.specs.Output.{made, added};
 ghost use Rattle.cw_gen_expr.specs.ReferenceExpressions.{Scope, scope_with, at_line};
-ghost use Rattle.cw_gen_unit.specs.ReferenceStatements.{loop_place as spec_loop_place, simple_beginning, first_turn, stepped_piece, ring_piece, elements_loop, only_step as spec_only_step, begun_loop};
+ghost use Rattle.cw_gen_unit.specs.ReferenceStatements.{loop_place as spec_loop_place, simple_beginning, first_turn, stepped_piece};
+ghost use Rattle.cw_gen_unit.specs.ReferenceStatements.{ring_piece, elements_loop, only_step as spec_only_step, begun_loop};
 ghost use Rattle.cw_gen_unit.specs.SimpleLoops.{simple_step as spec_simple_step};
 ghost use Rattle.cw_gen_unit.specs.BegunLoops.{way_orders, ended, IsBegun};
 
@@ -58,7 +59,9 @@ fn begin_simple(
     looped: u32,
     x: SimpleStep,
 ) -> Result<Begun, NoMemory>
-    ensures { IfOk result (λ begun. (s : Scope) → s.layout ≡ layout.now → s.line ≡ line → IsBegun layout.now line looped (stepped_piece s looped (λ end. plain (simple_beginning layout.now looped x end))) (made out.old) (made out.new) begun) }
+    ensures { IfOk result (λ begun. (s : Scope) → s.layout ≡ layout.now → s.line ≡ line
+        → IsBegun layout.now line looped (stepped_piece s looped
+        (λ end. plain (simple_beginning layout.now looped x end))) (made out.old) (made out.new) begun) }
 {
     let end = out.new_mark()?;
     let start = out.new_mark()?;
@@ -83,7 +86,10 @@ fn begin_step(
     step: &Expr,
     limit: &Expr,
 ) -> Result<Begun, NoMemory>
-    ensures { IfOk result (λ begun. IsBegun layout.now line looped (stepped_piece (at_line line (scope_with unit.now layout.now parameters.now)) looped (first_turn (at_line line (scope_with unit.now layout.now parameters.now)) looped scale first.now step.now limit.now)) (made out.old) (made out.new) begun) }
+    ensures { IfOk result (λ begun. IsBegun layout.now line looped
+        (stepped_piece (at_line line (scope_with unit.now layout.now parameters.now)) looped
+        (first_turn (at_line line (scope_with unit.now layout.now parameters.now)) looped scale first.now
+        step.now limit.now)) (made out.old) (made out.new) begun) }
 {
     let end = out.new_mark()?;
     let start = out.new_mark()?;
@@ -109,7 +115,9 @@ fn begin_ring(
     scale: u8,
     elements: &[Felem],
 ) -> Result<Begun, NoMemory>
-    ensures { IfOk result (λ begun. IsBegun layout.now line looped (ring_piece (at_line line (scope_with unit.now layout.now parameters.now)) looped scale elements.now) (made out.old) (made out.new) begun) }
+    ensures { IfOk result (λ begun. IsBegun layout.now line looped
+        (ring_piece (at_line line (scope_with unit.now layout.now parameters.now)) looped scale elements.now)
+        (made out.old) (made out.new) begun) }
 {
     let end = out.new_mark()?;
     let start = out.new_mark()?;
@@ -139,7 +147,9 @@ fn begin_elements(
     scale: u8,
     elements: &[Felem],
 ) -> Result<Begun, NoMemory>
-    ensures { IfOk result (λ begun. IsBegun layout.now line looped (elements_loop (at_line line (scope_with unit.now layout.now parameters.now)) (spec_only_step elements.now) looped scale elements.now) (made out.old) (made out.new) begun) }
+    ensures { IfOk result (λ begun. IsBegun layout.now line looped
+        (elements_loop (at_line line (scope_with unit.now layout.now parameters.now))
+        (spec_only_step elements.now) looped scale elements.now) (made out.old) (made out.new) begun) }
 {
     match only_step(elements) {
         Some((first, step, limit)) => begin_step(
@@ -163,7 +173,10 @@ pub fn begin_loop(
     reference: &Ref,
     elements: &[Felem],
 ) -> Result<Begun, NoMemory>
-    ensures { IfOk result (λ begun. IsBegun layout.now line looped (begun_loop (at_line line (scope_with unit.now layout.now parameters.now)) (spec_simple_step layout.now looped reference.now elements.now) looped reference.now elements.now) (made out.old) (made out.new) begun) }
+    ensures { IfOk result (λ begun. IsBegun layout.now line looped
+        (begun_loop (at_line line (scope_with unit.now layout.now parameters.now))
+        (spec_simple_step layout.now looped reference.now elements.now) looped reference.now elements.now)
+        (made out.old) (made out.new) begun) }
 {
     match simple_step(layout, looped, reference, elements)? {
         Some(x) => begin_simple(out, layout, line, looped, x),

@@ -31,7 +31,9 @@ fn emit_while(
     e: &Expr,
     condition: &Cond,
 ) -> Result<(), NoMemory>
-    ensures { OnOk result (made out.new ≡ added (while_values (at_line line (scope_with unit.now layout.now parameters.now)) looped scale body next number e.now condition.now) (made out.old)) }
+    ensures { OnOk result (made out.new ≡ added
+        (while_values (at_line line (scope_with unit.now layout.now parameters.now)) looped scale body next
+        number e.now condition.now) (made out.old)) }
 {
     emit_number(out, layout, looped, number)?;
     emit_expression(out, unit, layout, parameters, line, e, scale)?;
@@ -54,7 +56,10 @@ fn emit_values(
     step: &Expr,
     limit: &Expr,
 ) -> Result<(), NoMemory>
-    ensures { OnOk result ((os : Sequence OrderModel) → added (plain os) (made out.new) ≡ added (values_with (at_line line (scope_with unit.now layout.now parameters.now)) looped scale number first.now step.now limit.now os) (made out.old)) }
+    ensures { OnOk result ((os : Sequence OrderModel)
+        → added (plain os) (made out.new) ≡ added
+        (values_with (at_line line (scope_with unit.now layout.now parameters.now)) looped scale number first.now
+        step.now limit.now os) (made out.old)) }
 {
     emit_number(out, layout, looped, number)?;
     emit_expression(out, unit, layout, parameters, line, first, scale)?;
@@ -80,7 +85,9 @@ fn emit_step(
     step: &Expr,
     limit: &Expr,
 ) -> Result<(), NoMemory>
-    ensures { OnOk result (made out.new ≡ added (step_values (at_line line (scope_with unit.now layout.now parameters.now)) looped scale turn number first.now step.now limit.now) (made out.old)) }
+    ensures { OnOk result (made out.new ≡ added
+        (step_values (at_line line (scope_with unit.now layout.now parameters.now)) looped scale turn number
+        first.now step.now limit.now) (made out.old)) }
 {
     emit_values(
         out, unit, layout, parameters, line, looped, scale, number, first, step, limit,
@@ -102,7 +109,9 @@ pub fn emit_first_turn(
     step: &Expr,
     limit: &Expr,
 ) -> Result<(), NoMemory>
-    ensures { OnOk result (made out.new ≡ added (first_turn (at_line line (scope_with unit.now layout.now parameters.now)) looped scale first.now step.now limit.now end) (made out.old)) }
+    ensures { OnOk result (made out.new ≡ added
+        (first_turn (at_line line (scope_with unit.now layout.now parameters.now)) looped scale first.now
+        step.now limit.now end) (made out.old)) }
 {
     emit_values(
         out, unit, layout, parameters, line, looped, scale, 1, first, step, limit,
@@ -125,7 +134,9 @@ fn emit_element(
     element: &Felem,
 ) -> Result<u32, NoMemory>
     ensures way { IfOk result (λ way. way ≡ way_mark element.now (length out.old.marks.items)) }
-    ensures orders { OnOk result (made out.new ≡ added (element_piece (at_line line (scope_with unit.now layout.now parameters.now)) looped scale set body number element.now) (made out.old)) }
+    ensures orders { OnOk result (made out.new
+        ≡ added (element_piece (at_line line (scope_with unit.now layout.now parameters.now)) looped scale set
+        body number element.now) (made out.old)) }
 {
     match element {
         Felem::One(e) => {
@@ -178,8 +189,12 @@ pub fn emit_elements(
     body: u32,
     elements: &[Felem],
 ) -> Result<List<u32>, NoMemory>
-    ensures ways { IfOk result (λ ways. ways ≡ element_ways (at_line line (scope_with unit.now layout.now parameters.now)) looped scale set body 1 elements.now (length out.old.orders) (length out.old.marks.items)) }
-    ensures orders { OnOk result (made out.new ≡ added (elements_piece (at_line line (scope_with unit.now layout.now parameters.now)) looped scale set body 1 elements.now) (made out.old)) }
+    ensures ways { IfOk result (λ ways. ways
+        ≡ element_ways (at_line line (scope_with unit.now layout.now parameters.now)) looped scale set body 1
+        elements.now (length out.old.orders) (length out.old.marks.items)) }
+    ensures orders { OnOk result (made out.new
+        ≡ added (elements_piece (at_line line (scope_with unit.now layout.now parameters.now)) looped scale set
+        body 1 elements.now) (made out.old)) }
 {
     let mut ways = List::new(alloc);
     let mut number: u16 = 0;

@@ -5,7 +5,8 @@ ghost use Rattle.cw_gen_expr.specs.Pieces.{Piece, plain};
 ghost use Rattle.cw_gen_expr.specs.Output.{made, added};
 ghost use Rattle.cw_gen_expr.specs.ReferenceExpressions.{scope_with, store_orders};
 ghost use Rattle.cw_gen_expr.specs.UnitTables as tables;
-ghost use Rattle.cw_gen_unit.specs.ReferenceStatements.{begin_orders, after_statement_call, own_order as spec_own_order, goal_order as spec_goal_order, jump_past, statement_step, statement_piece};
+ghost use Rattle.cw_gen_unit.specs.ReferenceStatements.{begin_orders, after_statement_call, own_order as spec_own_order, goal_order as spec_goal_order};
+ghost use Rattle.cw_gen_unit.specs.ReferenceStatements.{jump_past, statement_step, statement_piece};
 ghost use Rattle.cw_gen_unit.specs.Endings.{is_empty as spec_is_empty, ends_behind as spec_ends_behind, comes_to_end};
 
 use crate::begun::{begin_loop, end_loop};
@@ -51,7 +52,9 @@ fn emit_put(
     reference: &Ref,
     e: &Expr,
 ) -> Result<(), NoMemory>
-    ensures { OnOk result (made out.new ≡ added (statement_step (scope_with unit.now layout.now parameters.now) None 0 (statement.Put line reference.now e.now)) (made out.old)) }
+    ensures { OnOk result (made out.new ≡ added
+        (statement_step (scope_with unit.now layout.now parameters.now) None 0
+        (statement.Put line reference.now e.now)) (made out.old)) }
 {
     emit_begin(out, line)?;
     emit_expression(out, unit, layout, parameters, line, e, reference.f)?;
@@ -72,7 +75,9 @@ fn emit_put_bits(
     reference: &Ref,
     e: &Expr,
 ) -> Result<(), NoMemory>
-    ensures { OnOk result (made out.new ≡ added (statement_step (scope_with unit.now layout.now parameters.now) None 0 (statement.PutBits line t b reference.now e.now)) (made out.old)) }
+    ensures { OnOk result (made out.new ≡ added
+        (statement_step (scope_with unit.now layout.now parameters.now) None 0
+        (statement.PutBits line t b reference.now e.now)) (made out.old)) }
 {
     emit_begin(out, line)?;
     emit_expression(out, unit, layout, parameters, line, e, 0)?;
@@ -131,7 +136,9 @@ fn emit_go(
     line: u16,
     dest: &Dest,
 ) -> Result<(), NoMemory>
-    ensures { OnOk result (made out.new ≡ added (statement_step (scope_with unit.now layout.now parameters.now) who 0 (statement.Go line dest.now)) (made out.old)) }
+    ensures { OnOk result (made out.new ≡ added
+        (statement_step (scope_with unit.now layout.now parameters.now) who 0 (statement.Go line dest.now))
+        (made out.old)) }
 {
     emit_begin(out, line)?;
     match dest {
@@ -180,7 +187,9 @@ fn emit_call_statement(
     target: &Target,
     arguments: &[Arg],
 ) -> Result<(), NoMemory>
-    ensures { OnOk result (made out.new ≡ added (statement_step (scope_with unit.now layout.now parameters.now) None 0 (statement.Call line target.now arguments.now)) (made out.old)) }
+    ensures { OnOk result (made out.new ≡ added
+        (statement_step (scope_with unit.now layout.now parameters.now) None 0
+        (statement.Call line target.now arguments.now)) (made out.old)) }
 {
     emit_begin(out, line)?;
     emit_arguments(out, unit, layout, parameters, line, arguments)?;
@@ -198,7 +207,9 @@ fn emit_answer(
     line: u16,
     e: &Expr,
 ) -> Result<(), NoMemory>
-    ensures { OnOk result (made out.new ≡ added (statement_step (scope_with unit.now layout.now parameters.now) None answer (statement.Answer line e.now)) (made out.old)) }
+    ensures { OnOk result (made out.new ≡ added
+        (statement_step (scope_with unit.now layout.now parameters.now) None answer
+        (statement.Answer line e.now)) (made out.old)) }
 {
     let arguments = all_words(parameters)?;
     emit_begin(out, line)?;
@@ -256,7 +267,9 @@ pub fn emit_statement(
     answer: u8,
     statement: &Stmt,
 ) -> Result<bool, NoMemory>
-    ensures orders { OnOk result (made out.new ≡ added (statement_piece (scope_with unit.now layout.now parameters.now) who answer statement.now) (made out.old)) }
+    ensures orders { OnOk result (made out.new
+        ≡ added (statement_piece (scope_with unit.now layout.now parameters.now) who answer statement.now)
+        (made out.old)) }
     ensures ends { IfOk result (λ ends. ends ≡ comes_to_end statement.now) }
 {
     match statement {

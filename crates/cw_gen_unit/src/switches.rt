@@ -1,6 +1,7 @@
 //! Jumps through a switch of the unit.
 ghost use Rattle.std.specs.Prelude.{◌≡◌, IfOk};
-ghost use Rattle.cw_gen_unit.specs.ReferenceStatements.{goal_order, plain_mark as spec_plain_mark, plain_marks as spec_plain_marks, owned_marks as spec_owned_marks, switch_order as spec_switch_order};
+ghost use Rattle.cw_gen_unit.specs.ReferenceStatements.{goal_order, plain_mark as spec_plain_mark, plain_marks as spec_plain_marks};
+ghost use Rattle.cw_gen_unit.specs.ReferenceStatements.{owned_marks as spec_owned_marks, switch_order as spec_switch_order};
 
 use crate::statements::{label_mark, own_order};
 use cw_order::Order;

@@ -4,7 +4,9 @@ ghost use Rattle.cw_unit.specs.Storage.{layout_of};
 ghost use Rattle.cw_gen_expr.specs.Output.{made};
 ghost use Rattle.cw_gen_expr.specs.UnitTables.{first_mark};
 ghost use Rattle.cw_gen_expr.specs.UnitTables as tables;
-ghost use Rattle.cw_gen_unit.specs.ReferenceUnits.{body_piece, procedure_piece, procedures_piece, entries_of, procedure_labels, label_places, definition_place as spec_definition_place, definition_places as spec_definition_places, label_marks as spec_label_marks, procedure_marks as spec_procedure_marks, switch_lists as spec_switch_lists, shared as spec_shared, unit_orders};
+ghost use Rattle.cw_gen_unit.specs.ReferenceUnits.{body_piece, procedure_piece, procedures_piece, entries_of, procedure_labels, label_places, definition_place as spec_definition_place};
+ghost use Rattle.cw_gen_unit.specs.ReferenceUnits.{definition_places as spec_definition_places, label_marks as spec_label_marks, procedure_marks as spec_procedure_marks};
+ghost use Rattle.cw_gen_unit.specs.ReferenceUnits.{switch_lists as spec_switch_lists, shared as spec_shared, unit_orders};
 ghost use Rattle.cw_gen_unit.specs.LabelPlaces.{labels_placed};
 
 use crate::labels::place_labels;
@@ -29,9 +31,13 @@ fn emit_main(
     requires of_unit { layout.now ≡ layout_of unit.now }
     requires unlabelled { out.old.labels ≡ [] }
     ensures orders { OnOk result (out.new.orders ≡ out.old.orders ++ (body_piece unit.now (length out.old.orders) (length out.old.marks.items)).orders) }
-    ensures marks { OnOk result (out.new.marks.items ≡ out.old.marks.items ++ (body_piece unit.now (length out.old.orders) (length out.old.marks.items)).marks) }
+    ensures marks { OnOk result (out.new.marks.items
+        ≡ out.old.marks.items
+        ++ (body_piece unit.now (length out.old.orders) (length out.old.marks.items)).marks) }
     ensures labels { OnOk result (out.new.labels ≡ []) }
-    ensures places { OnOk result (places.new.items ≡ labels_placed 0 unit.now.labels None (body_piece unit.now (length out.old.orders) (length out.old.marks.items)).labels places.old.items) }
+    ensures places { OnOk result (places.new.items
+        ≡ labels_placed 0 unit.now.labels None (body_piece unit.now (length out.old.orders)
+        (length out.old.marks.items)).labels places.old.items) }
 {
     emit_statement(alloc, out, unit, layout, &[], None, 0, &unit.body)?;
     out.push(Order::NextBody)?;
@@ -54,11 +60,19 @@ fn emit_next(
     requires of_unit { layout.now ≡ layout_of unit.now }
     requires numbered { slice_get unit.now.procs number ≡ Some procedure.now }
     requires unlabelled { out.old.labels ≡ [] }
-    ensures orders { OnOk result (out.new.orders ≡ out.old.orders ++ (procedure_piece unit.now number procedure.now (length out.old.orders) (length out.old.marks.items)).orders) }
-    ensures marks { OnOk result (out.new.marks.items ≡ out.old.marks.items ++ (procedure_piece unit.now number procedure.now (length out.old.orders) (length out.old.marks.items)).marks) }
+    ensures orders { OnOk result (out.new.orders
+        ≡ out.old.orders ++ (procedure_piece unit.now number procedure.now (length out.old.orders)
+        (length out.old.marks.items)).orders) }
+    ensures marks { OnOk result (out.new.marks.items
+        ≡ out.old.marks.items
+        ++ (procedure_piece unit.now number procedure.now (length out.old.orders)
+        (length out.old.marks.items)).marks) }
     ensures labels { OnOk result (out.new.labels ≡ []) }
     ensures entries { OnOk result (entries.new.items ≡ entries.old.items ++ length out.old.orders ∷ []) }
-    ensures places { OnOk result (places.new.items ≡ labels_placed 0 unit.now.labels (Some number) (procedure_piece unit.now number procedure.now (length out.old.orders) (length out.old.marks.items)).labels places.old.items) }
+    ensures places { OnOk result (places.new.items
+        ≡ labels_placed 0 unit.now.labels (Some number)
+        (procedure_piece unit.now number procedure.now (length out.old.orders)
+        (length out.old.marks.items)).labels places.old.items) }
 {
     let entry = out.place()?;
     entries.push(entry).map_err(|_| NoMemory)?;
@@ -85,10 +99,19 @@ fn emit_procedures(
 ) -> Result<(), NoMemory>
     requires of_unit { layout.now ≡ layout_of unit.now }
     requires unlabelled { out.old.labels ≡ [] }
-    ensures orders { OnOk result (out.new.orders ≡ out.old.orders ++ (procedures_piece unit.now 0 unit.now.procs (length out.old.orders) (length out.old.marks.items)).orders) }
-    ensures marks { OnOk result (out.new.marks.items ≡ out.old.marks.items ++ (procedures_piece unit.now 0 unit.now.procs (length out.old.orders) (length out.old.marks.items)).marks) }
-    ensures entries { OnOk result (entries.new.items ≡ entries.old.items ++ entries_of unit.now 0 unit.now.procs (length out.old.orders) (length out.old.marks.items)) }
-    ensures places { OnOk result ((b : Sequence (ℕ × ℕ)) → places.old.items ≡ label_places 0 unit.now.labels b [] → places.new.items ≡ label_places 0 unit.now.labels b (procedure_labels unit.now 0 unit.now.procs (length out.old.orders) (length out.old.marks.items))) }
+    ensures orders { OnOk result (out.new.orders
+        ≡ out.old.orders ++ (procedures_piece unit.now 0 unit.now.procs (length out.old.orders)
+        (length out.old.marks.items)).orders) }
+    ensures marks { OnOk result (out.new.marks.items
+        ≡ out.old.marks.items
+        ++ (procedures_piece unit.now 0 unit.now.procs (length out.old.orders)
+        (length out.old.marks.items)).marks) }
+    ensures entries { OnOk result (entries.new.items
+        ≡ entries.old.items ++ entries_of unit.now 0 unit.now.procs (length out.old.orders)
+        (length out.old.marks.items)) }
+    ensures places { OnOk result ((b : Sequence (ℕ × ℕ)) → places.old.items ≡ label_places 0 unit.now.labels b []
+        → places.new.items ≡ label_places 0 unit.now.labels b
+        (procedure_labels unit.now 0 unit.now.procs (length out.old.orders) (length out.old.marks.items))) }
 {
     let procedures = unit.procs.as_slice();
     for i in 0..procedures.len() {
@@ -235,7 +258,8 @@ fn all_marks(
     made: &[u32],
     first: usize,
 ) -> Result<List<u32>, NoMemory>
-    ensures { IfOk result (λ marks. marks ≡ spec_definition_places places.now entries.now unit.now.defined ++ (places.now ++ (entries.now ++ drop first made.now))) }
+    ensures { IfOk result (λ marks. marks ≡ spec_definition_places places.now entries.now unit.now.defined
+        ++ (places.now ++ (entries.now ++ drop first made.now))) }
 {
     let defined = unit.defined.as_slice();
     let mut marks = definition_places(alloc, places, entries, defined)?;

@@ -26,4 +26,5 @@ IsTop levels row top = IsTopOfFirst levels row (length row) top
 pub record AreLevels (g : Graph) (levels : List (Option ℕ)) : Type 0 where
   pub count : length levels ≡ length g.rows
   pub right : (a m : ℕ) → level_of levels a ≡ Some m → (top : ℕ) × (IsTop levels (row_of g.rows a) top × (m ≡ own_level g.nodes a + top))
-  pub lacking : (a : ℕ) → a < length g.rows → level_of levels a ≡ None → (k : ℕ) × ((k < length (row_of g.rows a)) × (level_of levels (slice_index (row_of g.rows a) k) ≡ None))
+  pub lacking : (a : ℕ) → a < length g.rows → level_of levels a ≡ None
+      → (k : ℕ) × ((k < length (row_of g.rows a)) × (level_of levels (slice_index (row_of g.rows a) k) ≡ None))

@@ -71,7 +71,9 @@ fn settle(
     ensures ranked { OnOk result (AreRanked graph.now levels.new.items order.new.items) }
     ensures passed { OnOk result (ArePassed graph.now levels.new.items from.new.items) }
     ensures waiting { OnOk result (AreWaiting graph.now waiting.new.items) }
-    ensures settled { OnOk result ((told : ℕ) (late : Sequence ℕ) → AllWait graph.now levels.old.items order.old.items waiting.old.items told (number ∷ late) → AllWait graph.now levels.new.items order.new.items waiting.new.items told late) }
+    ensures settled { OnOk result ((told : ℕ) (late : Sequence ℕ)
+        → AllWait graph.now levels.old.items order.old.items waiting.old.items told (number ∷ late)
+        → AllWait graph.now levels.new.items order.new.items waiting.new.items told late) }
 {
     if level_of(levels.as_slice(), number).is_some() {
         return Ok(());
@@ -104,7 +106,9 @@ fn settle_all(
     ensures ranked { OnOk result (AreRanked graph.now levels.new.items order.new.items) }
     ensures passed { OnOk result (ArePassed graph.now levels.new.items from.new.items) }
     ensures waiting { OnOk result (AreWaiting graph.now waiting.new.items) }
-    ensures settled { OnOk result ((told : ℕ) → AllWait graph.now levels.old.items order.old.items waiting.old.items told late.now → AllWait graph.now levels.new.items order.new.items waiting.new.items told []) }
+    ensures settled { OnOk result ((told : ℕ)
+        → AllWait graph.now levels.old.items order.old.items waiting.old.items told late.now
+        → AllWait graph.now levels.new.items order.new.items waiting.new.items told []) }
 {
     for number in late {
         settle(graph, levels, order, from, waiting, *number)?;
@@ -139,7 +143,8 @@ fn tell(
     ensures ranked { OnOk result (AreRanked graph.now levels.new.items order.new.items) }
     ensures passed { OnOk result (ArePassed graph.now levels.new.items from.new.items) }
     ensures waiting { OnOk result (AreWaiting graph.now waiting.new.items) }
-    ensures settled { OnOk result (AllWait graph.now levels.old.items order.old.items waiting.old.items told [] → AllWait graph.now levels.new.items order.new.items waiting.new.items (told + 1) []) }
+    ensures settled { OnOk result (AllWait graph.now levels.old.items order.old.items waiting.old.items told []
+        → AllWait graph.now levels.new.items order.new.items waiting.new.items (told + 1) []) }
 {
     let late = take_waiting(alloc, waiting, order[told]);
     settle_all(graph, levels, order, from, waiting, late.as_slice())

@@ -37,7 +37,11 @@ fn place(base: u16, address: u32) -> u32
 // Puts the data of a record into memory.
 fn put_data(cpu: &mut Cpu, base: u16, digits: &[u8])
     requires { length digits.now ≡ 2 * (5 + slice_index (bytes_of digits.now) 0) }
-    ensures { cpu.new ≡ record cpu.old { memory = put_bytes base (256 * slice_index (bytes_of digits.now) 1 + slice_index (bytes_of digits.now) 2) (take (slice_index (bytes_of digits.now) 0) (drop 4 (bytes_of digits.now))) cpu.old.memory } }
+    ensures { cpu.new ≡ record cpu.old {
+      memory = put_bytes base
+          (256 * slice_index (bytes_of digits.now) 1 + slice_index (bytes_of digits.now) 2)
+          (take (slice_index (bytes_of digits.now) 0) (drop 4 (bytes_of digits.now))) cpu.old.memory;
+    } }
 {
     let first = u32::from(word(digits, 1));
     for i in 0..byte(digits, 0) {

@@ -3,7 +3,8 @@ ghost use Rattle.std.specs.Prelude.{◌≡◌, ◌-◌, ◌||◌, ◌==◌, true
 ghost use Rattle.cw_fields.specs.Fields.{byte_in, text_in, word_in, long_in, bytes_in};
 ghost use Rattle.cw_fields.specs.Names.{is_name};
 ghost use Rattle.cw_image.specs.declared.fault.ImageFault.TheVariants as faults;
-ghost use Rattle.cw_image.specs.ImageFormat.{Gives, field, between, name_field, word_item, names_fields, words_fields, limits_in, names_in, words_in, code_in, fields_in, image_in};
+ghost use Rattle.cw_image.specs.ImageFormat.{Gives, field, between, name_field, word_item, names_fields, words_fields};
+ghost use Rattle.cw_image.specs.ImageFormat.{limits_in, names_in, words_in, code_in, fields_in, image_in};
 
 use crate::fault::ImageFault;
 use crate::image::Image;

@@ -76,7 +76,8 @@ pub enum End {
     NoMemory,
 }
 
-/// A run: the segment at work, the place of the next order, the line of the order at work, whether the top operand is in the accumulator, the activations, the arguments and operands of all of them, last
+/// A run: the segment at work, the place of the next order, the line of the order at work, whether the top operand is
+/// in the accumulator, the activations, the arguments and operands of all of them, last
 /// one last, the words of the data area, the bytes that are left to read, those that were written, and the end once it is there. From
 /// then on nothing is written.
 #[derive(Drop)]

@@ -1,7 +1,8 @@
 //! Where things stand in their families, and how many words each area has.
 ghost use Rattle.std.specs.Prelude.{◌≡◌, ◌≤◌, ◌++◌, ◌∷◌, [], IfOk, OnOk, drop};
 ghost use Rattle.cw_table.specs.Rows.{item_at};
-ghost use Rattle.cw_items.specs.Families.{count_in, frame_of_owner, frame_of, own_site, site_on, site_by, site_of, nothing_known, end_of, growth, area_with, with_area, with_site, with_thing, has_room, thing_judged, things_judged, all_known};
+ghost use Rattle.cw_items.specs.Families.{count_in, frame_of_owner, frame_of, own_site, site_on, site_by, site_of, nothing_known, end_of, growth};
+ghost use Rattle.cw_items.specs.Families.{area_with, with_area, with_site, with_thing, has_room, thing_judged, things_judged, all_known};
 
 use crate::counts::Counts;
 use crate::thing::{Base, Owner, Sort, Thing, capped, is_fixed};

@@ -3,7 +3,8 @@ ghost use Rattle.std.specs.Prelude.{◌≡◌, ◌++◌, map, OnOk};
 ghost use Rattle.cw_facts.specs.declared.fact.Reading.TheVariants as reading;
 ghost use Rattle.cw_facts.specs.Uses.{expression_uses, condition_uses, reference_uses, argument_uses};
 ghost use Rattle.cw_tree.specs.declared.statement.RawBlock.{out-RawBlock};
-ghost use Rattle.cw_items.specs.Things.{texts, joined, felem_things, felems_things, is_recursive, declaration_things, form_things, simple_things, block_things, procedure_things, statement_things};
+ghost use Rattle.cw_items.specs.Things.{texts, joined, felem_things, felems_things, is_recursive, declaration_things, form_things};
+ghost use Rattle.cw_items.specs.Things.{simple_things, block_things, procedure_things, statement_things};
 
 use crate::data::{base_at, data_things, parameters_things, store};
 use crate::thing::{Owner, Sort, Thing, capped};

@@ -111,22 +111,28 @@ module _ (named : Named) (sites : List (Row Site)) where
   statement_step s = s.form
 
   abbrev pub declaration_judged : RawDecl → Judgement
-  declaration_judged = fold-RawDecl Judgement Judgement Judgement Judgement Judgement Judgement declaration_step form_step simple_step block_step procedure_step statement_step
+  declaration_judged = fold-RawDecl Judgement Judgement Judgement Judgement Judgement Judgement declaration_step
+      form_step simple_step block_step procedure_step statement_step
 
   abbrev pub form_judged : RawForm → Judgement
-  form_judged = fold-RawForm Judgement Judgement Judgement Judgement Judgement Judgement declaration_step form_step simple_step block_step procedure_step statement_step
+  form_judged = fold-RawForm Judgement Judgement Judgement Judgement Judgement Judgement declaration_step form_step
+      simple_step block_step procedure_step statement_step
 
   abbrev pub simple_judged : RawSimple → Judgement
-  simple_judged = fold-RawSimple Judgement Judgement Judgement Judgement Judgement Judgement declaration_step form_step simple_step block_step procedure_step statement_step
+  simple_judged = fold-RawSimple Judgement Judgement Judgement Judgement Judgement Judgement declaration_step
+      form_step simple_step block_step procedure_step statement_step
 
   abbrev pub block_judged : RawBlock → Judgement
-  block_judged = fold-RawBlock Judgement Judgement Judgement Judgement Judgement Judgement declaration_step form_step simple_step block_step procedure_step statement_step
+  block_judged = fold-RawBlock Judgement Judgement Judgement Judgement Judgement Judgement declaration_step form_step
+      simple_step block_step procedure_step statement_step
 
   abbrev pub procedure_judged : RawProc → Judgement
-  procedure_judged = fold-RawProc Judgement Judgement Judgement Judgement Judgement Judgement declaration_step form_step simple_step block_step procedure_step statement_step
+  procedure_judged = fold-RawProc Judgement Judgement Judgement Judgement Judgement Judgement declaration_step
+      form_step simple_step block_step procedure_step statement_step
 
   abbrev pub statement_judged : RawStmt → Judgement
-  statement_judged = fold-RawStmt Judgement Judgement Judgement Judgement Judgement Judgement declaration_step form_step simple_step block_step procedure_step statement_step
+  statement_judged = fold-RawStmt Judgement Judgement Judgement Judgement Judgement Judgement declaration_step
+      form_step simple_step block_step procedure_step statement_step
 
 -- ---- communicators
 

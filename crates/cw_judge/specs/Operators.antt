@@ -9,7 +9,8 @@ use Rattle.cw_tree.specs.declared.leaf.RawCompareSign.{RawCompareSign}
 use Rattle.cw_tree.specs.declared.expression.RawBits.{RawBits}
 use Rattle.cw_tree.specs.declared.expression.RawExpr.{RawExpr, RawExpr-F, fold-RawExpr}
 use Rattle.cw_tree.specs.declared.expression.RawExpr.TheOpen as layer
-use Rattle.cw_tree.specs.declared.expression.RawExpr.TheOpen.{RawPrimary-F, RawRef-F, RawCand-F, RawCmp-F, RawCond-F, RawDiffer-F, RawMask-F, RawPrim-F, RawSum-F, RawTerm-F, RawUnion-F}
+use Rattle.cw_tree.specs.declared.expression.RawExpr.TheOpen.{RawPrimary-F, RawRef-F, RawCand-F, RawCmp-F, RawCond-F, RawDiffer-F}
+use Rattle.cw_tree.specs.declared.expression.RawExpr.TheOpen.{RawMask-F, RawPrim-F, RawSum-F, RawTerm-F, RawUnion-F}
 use Rattle.cw_tree.specs.declared.expression.RawPrimary.{RawPrimary, fold-RawPrimary}
 use Rattle.cw_tree.specs.declared.expression.RawRef.{RawRef, fold-RawRef}
 use Rattle.cw_tree.specs.declared.expression.RawCand.{RawCand, fold-RawCand}
@@ -106,40 +107,64 @@ abbrev pub union_step : RawUnion-F Places Places (List Places) Places Places Pla
 union_step e = between e.operands e.operators
 
 abbrev pub expression_operators : RawExpr → Places
-expression_operators = fold-RawExpr Places Places (List Places) Places Places Places Places Places Places Places Places Places expression_step primary_step reference_step conjunction_step comparison_step condition_step differ_step mask_step prim_step sum_step term_step union_step
+expression_operators = fold-RawExpr Places Places (List Places) Places Places Places Places Places Places Places
+    Places Places expression_step primary_step reference_step conjunction_step comparison_step condition_step
+    differ_step mask_step prim_step sum_step term_step union_step
 
 abbrev pub primary_operators : RawPrimary → Places
-primary_operators = fold-RawPrimary Places Places (List Places) Places Places Places Places Places Places Places Places Places expression_step primary_step reference_step conjunction_step comparison_step condition_step differ_step mask_step prim_step sum_step term_step union_step
+primary_operators = fold-RawPrimary Places Places (List Places) Places Places Places Places Places Places Places
+    Places Places expression_step primary_step reference_step conjunction_step comparison_step condition_step
+    differ_step mask_step prim_step sum_step term_step union_step
 
 abbrev pub reference_operators : RawRef → List Places
-reference_operators = fold-RawRef Places Places (List Places) Places Places Places Places Places Places Places Places Places expression_step primary_step reference_step conjunction_step comparison_step condition_step differ_step mask_step prim_step sum_step term_step union_step
+reference_operators = fold-RawRef Places Places (List Places) Places Places Places Places Places Places Places Places
+    Places expression_step primary_step reference_step conjunction_step comparison_step condition_step differ_step
+    mask_step prim_step sum_step term_step union_step
 
 abbrev pub conjunction_operators : RawCand → Places
-conjunction_operators = fold-RawCand Places Places (List Places) Places Places Places Places Places Places Places Places Places expression_step primary_step reference_step conjunction_step comparison_step condition_step differ_step mask_step prim_step sum_step term_step union_step
+conjunction_operators = fold-RawCand Places Places (List Places) Places Places Places Places Places Places Places
+    Places Places expression_step primary_step reference_step conjunction_step comparison_step condition_step
+    differ_step mask_step prim_step sum_step term_step union_step
 
 abbrev pub comparison_operators : RawCmp → Places
-comparison_operators = fold-RawCmp Places Places (List Places) Places Places Places Places Places Places Places Places Places expression_step primary_step reference_step conjunction_step comparison_step condition_step differ_step mask_step prim_step sum_step term_step union_step
+comparison_operators = fold-RawCmp Places Places (List Places) Places Places Places Places Places Places Places
+    Places Places expression_step primary_step reference_step conjunction_step comparison_step condition_step
+    differ_step mask_step prim_step sum_step term_step union_step
 
 abbrev pub condition_operators : RawCond → Places
-condition_operators = fold-RawCond Places Places (List Places) Places Places Places Places Places Places Places Places Places expression_step primary_step reference_step conjunction_step comparison_step condition_step differ_step mask_step prim_step sum_step term_step union_step
+condition_operators = fold-RawCond Places Places (List Places) Places Places Places Places Places Places Places
+    Places Places expression_step primary_step reference_step conjunction_step comparison_step condition_step
+    differ_step mask_step prim_step sum_step term_step union_step
 
 abbrev pub differ_operators : RawDiffer → Places
-differ_operators = fold-RawDiffer Places Places (List Places) Places Places Places Places Places Places Places Places Places expression_step primary_step reference_step conjunction_step comparison_step condition_step differ_step mask_step prim_step sum_step term_step union_step
+differ_operators = fold-RawDiffer Places Places (List Places) Places Places Places Places Places Places Places Places
+    Places expression_step primary_step reference_step conjunction_step comparison_step condition_step differ_step
+    mask_step prim_step sum_step term_step union_step
 
 abbrev pub mask_operators : RawMask → Places
-mask_operators = fold-RawMask Places Places (List Places) Places Places Places Places Places Places Places Places Places expression_step primary_step reference_step conjunction_step comparison_step condition_step differ_step mask_step prim_step sum_step term_step union_step
+mask_operators = fold-RawMask Places Places (List Places) Places Places Places Places Places Places Places Places
+    Places expression_step primary_step reference_step conjunction_step comparison_step condition_step differ_step
+    mask_step prim_step sum_step term_step union_step
 
 abbrev pub prim_operators : RawPrim → Places
-prim_operators = fold-RawPrim Places Places (List Places) Places Places Places Places Places Places Places Places Places expression_step primary_step reference_step conjunction_step comparison_step condition_step differ_step mask_step prim_step sum_step term_step union_step
+prim_operators = fold-RawPrim Places Places (List Places) Places Places Places Places Places Places Places Places
+    Places expression_step primary_step reference_step conjunction_step comparison_step condition_step differ_step
+    mask_step prim_step sum_step term_step union_step
 
 abbrev pub sum_operators : RawSum → Places
-sum_operators = fold-RawSum Places Places (List Places) Places Places Places Places Places Places Places Places Places expression_step primary_step reference_step conjunction_step comparison_step condition_step differ_step mask_step prim_step sum_step term_step union_step
+sum_operators = fold-RawSum Places Places (List Places) Places Places Places Places Places Places Places Places
+    Places expression_step primary_step reference_step conjunction_step comparison_step condition_step differ_step
+    mask_step prim_step sum_step term_step union_step
 
 abbrev pub term_operators : RawTerm → Places
-term_operators = fold-RawTerm Places Places (List Places) Places Places Places Places Places Places Places Places Places expression_step primary_step reference_step conjunction_step comparison_step condition_step differ_step mask_step prim_step sum_step term_step union_step
+term_operators = fold-RawTerm Places Places (List Places) Places Places Places Places Places Places Places Places
+    Places expression_step primary_step reference_step conjunction_step comparison_step condition_step differ_step
+    mask_step prim_step sum_step term_step union_step
 
 abbrev pub union_operators : RawUnion → Places
-union_operators = fold-RawUnion Places Places (List Places) Places Places Places Places Places Places Places Places Places expression_step primary_step reference_step conjunction_step comparison_step condition_step differ_step mask_step prim_step sum_step term_step union_step
+union_operators = fold-RawUnion Places Places (List Places) Places Places Places Places Places Places Places Places
+    Places expression_step primary_step reference_step conjunction_step comparison_step condition_step differ_step
+    mask_step prim_step sum_step term_step union_step
 
 -- ---- at most 1,024: the 1,025th is one too many
 

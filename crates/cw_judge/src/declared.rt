@@ -1,7 +1,8 @@
 //! Declared data with its presets, and what is overlaid.
 ghost use Rattle.std.specs.Prelude.{◌≡◌};
 ghost use Rattle.cw_table.specs.Rows.{item_at};
-ghost use Rattle.cw_judge.specs.Declared.{is_framed, names_framed, groups_framed, frame_judged, places_of, one_kind, presets_judged, declared_judged, stands_in_common, common_base_judged, overlaid_judged, common_overlaid_judged};
+ghost use Rattle.cw_judge.specs.Declared.{is_framed, names_framed, groups_framed, frame_judged, places_of, one_kind, presets_judged, declared_judged};
+ghost use Rattle.cw_judge.specs.Declared.{stands_in_common, common_base_judged, overlaid_judged, common_overlaid_judged};
 
 use cw_data::data::judge_data;
 use cw_data::overlays::{judge_base, name_of};

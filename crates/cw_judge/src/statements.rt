@@ -2,7 +2,8 @@
 ghost use Rattle.std.specs.Prelude.{◌≡◌, map, OnOk};
 ghost use Rattle.cw_facts.specs.Facts.{answer_name};
 ghost use Rattle.cw_scale.specs.Kinds.{kind_of, fraction_of_kind};
-ghost use Rattle.cw_judge.specs.Judged.{felem_judged, felems_judged, all_judged, declaration_judged, form_judged, simple_judged, block_judged, procedure_judged, statement_judged};
+ghost use Rattle.cw_judge.specs.Judged.{felem_judged, felems_judged, all_judged, declaration_judged, form_judged};
+ghost use Rattle.cw_judge.specs.Judged.{simple_judged, block_judged, procedure_judged, statement_judged};
 
 use crate::declared::{judge_declared, judge_overlaid};
 use crate::sites::{count_arguments, scale_of, whole_condition, whole_expression, whole_reference};

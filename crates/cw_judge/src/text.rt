@@ -1,7 +1,8 @@
 //! A whole text is judged.
 ghost use Rattle.std.specs.Prelude.{◌≡◌, ◌++◌, ◌∷◌, [], None, IfOk};
 ghost use Rattle.cw_amount.specs.Amounts.{place_amount};
-ghost use Rattle.cw_judge.specs.Judged.{address_or_none, aitem_address, aitems_addresses, communicator_addresses, absolute_addresses, citem_judged, citems_judged, communicator_judged, communicators_judged, text_judged, first_type_fault};
+ghost use Rattle.cw_judge.specs.Judged.{address_or_none, aitem_address, aitems_addresses, communicator_addresses, absolute_addresses, citem_judged};
+ghost use Rattle.cw_judge.specs.Judged.{citems_judged, communicator_judged, communicators_judged, text_judged, first_type_fault};
 
 use crate::declared::{judge_common_overlaid, judge_declared};
 use crate::statements::judge_block;

@@ -49,7 +49,8 @@ pub record IsLibrary (bytes : Bytes) (members : List Bytes) : Type 0 where
 -- what is wrong behind the first members of so many, at this place of bytes of this length
 pub data FailsBehind (number : ℕ) (before : List Bytes) (place len : ℕ) : Bytes → LibFault → Type 0 where
   no_length : {rest : Bytes} → length before < number → length rest < 4 → FailsBehind number before place len rest (Truncated len)
-  cut : (size : ℕ) (part : Bytes) → length before < number → IsLong size → length part < size → FailsBehind number before place len (long_bytes size ++ part) (Truncated len)
+  cut : (size : ℕ) (part : Bytes) → length before < number → IsLong size → length part < size
+      → FailsBehind number before place len (long_bytes size ++ part) (Truncated len)
   no_object : (member rest : Bytes) {fault : ObjFault} → length before < number → IsLong (length member) → IsFirstObjectFault member fault
       → FailsBehind number before place len (member_bytes member ++ rest) (BadMember (length before + 1) fault)
   trailing : {byte : ℕ} {rest : Bytes} → length before ≡ number → FailsBehind number before place len (byte ∷ rest) (Trailing place)

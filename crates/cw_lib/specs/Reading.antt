@@ -40,7 +40,8 @@ pub record IsBehindMember (rest after : Bytes) : Type 0 where
 
 -- what is wrong with the member of this number, from 1, which would begin there
 abbrev pub FailsMember : (len number : ℕ) → Bytes → LibFault → Type 0
-FailsMember len number rest fault = (n place : ℕ) (before : List Bytes) → length before < n → length before + 1 ≡ number → FailsBehind n before place len rest fault
+FailsMember len number rest fault = (n place : ℕ) (before : List Bytes) → length before < n
+    → length before + 1 ≡ number → FailsBehind n before place len rest fault
 
 -- up to a rest the bytes are the first k of n members
 pub record Reaches (bytes : Bytes) (n k : ℕ) (rest : Bytes) : Type 0 where

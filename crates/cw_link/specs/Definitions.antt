@@ -1,5 +1,6 @@
 -- Where names are defined, by their numbers.
-use Rattle.std.specs.Prelude.{◌≡◌, ◌<◌, ℕ, ◌+◌, nat_eq, Bool, false, if◌then◌else◌, List, [], ◌∷◌, length, map, Option, Some, None, option_map, slice_get, slice_index_or}
+use Rattle.std.specs.Prelude.{◌≡◌, ◌<◌, ℕ, ◌+◌, nat_eq, Bool, false, if◌then◌else◌, List, [], ◌∷◌, length}
+use Rattle.std.specs.Prelude.{map, Option, Some, None, option_map, slice_get, slice_index_or}
 use Rattle.cw_unit.specs.Allocation.{name_at}
 use Rattle.cw_comm.specs.Agreement.{or_else}
 use Rattle.cw_link.specs.Contents.{Contents}
@@ -19,7 +20,8 @@ numbered_in k numbers (d ∷ more) = if has_number k (slice_get numbers d.0) the
 abbrev pub numbered_from : (start g k : ℕ) → (numbers : List (List ℕ)) → List Contents → Option ℕ
 numbered_from start g k numbers [] = None
 numbered_from start g k numbers (c ∷ cs) =
-    or_else (option_map (λ place. word (start + place)) (numbered_in k (slice_index_or numbers g []) c.definitions)) (numbered_from (start + length c.code) (g + 1) k numbers cs)
+    or_else (option_map (λ place. word (start + place)) (numbered_in k (slice_index_or numbers g []) c.definitions))
+    (numbered_from (start + length c.code) (g + 1) k numbers cs)
 
 -- each name's entry is the address of its definition
 pub record TellsAddresses (names : List (List ℕ)) (start : ℕ) (cs : List Contents) (table : List (Option ℕ)) : Type 0 where
@@ -28,7 +30,8 @@ pub record TellsAddresses (names : List (List ℕ)) (start : ℕ) (cs : List Con
 
 -- the addresses of the definitions of each segment's descriptors
 abbrev pub TellsDefinitions : List Contents → List (List ℕ) → Type 0
-TellsDefinitions cs definitions = (g : ℕ) (c : Contents) → slice_get cs g ≡ Some c → slice_index_or definitions g [] ≡ map (λ d. definition_address cs d.name) c.descs
+TellsDefinitions cs definitions = (g : ℕ) (c : Contents) → slice_get cs g ≡ Some c
+    → slice_index_or definitions g [] ≡ map (λ d. definition_address cs d.name) c.descs
 
 -- the same by the numbers of descriptors
 abbrev pub definitions_by : List (Option ℕ) → List ℕ → List ℕ

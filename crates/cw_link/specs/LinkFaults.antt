@@ -10,7 +10,8 @@ use Rattle.cw_place.specs.declared.space.PlaceFault.{PlaceFault}
 use Rattle.cw_place.specs.declared.space.PlaceFault.TheVariants as places
 use Rattle.cw_place.specs.Placement.{told_words, NoneOutside, FitsData, FitsControl, IsFirstFault}
 use Rattle.cw_link.specs.declared.fault.LinkFault.{LinkFault}
-use Rattle.cw_link.specs.declared.fault.LinkFault.TheVariants.{SegmentTwice, Differs, DefinedTwice, Undefined, AbsoluteOutside, DataTooBig, ControlTooBig, PresetClash, CodeTooBig, NoMemory}
+use Rattle.cw_link.specs.declared.fault.LinkFault.TheVariants.{SegmentTwice, Differs, DefinedTwice, Undefined, AbsoluteOutside}
+use Rattle.cw_link.specs.declared.fault.LinkFault.TheVariants.{DataTooBig, ControlTooBig, PresetClash, CodeTooBig, NoMemory}
 use Rattle.cw_link.specs.declared.linking.Linked.{Linked}
 use Rattle.cw_link.specs.Contents.{Contents}
 use Rattle.cw_link.specs.Presets.{NoPresetClash, IsPresetClash}
@@ -54,7 +55,8 @@ IsFirstLinkFault cs limits (Undefined name) = IsFirstClash (faces_of cs) (clashe
 IsFirstLinkFault cs limits (AbsoluteOutside segment address) = HaveNoPlace cs limits (places.AbsoluteOutside segment address)
 IsFirstLinkFault cs limits (DataTooBig need) = HaveNoPlace cs limits (places.DataTooBig need)
 IsFirstLinkFault cs limits (ControlTooBig need) = HaveNoPlace cs limits (places.ControlTooBig need)
-IsFirstLinkFault cs limits (PresetClash address first second) = Agree (faces_of cs) × HavePlace cs limits × IsPresetClash (linked_presets cs) address first second
+IsFirstLinkFault cs limits (PresetClash address first second) = Agree (faces_of cs) × HavePlace cs limits
+    × IsPresetClash (linked_presets cs) address first second
 IsFirstLinkFault cs limits (CodeTooBig bytes) = HaveWords cs limits × (65536 < linked_size cs) × (bytes ≡ told_words (linked_size cs))
 IsFirstLinkFault cs limits NoMemory = Unit {0}
 

@@ -1,6 +1,7 @@
 -- The image of objects: the library's code and that of each object in order, with each relocated word filled; and the words of the data area that
 -- presets fill, up to the last that is not 0.
-use Rattle.std.specs.Prelude.{ℕ, zero, suc, ◌+◌, nat_eq, if◌then◌else◌, List, [], ◌∷◌, ◌++◌, length, map, Option, Some, None, option_map, slice_get, slice_index, slice_index_or}
+use Rattle.std.specs.Prelude.{ℕ, zero, suc, ◌+◌, nat_eq, if◌then◌else◌, List, [], ◌∷◌, ◌++◌, length, map}
+use Rattle.std.specs.Prelude.{Option, Some, None, option_map, slice_get, slice_index, slice_index_or}
 use Rattle.cw_unit.specs.declared.descriptor.Desc.{Desc}
 use Rattle.cw_unit.specs.declared.layout.Limits.{Limits}
 use Rattle.cw_unit.specs.declared.layout.Preset.{Preset}
@@ -89,7 +90,9 @@ definition_in name ds (d ∷ more) = if has_name name (slice_get ds d.0) then So
 -- its address: the first of these segments that defines it counts, and their code begins at a place
 abbrev pub definition_from : (start : ℕ) → (name : List ℕ) → List Contents → Option ℕ
 definition_from start name [] = None
-definition_from start name (c ∷ cs) = or_else (option_map (λ place. word (start + place)) (definition_in name c.descs c.definitions)) (definition_from (start + length c.code) name cs)
+definition_from start name (c ∷ cs) = or_else
+    (option_map (λ place. word (start + place)) (definition_in name c.descs c.definitions))
+    (definition_from (start + length c.code) name cs)
 
 abbrev pub definition_address : List Contents → (name : List ℕ) → ℕ
 definition_address cs name = entry_or_zero (definition_from (length library_bytes) name cs)

@@ -1,5 +1,6 @@
 //! The addresses of definitions.
-ghost use Rattle.std.specs.Prelude.{◌≡◌, ◌≤◌, ◌<◌, ℕ, ◌+◌, ◌^◌, nat_eq, if◌then◌else◌, Some, None, [], length, map, option_map, slice_get, slice_index_or, IfOk};
+ghost use Rattle.std.specs.Prelude.{◌≡◌, ◌≤◌, ◌<◌, ℕ, ◌+◌, ◌^◌, nat_eq, if◌then◌else◌, Some, None, []};
+ghost use Rattle.std.specs.Prelude.{length, map, option_map, slice_get, slice_index_or, IfOk};
 ghost use Rattle.cw_view.specs.Reading.{definition_in};
 ghost use Rattle.cw_tmpl.specs.Library.{library_bytes};
 ghost use Rattle.cw_comm.specs.Agreement.{or_else};
@@ -31,7 +32,9 @@ fn address_of(table: &[Option<u16>], number: usize) -> Option<u16>
 // Enters the address of a name's definition, unless it has an earlier one.
 fn enter(table: &mut Vec<Option<u16>>, number: usize, address: u16)
     ensures count { length table.new.items ≡ length table.old.items }
-    ensures told { (k : ℕ) → k < length table.old.items → slice_index_or table.new.items k None ≡ or_else (slice_index_or table.old.items k None) (if nat_eq k number then Some address else None) }
+    ensures told { (k : ℕ) → k < length table.old.items
+        → slice_index_or table.new.items k None
+        ≡ or_else (slice_index_or table.old.items k None) (if nat_eq k number then Some address else None) }
 {
     if number < table.len() {
         match table[number] {
@@ -44,7 +47,11 @@ fn enter(table: &mut Vec<Option<u16>>, number: usize, address: u16)
 // Enters the definitions of a segment, the numbers of whose descriptors are these and whose code begins there.
 fn enter_definitions(table: &mut Vec<Option<u16>>, view: &View, numbers: &[usize], start: u32)
     ensures count { length table.new.items ≡ length table.old.items }
-    ensures told { (k : ℕ) → k < length table.old.items → slice_index_or table.new.items k None ≡ or_else (slice_index_or table.old.items k None) (option_map (λ place. word (start + place)) (numbered_in k numbers.now (records_of definition_in 8 view.now))) }
+    ensures told { (k : ℕ) → k < length table.old.items
+        → slice_index_or table.new.items k None
+        ≡ or_else (slice_index_or table.old.items k None)
+        (option_map (λ place. word (start + place))
+        (numbered_in k numbers.now (records_of definition_in 8 view.now))) }
 {
     for payload in view.records(8) {
         if let Some((descriptor, place)) = read_definition(payload) {
@@ -74,7 +81,8 @@ pub(crate) fn addresses(
 ) -> Result<Vec<Option<u16>>, NoMemory>
     requires { code_end start (map contents_of views.now) ≤ 65536 }
     ensures count { IfOk result (λ table. length table.items ≡ names) }
-    ensures told { IfOk result (λ table. (k : ℕ) → k < names → slice_index_or table.items k None ≡ numbered_from start 0 k numbers.now (map contents_of views.now)) }
+    ensures told { IfOk result (λ table. (k : ℕ) → k < names
+        → slice_index_or table.items k None ≡ numbered_from start 0 k numbers.now (map contents_of views.now)) }
 {
     let mut table = vec![in alloc; None; names].map_err(|_| NoMemory)?;
     let mut place = start;

@@ -36,7 +36,8 @@ fn is_lowest(clash: Option<(u32, u8, u8)>, address: u32) -> bool
 /// Fills a word. The first value stays.
 pub fn fill_word(filled: &mut Filled, segment: u8, address: u32, word: u16)
     requires { address < length filled.old.words.items }
-    ensures filled { (ps : List FilledWord) → HasFilled ps filled.old → HasFilled (ps ++ record { segment = segment; address = address; word = word } ∷ []) filled.new }
+    ensures filled { (ps : List FilledWord) → HasFilled ps filled.old
+        → HasFilled (ps ++ record { segment = segment; address = address; word = word } ∷ []) filled.new }
     ensures count { length filled.new.words.items ≡ length filled.old.words.items }
 {
     match filled.words[address as usize] {

@@ -9,5 +9,6 @@ ghost use Rattle.cw_link.specs.OtherBytes.{IsInNoWord};
 /// The linked code is as long as the library's and the objects' code, and each byte that is in no relocated word is theirs.
 pub fn other_bytes()
     ensures size { (cs : List Contents) (limits : Limits) → length (linked_code cs limits) ≡ linked_size cs }
-    ensures bytes { (cs : List Contents) (limits : Limits) (k : ℕ) → IsInNoWord (length library_bytes) cs k → slice_index (linked_code cs limits) k ≡ slice_index (library_bytes ++ joined_code cs) k }
+    ensures bytes { (cs : List Contents) (limits : Limits) (k : ℕ) → IsInNoWord (length library_bytes) cs k
+        → slice_index (linked_code cs limits) k ≡ slice_index (library_bytes ++ joined_code cs) k }
 {}

@@ -76,7 +76,9 @@ fn words_by(
     requires agree { Agree (faces_of (map contents_of views.now)) }
     requires place { HavePlace (map contents_of views.now) limits.now }
     requires placed { placed.now ≡ linked_map (map contents_of views.now) }
-    ensures words { IfOk result (λ words. NoPresetClash (linked_presets (map contents_of views.now)) × (words ≡ without_last_zeros (words_from 0 limits.now.area (linked_presets (map contents_of views.now))))) }
+    ensures words { IfOk result (λ words. NoPresetClash (linked_presets (map contents_of views.now))
+        × (words ≡ without_last_zeros (words_from 0 limits.now.area
+        (linked_presets (map contents_of views.now))))) }
     ensures fault { IfErr result (IsFirstLinkFault (map contents_of views.now) limits.now) }
 {
     let filled = fill_all(alloc, views, placed.homes.as_slice())?;

@@ -37,7 +37,8 @@ fn fill_preset(filled: &mut Filled, homes: &[u16], segment: u8, preset: &Preset)
 // Fills the words of a segment's presets, whose number is from 1.
 fn fill_presets(filled: &mut Filled, view: &View, homes: &[u16], segment: u8)
     requires { length filled.old.words.items ≡ 2 ^ 17 }
-    ensures filled { (ps : List FilledWord) → HasFilled ps filled.old → HasFilled (ps ++ map (filled_word segment homes.now) (records_of preset_in 5 view.now)) filled.new }
+    ensures filled { (ps : List FilledWord) → HasFilled ps filled.old
+        → HasFilled (ps ++ map (filled_word segment homes.now) (records_of preset_in 5 view.now)) filled.new }
     ensures count { length filled.new.words.items ≡ length filled.old.words.items }
 {
     for payload in view.records(5) {

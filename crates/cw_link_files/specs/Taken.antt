@@ -29,7 +29,9 @@ pub record AreObjects (files : LinkFiles) : Type 0 where
 
 -- behind these one more file was taken, or the call stops there
 abbrev pub AnswersPart : List Told → (parts : List Part) → (before after : Counts) → (taken : LinkFiles) → Result (Unit {0}) Status → Type 0
-AnswersPart files parts before after taken (Ok _) = (part : Part) × Takes object_limit HasPart files (parts ++ part ∷ []) × AreFilesOf (parts ++ part ∷ []) taken × SameCounts before after
+AnswersPart files parts before after taken (Ok _) = (part : Part)
+    × Takes object_limit HasPart files (parts ++ part ∷ []) × AreFilesOf (parts ++ part ∷ []) taken
+    × SameCounts before after
 AnswersPart files parts before after taken (Err status) = Stopped object_limit HasPart (λ texts number. StopsParts files texts number before after status) files
 
 -- the files with those of one more part

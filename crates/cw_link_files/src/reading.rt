@@ -55,7 +55,9 @@ fn take_library(
 ) -> Result<(), Status>
     requires { begins_library bytes.now ≡ true }
     ensures took { OnOk result (TookFile bytes.now taken.old taken.new) }
-    ensures stops { (told : Sequence Told) (texts : Sequence (Sequence ℕ)) (before after : Counts) → slice_get texts number ≡ Some bytes.now → IfErr result (λ status. StopsParts told texts number before after status) }
+    ensures stops { (told : Sequence Told) (texts : Sequence (Sequence ℕ)) (before after : Counts)
+        → slice_get texts number ≡ Some bytes.now
+        → IfErr result (λ status. StopsParts told texts number before after status) }
 {
     match open_lib(bytes) {
         Ok(lib) => match add_members(alloc, &mut taken.members, &lib) {
@@ -73,7 +75,9 @@ fn take_library(
 fn check_object(bytes: &[u8], number: u16) -> Result<(), Status>
     requires { begins_library bytes.now ≡ false }
     ensures is_object { OnOk result ((object : Sequence ℕ) → object ≡ bytes.now → HasPart bytes.now (Part.Given object)) }
-    ensures stops { (told : Sequence Told) (texts : Sequence (Sequence ℕ)) (before after : Counts) → slice_get texts number ≡ Some bytes.now → IfErr result (λ status. StopsParts told texts number before after status) }
+    ensures stops { (told : Sequence Told) (texts : Sequence (Sequence ℕ)) (before after : Counts)
+        → slice_get texts number ≡ Some bytes.now
+        → IfErr result (λ status. StopsParts told texts number before after status) }
 {
     match View::open(bytes) {
         Ok(_) => Ok(()),
@@ -88,7 +92,9 @@ fn check_object(bytes: &[u8], number: u16) -> Result<(), Status>
 fn take_object(taken: &mut LinkFiles, bytes: Vec<u8>, number: u16) -> Result<(), Status>
     requires { begins_library bytes.items ≡ false }
     ensures took { OnOk result (TookFile bytes.items taken.old taken.new) }
-    ensures stops { (told : Sequence Told) (texts : Sequence (Sequence ℕ)) (before after : Counts) → slice_get texts number ≡ Some bytes.items → IfErr result (λ status. StopsParts told texts number before after status) }
+    ensures stops { (told : Sequence Told) (texts : Sequence (Sequence ℕ)) (before after : Counts)
+        → slice_get texts number ≡ Some bytes.items
+        → IfErr result (λ status. StopsParts told texts number before after status) }
 {
     match check_object(bytes.as_slice(), number) {
         Ok(()) => match taken.objects.push(List::of(bytes)) {
@@ -107,7 +113,9 @@ fn take_file(
     number: u16,
 ) -> Result<(), Status>
     ensures took { OnOk result (TookFile bytes.items taken.old taken.new) }
-    ensures stops { (told : Sequence Told) (texts : Sequence (Sequence ℕ)) (before after : Counts) → slice_get texts number ≡ Some bytes.items → IfErr result (λ status. StopsParts told texts number before after status) }
+    ensures stops { (told : Sequence Told) (texts : Sequence (Sequence ℕ)) (before after : Counts)
+        → slice_get texts number ≡ Some bytes.items
+        → IfErr result (λ status. StopsParts told texts number before after status) }
 {
     if begins_library(bytes.as_slice()) {
         take_library(alloc, taken, bytes.as_slice(), number)
@@ -124,7 +132,11 @@ fn read_link_file<F: Store>(
     number: u16,
     taken: &mut LinkFiles,
 ) -> Result<(), Status>
-    ensures taken { (told : Sequence Told) (parts : Sequence Part) → Takes object_limit HasPart told parts → AreFilesOf parts taken.old → length parts ≡ number → slice_get told number ≡ Some (F.file files.old name.now) → AnswersPart told parts (counts_at (F.faults files.old) (F.absences files.old)) (counts_at (F.faults files.new) (F.absences files.new)) taken.new result }
+    ensures taken { (told : Sequence Told) (parts : Sequence Part) → Takes object_limit HasPart told parts
+        → AreFilesOf parts taken.old → length parts ≡ number
+        → slice_get told number ≡ Some (F.file files.old name.now)
+        → AnswersPart told parts (counts_at (F.faults files.old) (F.absences files.old))
+        (counts_at (F.faults files.new) (F.absences files.new)) taken.new result }
     ensures stay { AllStay (F.file files.old) (F.file files.new) }
 {
     match read_bytes(alloc, files, name, number, LIMIT) {
@@ -141,7 +153,9 @@ pub fn read_link_files<F: Store>(
     names: &[&str],
 ) -> Result<LinkFiles, Status>
     requires { length names.now ≤ 200 }
-    ensures taken { AnswersParts (map (λ name. F.file files.old name.now) names.now) (counts_at (F.faults files.old) (F.absences files.old)) (counts_at (F.faults files.new) (F.absences files.new)) result }
+    ensures taken { AnswersParts (map (λ name. F.file files.old name.now) names.now)
+        (counts_at (F.faults files.old) (F.absences files.old))
+        (counts_at (F.faults files.new) (F.absences files.new)) result }
     ensures stay { AllStay (F.file files.old) (F.file files.new) }
 {
     let mut taken = LinkFiles {

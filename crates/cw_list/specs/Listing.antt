@@ -1,5 +1,6 @@
 -- The storage map as text.
-use Rattle.std.specs.Prelude.{ℕ, ◌+◌, ◌-◌, ◌/◌, ◌%◌, List, [], ◌∷◌, ◌++◌, flat_map, Bool, true, false, not, ◌&&◌, Option, None, Some, if◌then◌else◌, decimal, codes}
+use Rattle.std.specs.Prelude.{ℕ, ◌+◌, ◌-◌, ◌/◌, ◌%◌, List, [], ◌∷◌, ◌++◌, flat_map, Bool, true, false}
+use Rattle.std.specs.Prelude.{not, ◌&&◌, Option, None, Some, if◌then◌else◌, decimal, codes}
 use Rattle.std.specs.List.{filter}
 use Rattle.cw_unit.specs.declared.unit.ItemKind.{ItemKind}
 use Rattle.cw_unit.specs.declared.unit.ItemKind.TheVariants.{Single, Array, Table, Text, Loop}

@@ -1,5 +1,6 @@
 -- Lines of code as text that an assembler takes, with remarks in front of them and behind.
-use Rattle.std.specs.Prelude.{ℕ, ◌≡◌, ◌+◌, ◌==◌, nat_le, nat_lt, if◌then◌else◌, List, [], ◌∷◌, ◌++◌, take, drop, map, flat_map, slice_index, Option, None, Some, codes, decimal}
+use Rattle.std.specs.Prelude.{ℕ, ◌≡◌, ◌+◌, ◌==◌, nat_le, nat_lt, if◌then◌else◌, List, [], ◌∷◌, ◌++◌, take}
+use Rattle.std.specs.Prelude.{drop, map, flat_map, slice_index, Option, None, Some, codes, decimal}
 use Rattle.std.specs.List.{prefix_len}
 use Rattle.cw_i86.specs.declared.instr.Instr.{Instr}
 use Rattle.cw_dec86.specs.Rows.{word_at}

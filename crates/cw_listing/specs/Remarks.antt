@@ -1,5 +1,6 @@
 -- What is said of the places in linked code: of the run-time library, of segments with their statements, and of words.
-use Rattle.std.specs.Prelude.{ℕ, ◌+◌, ◌-◌, ◌%◌, not, ◌==◌, nat_le, nat_lt, if◌then◌else◌, List, [], ◌∷◌, ◌++◌, take, drop, length, map, flat_map, Option, None, Some, slice_get, slice_index, slice_index_or, codes, decimal}
+use Rattle.std.specs.Prelude.{ℕ, ◌+◌, ◌-◌, ◌%◌, not, ◌==◌, nat_le, nat_lt, if◌then◌else◌, List, [], ◌∷◌, ◌++◌, take, drop, length}
+use Rattle.std.specs.Prelude.{map, flat_map, Option, None, Some, slice_get, slice_index, slice_index_or, codes, decimal}
 use Rattle.std.specs.List.{prefix_len}
 use Rattle.cw_unit.specs.declared.unit.Unit.{Unit as SourceUnit}
 use Rattle.cw_unit.specs.declared.unit.Item.{Item}
@@ -181,7 +182,8 @@ descriptor_name (Some d) = d.name
 abbrev pub limit_names : List Text
 limit_names = codes "D" ∷ codes "F" ∷ codes "calls" ∷ codes "segment" ∷ []
 
--- What a relocated word means: the address of a word, or the word at a place in bytes; a place of the segment; what a descriptor names; an entry of the library;
+-- What a relocated word means: the address of a word, or the word at a place in bytes; a place of the segment; what a
+-- descriptor names; an entry of the library;
 -- a limit of the run; or the next segment.
 abbrev pub word_text : (start : ℕ) → SourceUnit → (roots : List ℕ) → Reloc → Text
 word_text start u roots r =

@@ -19,15 +19,18 @@ pub fn whole_code()
 
 /// The bytes that stand beside an instruction are its own.
 pub fn own_bytes()
-    ensures { (code words : List ℕ) (place : ℕ) (line : Line) (i : Instr) → IsLineAt code words place line → line.shown ≡ Instruction i → line_bytes code line ≡ bytes_of i }
+    ensures { (code words : List ℕ) (place : ℕ) (line : Line) (i : Instr) → IsLineAt code words place line
+        → line.shown ≡ Instruction i → line_bytes code line ≡ bytes_of i }
 {}
 
 /// The item by which the words of a family are named is one of this family.
 pub fn named_by_own()
-    ensures { (u : SourceUnit) (family item : ℕ) → slice_get (roots_of u) family ≡ Some item → (home : ℕ × ℕ) × (slice_get (layout_of u).homes item ≡ Some home) × (home.0 ≡ family) }
+    ensures { (u : SourceUnit) (family item : ℕ) → slice_get (roots_of u) family ≡ Some item
+        → (home : ℕ × ℕ) × (slice_get (layout_of u).homes item ≡ Some home) × (home.0 ≡ family) }
 {}
 
 /// At most one text is the listing of given code, of units with the code and the source text of each.
 pub fn one_listing()
-    ensures { (code : List ℕ) (us : List SourceUnit) (cs : List Code) (sources : List (List ℕ)) (text other : List ℕ) → IsCodeListing code us cs sources text → IsCodeListing code us cs sources other → text ≡ other }
+    ensures { (code : List ℕ) (us : List SourceUnit) (cs : List Code) (sources : List (List ℕ)) (text other : List ℕ)
+        → IsCodeListing code us cs sources text → IsCodeListing code us cs sources other → text ≡ other }
 {}

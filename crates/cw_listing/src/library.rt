@@ -2,7 +2,8 @@
 ghost use Rattle.std.specs.Prelude.{◌≡◌, ◌++◌, ◌≤◌, ◌-◌, ◌^◌, All, map, IfOk, OnOk};
 ghost use Rattle.cw_nasm.specs.Names.{name_in};
 ghost use Rattle.cw_tmpl.specs.Library.{library_entry};
-ghost use Rattle.cw_listing.specs.Remarks.{first_names, last_names, late_name, entry_name, words_behind, named_entries, library_text, place_or_none, entry_remark, library_remarks};
+ghost use Rattle.cw_listing.specs.Remarks.{first_names, last_names, late_name, entry_name, words_behind, named_entries};
+ghost use Rattle.cw_listing.specs.Remarks.{library_text, place_or_none, entry_remark, library_remarks};
 
 use crate::remark::Remark;
 use cw_nasm::add;

@@ -1,11 +1,13 @@
 //! Lines of code as text.
-ghost use Rattle.std.specs.Prelude.{◌≡◌, ◌+◌, ◌<◌, ◌≤◌, ◌++◌, length, drop, take, map, flat_map, All, IfOk, OnOk, List as Sequence, ℕ, codes, decimal, slice_index, ◌∷◌, []};
+ghost use Rattle.std.specs.Prelude.{◌≡◌, ◌+◌, ◌<◌, ◌≤◌, ◌++◌, length, drop, take, map, flat_map, All, IfOk};
+ghost use Rattle.std.specs.Prelude.{OnOk, List as Sequence, ℕ, codes, decimal, slice_index, ◌∷◌, []};
 ghost use Rattle.cw_i86.specs.Encoding.{IsInstr};
 ghost use Rattle.cw_dec86.specs.Rows.{word_at};
 ghost use Rattle.cw_nasm.specs.Operations.{named_place};
 ghost use Rattle.cw_nasm.specs.Assembly.{hex_byte};
 ghost use Rattle.cw_listing.specs.Lines.{is_among, IsShown, AreLines};
-ghost use Rattle.cw_listing.specs.Listing.{instruction_text, shown_text, label_line, spaced_hex, line_bytes, meaning, comment_text, line_text, remark_text, count_up_to, count_before, lines_text, begun_places, referred_places, listing, IsListing, head};
+ghost use Rattle.cw_listing.specs.Listing.{instruction_text, shown_text, label_line, spaced_hex, line_bytes, meaning, comment_text, line_text, remark_text};
+ghost use Rattle.cw_listing.specs.Listing.{count_up_to, count_before, lines_text, begun_places, referred_places, listing, IsListing, head};
 
 use crate::line::{Line, Shown};
 use crate::lines::lines_of;
@@ -278,7 +280,9 @@ fn add_code(
     lines: &[Line],
 ) -> Result<(), NoMemory>
     requires shown { All (λ l. IsShown l.shown) lines.now }
-    ensures { OnOk result (text.new.items ≡ text.old.items ++ lines_text code.now (begun_places lines.now) (referred_places lines.now) notes.now words.now lines.now) }
+    ensures { OnOk result (text.new.items ≡ text.old.items
+        ++ lines_text code.now (begun_places lines.now) (referred_places lines.now) notes.now words.now
+        lines.now) }
 {
     let begun = Places::new(alloc, begun_places(alloc, lines)?)?;
     let referred = Places::new(alloc, referred_places(alloc, lines)?)?;

@@ -1,6 +1,7 @@
 //! The remarks on a segment.
 ghost use Rattle.std.specs.Prelude.{◌≡◌, ◌≤◌, ◌%◌, ◌++◌, ◌∷◌, [], map, slice_get, IfOk, OnOk};
-ghost use Rattle.cw_listing.specs.Remarks.{segment_remark, procedure_name, procedure_remark, label_line_of, label_remark, switch_remark, numbered, placed, line_starts, statement_text, statement_remark, statement_remarks, segment_remarks};
+ghost use Rattle.cw_listing.specs.Remarks.{segment_remark, procedure_name, procedure_remark, label_line_of, label_remark, switch_remark, numbered};
+ghost use Rattle.cw_listing.specs.Remarks.{placed, line_starts, statement_text, statement_remark, statement_remarks, segment_remarks};
 
 use crate::remark::Remark;
 use crate::source::{add_source_line, line_starts};

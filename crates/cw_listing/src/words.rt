@@ -5,7 +5,8 @@ ghost use Rattle.cw_unit.specs.Storage.{layout_of};
 ghost use Rattle.cw_list.specs.Listing.{segment_owner, unnamed, name_or_line};
 ghost use Rattle.cw_list.specs.Rows.{is_common, owner_of};
 ghost use Rattle.cw_nasm.specs.Names.{name_in};
-ghost use Rattle.cw_listing.specs.Remarks.{roots_from, roots_of, item_owner, item_name, offset_text, word_name, descriptor_name, limit_names, word_text, word_remark, word_remarks, words_behind, words_behind_call, data_places};
+ghost use Rattle.cw_listing.specs.Remarks.{roots_from, roots_of, item_owner, item_name, offset_text, word_name, descriptor_name, limit_names};
+ghost use Rattle.cw_listing.specs.Remarks.{word_text, word_remark, word_remarks, words_behind, words_behind_call, data_places};
 
 use crate::library::{add_library_text, words_behind};
 use crate::remark::Remark;

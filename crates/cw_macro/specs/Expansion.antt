@@ -1,5 +1,6 @@
 -- Macro expansion. Official Definition of CORAL 66, "Macro facility"; the levels, the limits and the order of the faults are this project's profile.
-use Rattle.std.specs.Prelude.{◌≡◌, ℕ, zero, suc, ◌+◌, ◌-◌, Bool, true, false, not, ◌==◌, ◌&&◌, nat_lt, nat_le, max, List, [], ◌∷◌, ◌++◌, length, take, drop, map, Option, Some, None, Result, Ok, Err, if◌then◌else◌}
+use Rattle.std.specs.Prelude.{◌≡◌, ℕ, zero, suc, ◌+◌, ◌-◌, Bool, true, false, not, ◌==◌, ◌&&◌, nat_lt, nat_le, max, List, []}
+use Rattle.std.specs.Prelude.{◌∷◌, ◌++◌, length, take, drop, map, Option, Some, None, Result, Ok, Err, if◌then◌else◌}
 use Rattle.std.specs.List.{list_any, flat_map, slice_get}
 use Rattle.std.specs.Option.{option_map, option_map_or, is_some}
 use Rattle.std.specs.Str.{bytes_eq, str_to_ascii_uppercase}
@@ -41,7 +42,8 @@ Definitions = List ℕ → Option Macro
 abbrev pub redefined : Definitions → List ℕ → Option Macro → Definitions
 redefined definitions name macro n = if bytes_eq name n then macro else definitions n
 
--- The tokens done, the definitions in force, and the tokens left; and how many tokens the text has, with one and the tokens of its replacement for each replaced call.
+-- The tokens done, the definitions in force, and the tokens left; and how many tokens the text has, with one and the
+-- tokens of its replacement for each replaced call.
 pub record Expansion : Type 0 where
   pub done : List Lexeme
   pub definitions : Definitions
@@ -112,7 +114,8 @@ parameters_if_any (t ∷ rest) = if is_open t.lexeme.kind then parameters [] res
 -- the string and the semicolon behind the parameters
 abbrev pub closed : ℕ → List ℕ → Option (List (List ℕ) × List Leveled) → Option (Heading × List Leveled)
 closed line name (Some (ps, string ∷ mark ∷ rest)) =
-    if is_string string.lexeme.kind && is_semicolon mark.lexeme.kind then Some (record { line = line; name = name; parameters = ps; string = string.lexeme }, rest) else None
+    if is_string string.lexeme.kind && is_semicolon mark.lexeme.kind
+    then Some (record { line = line; name = name; parameters = ps; string = string.lexeme }, rest) else None
 closed line name _ = None
 
 -- what stands behind DEFINE, up to its semicolon, and the tokens behind that
@@ -140,7 +143,8 @@ pub record HasBody (string : Lexeme) (body : List Lexeme) : Type 0 where
 -- The string's body has a fault, or a DEFINE or DELETE.
 pub data HasNoBody (string : Lexeme) : Type 0 where
   faulty : {fault : LexFault} → IsFirstFault MacroBody (body_place string) (body_text string) fault → HasNoBody string
-  redefining : {body : List Lexeme} → Tokenizes MacroBody (body_place string) (body_text string) body → list_any (λ t. defines t.kind) body ≡ true → HasNoBody string
+  redefining : {body : List Lexeme} → Tokenizes MacroBody (body_place string) (body_text string) body
+      → list_any (λ t. defines t.kind) body ≡ true → HasNoBody string
 
 abbrev pub part_if_any : Lexeme → Option ℕ → BodyPart
 part_if_any t None = Own t
@@ -155,7 +159,8 @@ macro_of ps body = record { parameters = length ps; body = map (part ps) body }
 
 -- ---- calls
 
--- What a token is inside an argument, behind the innermost bracket that is open in it: brackets are nested, and a comma or a closing bracket outside them ends the argument.
+-- What a token is inside an argument, behind the innermost bracket that is open in it: brackets are nested, and a
+-- comma or a closing bracket outside them ends the argument.
 abbrev pub role_of : Option Bracket → TokenKind → Role
 role_of None (kinds.Symbol symbols.Comma) = Separates
 role_of None (kinds.Symbol symbols.Close) = Ends
@@ -238,7 +243,8 @@ pub data Step : Type 0 where
 
 -- A token moves to the tokens done, of which there are MOST_TOKENS at most.
 abbrev pub moving : Expansion → Leveled → List Leveled → Step
-moving e t rest = if nat_lt (length e.done) MOST_TOKENS then Moved (record e { done = e.done ++ t.lexeme ∷ []; left = rest }) else Refused (faults.TooLong t.lexeme.line)
+moving e t rest = if nat_lt (length e.done) MOST_TOKENS
+    then Moved (record e { done = e.done ++ t.lexeme ∷ []; left = rest }) else Refused (faults.TooLong t.lexeme.line)
 
 abbrev pub defining : ℕ → Option (Heading × List Leveled) → Step
 defining line None = Refused (faults.BadDefine line)
@@ -253,7 +259,9 @@ removing e line name (Some m) rest = Moved (record e { definitions = redefined e
 
 abbrev pub deleting : Expansion → ℕ → List Leveled → Step
 deleting e line (name ∷ mark ∷ rest) =
-    if is_name name.lexeme.kind && is_semicolon mark.lexeme.kind then removing e line (name_of name.lexeme) (e.definitions (name_of name.lexeme)) rest else Refused (faults.BadDefine line)
+    if is_name name.lexeme.kind && is_semicolon mark.lexeme.kind
+    then removing e line (name_of name.lexeme) (e.definitions (name_of name.lexeme)) rest
+    else Refused (faults.BadDefine line)
 deleting e line _ = Refused (faults.BadDefine line)
 
 -- The replacement of a call goes in front of the tokens left.
@@ -288,8 +296,11 @@ pub data Leads : Expansion → Result (List Lexeme) MacroFault → Type 0 where
   finished : {e : Expansion} → expansion_step e ≡ Finished → Leads e (Ok e.done)
   refused : {e : Expansion} {fault : MacroFault} → expansion_step e ≡ Refused fault → Leads e (Err fault)
   moved : {e next : Expansion} {r : Result (List Lexeme) MacroFault} → expansion_step e ≡ Moved next → Leads next r → Leads e r
-  with_body : {e : Expansion} {h : Heading} {rest : List Leveled} {body : List Lexeme} {r : Result (List Lexeme) MacroFault} → expansion_step e ≡ Defining h rest → HasBody h.string body → Leads (defined e h rest body) r → Leads e r
-  no_body : {e : Expansion} {h : Heading} {rest : List Leveled} → expansion_step e ≡ Defining h rest → HasNoBody h.string → Leads e (Err (faults.BadDefine h.line))
+  with_body : {e : Expansion} {h : Heading} {rest : List Leveled} {body : List Lexeme}
+      {r : Result (List Lexeme) MacroFault} → expansion_step e ≡ Defining h rest → HasBody h.string body
+      → Leads (defined e h rest body) r → Leads e r
+  no_body : {e : Expansion} {h : Heading} {rest : List Leveled} → expansion_step e ≡ Defining h rest
+      → HasNoBody h.string → Leads e (Err (faults.BadDefine h.line))
 
 abbrev pub of_text : Lexeme → Leveled
 of_text t = record { lexeme = t; level = 0 }

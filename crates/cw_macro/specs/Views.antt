@@ -20,7 +20,8 @@ use Rattle.cw_macro.specs.declared.definition.Macro.{Macro}
 use Rattle.cw_macro.specs.declared.definition.Definitions.{Definitions}
 use Rattle.cw_macro.specs.declared.definition.Parameters.{Parameters}
 use Rattle.cw_macro.specs.declared.definition.Heading.{Heading as HeadingRead}
-use Rattle.cw_macro.specs.Expansion.{Leveled, BodyPart, Own, Parameter, Macro as MacroOf, Definitions as Table, Heading, number_of, part, HasBody, HasNoBody, GivenArguments, Expansion, Step, Moved, Refused, Defining, defined}
+use Rattle.cw_macro.specs.Expansion.{Leveled, BodyPart, Own, Parameter, Macro as MacroOf, Definitions as Table, Heading, number_of, part}
+use Rattle.cw_macro.specs.Expansion.{HasBody, HasNoBody, GivenArguments, Expansion, Step, Moved, Refused, Defining, defined}
 use Rattle.cw_macro.specs.declared.fault.TheConstants.{MOST_REPLACED}
 use Rattle.cw_macro.specs.declared.fault.MacroFault.{MacroFault}
 use Rattle.cw_macro.specs.declared.fault.MacroFault.TheVariants as faults
@@ -95,7 +96,8 @@ expansion_of e = record { done = map view e.done; definitions = table_of e.defin
 -- What a step leads to,
 pub data Follows (e : Expansion) (step : Step) (next : Expansion) : Type 0 where
   moves : step ≡ Moved next → Follows e step next
-  defines : {h : Heading} {rest : List Leveled} {body : List Lexeme} → step ≡ Defining h rest → HasBody h.string body → next ≡ defined e h rest body → Follows e step next
+  defines : {h : Heading} {rest : List Leveled} {body : List Lexeme} → step ≡ Defining h rest → HasBody h.string body
+      → next ≡ defined e h rest body → Follows e step next
 
 -- and its fault.
 pub data Faults (step : Step) (fault : MacroFault) : Type 0 where

@@ -91,7 +91,8 @@ fn read_arguments<'a>(
     alloc: Global,
     left: &mut Left<'a>,
 ) -> Result<Option<List<List<Item<'a>>>>, NoMemory>
-    ensures { IfOk result (λ read. MatchOption read (arguments [] (left_of left.old) ≡ None) (λ given. IsGiven (lists_of given) (left_of left.new) (arguments [] (left_of left.old)))) }
+    ensures { IfOk result (λ read. MatchOption read (arguments [] (left_of left.old) ≡ None)
+        (λ given. IsGiven (lists_of given) (left_of left.new) (arguments [] (left_of left.old)))) }
 {
     let mut given = List::new(alloc);
     let mut argument = List::new(alloc);
@@ -118,7 +119,8 @@ pub(crate) fn read_argument_list<'a>(
     parameters: usize,
     left: &mut Left<'a>,
 ) -> Result<Option<List<List<Item<'a>>>>, NoMemory>
-    ensures { IfOk result (λ read. MatchOption read (argument_list parameters (left_of left.old) ≡ None) (λ given. argument_list parameters (left_of left.old) ≡ Some (lists_of given, left_of left.new))) }
+    ensures { IfOk result (λ read. MatchOption read (argument_list parameters (left_of left.old) ≡ None)
+        (λ given. argument_list parameters (left_of left.old) ≡ Some (lists_of given, left_of left.new))) }
 {
     if parameters == 0 {
         return Ok(Some(List::new(alloc)));

@@ -1,11 +1,13 @@
 //! Definitions: their headings, their bodies, and the table of those in force.
-ghost use Rattle.std.specs.Prelude.{◌≡◌, ◌∷◌, [], ◌<◌, ◌≤◌, ℕ, length, map, List as Sequence, MatchOption, OnOk, IfOk, IfSome, slice_get, Some, None, not, true, ◌++◌, ◌+◌};
+ghost use Rattle.std.specs.Prelude.{◌≡◌, ◌∷◌, [], ◌<◌, ◌≤◌, ℕ, length, map, List as Sequence, MatchOption};
+ghost use Rattle.std.specs.Prelude.{OnOk, IfOk, IfSome, slice_get, Some, None, not, true, ◌++◌, ◌+◌};
 ghost use Rattle.std.specs.List.{list_any, flat_map};
 ghost use Rattle.std.specs.Option.{option_copied, option_map, is_some};
 ghost use Rattle.std.specs.Str.{str_to_ascii_uppercase};
 ghost use Rattle.cw_lex.specs.Lexical.{view, is_semicolon};
 ghost use Rattle.cw_word.specs.Name.{IsName};
-ghost use Rattle.cw_macro.specs.Expansion.{defines, is_name, is_string, quote_length, part, part_if_any, Parameter, redefined, number_of, parameters as parameters_behind, heading_of, parameters_if_any};
+ghost use Rattle.cw_macro.specs.Expansion.{defines, is_name, is_string, quote_length, part, part_if_any, Parameter, redefined};
+ghost use Rattle.cw_macro.specs.Expansion.{number_of, parameters as parameters_behind, heading_of, parameters_if_any};
 ghost use Rattle.cw_macro.specs.Premises.{Each, IsWithin, IsPlaced};
 ghost use Rattle.cw_macro.specs.Views.{left_of, run_parts, IsRun, parts_of, macro_view, table_of, IsNumbering, HasParameters, HasHeading, IsBodyRead};
 
@@ -19,7 +21,8 @@ use std::alloc::Global;
 use std::collections::BTreeMap;
 use std::mem;
 
-/// A run of parameters in a body. Each is the place of its number in the list of the run's numbers, so that a look at these tells whether the run brings anything.
+/// A run of parameters in a body. Each is the place of its number in the list of the run's numbers, so that a look at
+/// these tells whether the run brings anything.
 #[derive(Drop)]
 pub(crate) struct Run {
     pub(crate) numbers: List<usize>,
@@ -129,8 +132,10 @@ impl Parameters {
     // Adds a name, and says whether it is new.
     fn add(&mut self, name: &[u8]) -> Result<bool, NoMemory>
         requires { IsName (str_to_ascii_uppercase name.now) }
-        ensures is_new { (names : Sequence (Sequence ℕ)) → IsNumbering self.old names → IfOk result (λ new. new ≡ not (is_some (number_of (str_to_ascii_uppercase name.now) names))) }
-        ensures added { (names : Sequence (Sequence ℕ)) → IsNumbering self.old names → IfOk result (λ new. new ≡ true → IsNumbering self.new (names ++ str_to_ascii_uppercase name.now ∷ [])) }
+        ensures is_new { (names : Sequence (Sequence ℕ)) → IsNumbering self.old names
+            → IfOk result (λ new. new ≡ not (is_some (number_of (str_to_ascii_uppercase name.now) names))) }
+        ensures added { (names : Sequence (Sequence ℕ)) → IsNumbering self.old names
+            → IfOk result (λ new. new ≡ true → IsNumbering self.new (names ++ str_to_ascii_uppercase name.now ∷ [])) }
     {
         let number = self.numbers.len();
         match self.numbers.insert(key_of(name), number) {
@@ -161,7 +166,8 @@ pub(crate) fn is_semicolon(kind: TokenKind) -> bool
 // The parameters behind an opening bracket, up to the closing one.
 fn read_parameters(alloc: Global, left: &mut Left<'_>) -> Result<Option<Parameters>, NoMemory>
     requires { Each IsPlaced (left_of left.old) }
-    ensures { IfOk result (λ read. MatchOption read (parameters_behind [] (left_of left.old) ≡ None) (λ p. HasParameters p (parameters_behind [] (left_of left.old)) (left_of left.new))) }
+    ensures { IfOk result (λ read. MatchOption read (parameters_behind [] (left_of left.old) ≡ None)
+        (λ p. HasParameters p (parameters_behind [] (left_of left.old)) (left_of left.new))) }
 {
     let mut parameters = Parameters::new(alloc);
     while let Some((name, mark)) = left.take_pair() {
@@ -183,7 +189,8 @@ fn read_parameters_if_any(
     left: &mut Left<'_>,
 ) -> Result<Option<Parameters>, NoMemory>
     requires { Each IsPlaced (left_of left.old) }
-    ensures { IfOk result (λ read. MatchOption read (parameters_if_any (left_of left.old) ≡ None) (λ p. HasParameters p (parameters_if_any (left_of left.old)) (left_of left.new))) }
+    ensures { IfOk result (λ read. MatchOption read (parameters_if_any (left_of left.old) ≡ None)
+        (λ p. HasParameters p (parameters_if_any (left_of left.old)) (left_of left.new))) }
 {
     match left.first() {
         Some(item) if is_open(item.token.kind) => {
@@ -200,7 +207,8 @@ pub(crate) fn read_heading<'a>(
     left: &mut Left<'a>,
 ) -> Result<Option<Heading<'a>>, NoMemory>
     requires { Each IsPlaced (left_of left.old) }
-    ensures { IfOk result (λ read. MatchOption read ((line : ℕ) → heading_of line (left_of left.old) ≡ None) (λ h. HasHeading h (λ line. heading_of line (left_of left.old)) (left_of left.new))) }
+    ensures { IfOk result (λ read. MatchOption read ((line : ℕ) → heading_of line (left_of left.old) ≡ None)
+        (λ h. HasHeading h (λ line. heading_of line (left_of left.old)) (left_of left.new))) }
 {
     let Some(name) = left.take() else {
         return Ok(None);
@@ -305,7 +313,8 @@ fn add_token<'a>(
     number: Option<usize>,
 ) -> Result<(), NoMemory>
     requires { IsRun run.old }
-    ensures added { OnOk result (flat_map parts_of body.new ++ run_parts run.new ≡ (flat_map parts_of body.old ++ run_parts run.old) ++ part_if_any (view token.entry) number ∷ []) }
+    ensures added { OnOk result (flat_map parts_of body.new ++ run_parts run.new
+        ≡ (flat_map parts_of body.old ++ run_parts run.old) ++ part_if_any (view token.entry) number ∷ []) }
     ensures is_run { OnOk result (IsRun run.new) }
 {
     match number {
@@ -331,7 +340,8 @@ fn pieces<'a>(
     parameters: &Parameters,
 ) -> Result<List<Piece<'a>>, NoMemory>
     requires { Each IsWithin (map view tokens.now) }
-    ensures { (names : Sequence (Sequence ℕ)) → IsNumbering parameters.now names → IfOk result (λ body. flat_map parts_of body ≡ map (part names) (map view tokens.now)) }
+    ensures { (names : Sequence (Sequence ℕ)) → IsNumbering parameters.now names
+        → IfOk result (λ body. flat_map parts_of body ≡ map (part names) (map view tokens.now)) }
 {
     let mut body = List::new(alloc);
     let mut run = Run::new(alloc);

@@ -3,9 +3,11 @@ ghost use Rattle.std.specs.Prelude.{◌≡◌, ◌∷◌, [], ◌++◌, ◌+◌,
 ghost use Rattle.std.specs.List.{flat_map, list_all};
 ghost use Rattle.cw_lex.specs.Lexical.{view};
 ghost use Rattle.cw_word.specs.Name.{IsName};
-ghost use Rattle.cw_macro.specs.Expansion.{Expansion as ExpansionOf, brought, replacement, tokens_of, Parameter, step_at, moving, defining, heading_of, deleting, naming, name_of, start, IsExpansion};
+ghost use Rattle.cw_macro.specs.Expansion.{Expansion as ExpansionOf, brought, replacement, tokens_of, Parameter, step_at};
+ghost use Rattle.cw_macro.specs.Expansion.{moving, defining, heading_of, deleting, naming, name_of, start, IsExpansion};
 ghost use Rattle.cw_macro.specs.Premises.{Each, IsPlaced, AreOfText};
-ghost use Rattle.cw_macro.specs.Views.{left_of, leveled, lists_of, picked, parts_at, parts_of, is_nil, within_limit, macro_view, table_of, expansion_of, IsMade, IsCounted};
+ghost use Rattle.cw_macro.specs.Views.{left_of, leveled, lists_of, picked, parts_at, parts_of, is_nil, within_limit};
+ghost use Rattle.cw_macro.specs.Views.{macro_view, table_of, expansion_of, IsMade, IsCounted};
 
 use crate::arguments::read_argument_list;
 use crate::definition::{
@@ -73,7 +75,9 @@ fn put_pick<'a>(
     arguments: &[List<Item<'a>>],
 ) -> Result<(), NoMemory>
     requires { call.level < MOST_LEVELS }
-    ensures { OnOk result (left_of left.new ≡ replacement (leveled call.entry) (picked (slice_get numbers.now pick)) (lists_of arguments.now) ++ left_of left.old) }
+    ensures { OnOk result (left_of left.new
+        ≡ replacement (leveled call.entry) (picked (slice_get numbers.now pick)) (lists_of arguments.now)
+        ++ left_of left.old) }
 {
     match numbers.get(pick) {
         Some(number) => put_parameter(left, call, *number, arguments),
@@ -258,7 +262,9 @@ fn call<'a>(
     definition: &Macro<'a>,
 ) -> Result<usize, MacroFault>
     requires { count < 2 ^ 63 }
-    ensures { (e : ExpansionOf) → e.count ≡ count → IsCounted e (naming e (leveled item.entry) (Some (macro_view definition.now)) (left_of left.old)) result (left_of left.new) }
+    ensures { (e : ExpansionOf) → e.count ≡ count
+        → IsCounted e (naming e (leveled item.entry) (Some (macro_view definition.now)) (left_of left.old)) result
+        (left_of left.new) }
 {
     let line = item.token.line;
     if item.level >= MOST_LEVELS {
@@ -349,7 +355,9 @@ impl<'a> Expansion<'a> {
     fn name(&mut self, alloc: Global, item: Item<'a>) -> Result<(), MacroFault>
         requires is_name { IsName (name_of (view item.token)) }
         requires small { self.old.count < 2 ^ 63 }
-        ensures { let e = expansion_of self.old in IsMade e (naming e (leveled item.entry) (e.definitions (name_of (view item.entry.token))) e.left) result (expansion_of self.new) }
+        ensures { let e = expansion_of self.old
+            in IsMade e (naming e (leveled item.entry) (e.definitions (name_of (view item.entry.token))) e.left)
+            result (expansion_of self.new) }
     {
         match self.definitions.get(item.token.text) {
             Some(definition) => {

@@ -5,7 +5,8 @@
 //! An argument is any tokens, perhaps none, in which round and square brackets are nested; commas outside these separate arguments. Names compare without case.
 //! Strings and literals of a body stay as they are.
 //!
-//! The tokens of the text have level 0. A call at level k brings the tokens of its body at level k + 1 and those of its arguments at the larger of their own and k + 1;
+//! The tokens of the text have level 0. A call at level k brings the tokens of its body at level k + 1 and those of
+//! its arguments at the larger of their own and k + 1;
 //! at level 32 it is refused. What a call brings has the call's line, and stays the slice of the source that it is. `specs/Expansion.antt` is the definition.
 #![tactic(auto)]
 

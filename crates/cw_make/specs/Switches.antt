@@ -64,22 +64,28 @@ module _ (named : Named) (numbers : Numbers) where
   statement_step s q = s.form q
 
   abbrev pub declaration_switches : RawDecl → Switches
-  declaration_switches = fold-RawDecl Switches Switches Switches Switches Switches Switches declaration_step form_step simple_step block_step procedure_step statement_step
+  declaration_switches = fold-RawDecl Switches Switches Switches Switches Switches Switches declaration_step
+      form_step simple_step block_step procedure_step statement_step
 
   abbrev pub form_switches : RawForm → Switches
-  form_switches = fold-RawForm Switches Switches Switches Switches Switches Switches declaration_step form_step simple_step block_step procedure_step statement_step
+  form_switches = fold-RawForm Switches Switches Switches Switches Switches Switches declaration_step form_step
+      simple_step block_step procedure_step statement_step
 
   abbrev pub simple_switches : RawSimple → Switches
-  simple_switches = fold-RawSimple Switches Switches Switches Switches Switches Switches declaration_step form_step simple_step block_step procedure_step statement_step
+  simple_switches = fold-RawSimple Switches Switches Switches Switches Switches Switches declaration_step form_step
+      simple_step block_step procedure_step statement_step
 
   abbrev pub block_switches : RawBlock → Switches
-  block_switches = fold-RawBlock Switches Switches Switches Switches Switches Switches declaration_step form_step simple_step block_step procedure_step statement_step
+  block_switches = fold-RawBlock Switches Switches Switches Switches Switches Switches declaration_step form_step
+      simple_step block_step procedure_step statement_step
 
   abbrev pub procedure_switches : RawProc → Switches
-  procedure_switches = fold-RawProc Switches Switches Switches Switches Switches Switches declaration_step form_step simple_step block_step procedure_step statement_step
+  procedure_switches = fold-RawProc Switches Switches Switches Switches Switches Switches declaration_step form_step
+      simple_step block_step procedure_step statement_step
 
   abbrev pub statement_switches : RawStmt → Switches
-  statement_switches = fold-RawStmt Switches Switches Switches Switches Switches Switches declaration_step form_step simple_step block_step procedure_step statement_step
+  statement_switches = fold-RawStmt Switches Switches Switches Switches Switches Switches declaration_step form_step
+      simple_step block_step procedure_step statement_step
 
   abbrev pub switches_of : Raw → List Switch
   switches_of raw = block_switches raw.block None

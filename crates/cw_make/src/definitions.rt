@@ -2,7 +2,8 @@
 ghost use Rattle.std.specs.Prelude.{◌≡◌, ◌++◌, ◌∷◌, [], IfOk, OnOk};
 ghost use Rattle.cw_table.specs.Rows.{item_at};
 ghost use Rattle.cw_facts.specs.declared.fact.Fact.{out-Fact};
-ghost use Rattle.cw_make.specs.Definitions.{declared_by, all_declared, inside, inside_first, outermost_declared, def_in, def_if, def_by, def_named, def_of, defs_from, defined_of};
+ghost use Rattle.cw_make.specs.Definitions.{declared_by, all_declared, inside, inside_first, outermost_declared};
+ghost use Rattle.cw_make.specs.Definitions.{def_in, def_if, def_by, def_named, def_of, defs_from, defined_of};
 
 use cw_facts::fact::{Declaration, Fact};
 use cw_facts::statements::block_facts;

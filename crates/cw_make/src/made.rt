@@ -55,8 +55,13 @@ struct Storage {
 }
 
 fn storage_of(alloc: Global, named: &Named, numbers: &Table<Numbered>) -> Result<Storage, NoMemory>
-    ensures descs { IfOk result (λ s. s.descs ≡ descs_of numbers.now (listed_of named.now.raw.now) (text_things named.now named.now.raw.now) named.now.raw.now.comms) }
-    ensures items { IfOk result (λ s. s.items ≡ items_of named.now.declarations numbers.now (listed_of named.now.raw.now) (addresses_of named.now.raw.now.comms) (held_of named.now.raw.now) (text_things named.now named.now.raw.now)) }
+    ensures descs { IfOk result (λ s. s.descs
+        ≡ descs_of numbers.now (listed_of named.now.raw.now) (text_things named.now named.now.raw.now)
+        named.now.raw.now.comms) }
+    ensures items { IfOk result (λ s. s.items
+        ≡ items_of named.now.declarations numbers.now (listed_of named.now.raw.now)
+        (addresses_of named.now.raw.now.comms) (held_of named.now.raw.now)
+        (text_things named.now named.now.raw.now)) }
 {
     let lists = named.raw.comms.as_slice();
     let things = text_things(alloc, named, named.raw)?;

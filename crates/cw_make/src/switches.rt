@@ -1,6 +1,7 @@
 //! The switches of a text.
 ghost use Rattle.std.specs.Prelude.{◌≡◌, ◌++◌, IfOk, OnOk};
-ghost use Rattle.cw_make.specs.Switches.{joined, switches_if, goals_of, declaration_switches, form_switches, simple_switches, block_switches, procedure_switches, statement_switches, switches_of};
+ghost use Rattle.cw_make.specs.Switches.{joined, switches_if, goals_of, declaration_switches, form_switches, simple_switches};
+ghost use Rattle.cw_make.specs.Switches.{block_switches, procedure_switches, statement_switches, switches_of};
 
 use cw_make_items::lookup::{goal_of, proc_here};
 use cw_number::numbered::Numbered;

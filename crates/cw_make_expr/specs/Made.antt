@@ -7,7 +7,8 @@ use Rattle.cw_tree.specs.declared.leaf.RawSign.{RawSign}
 use Rattle.cw_tree.specs.declared.leaf.RawFactorSign.{RawFactorSign}
 use Rattle.cw_tree.specs.declared.expression.RawBits.{RawBits}
 use Rattle.cw_tree.specs.declared.expression.RawExpr.TheOpen as layer
-use Rattle.cw_tree.specs.declared.expression.RawExpr.TheOpen.{RawPrimary-F, RawRef-F, RawCand-F, RawCmp-F, RawCond-F, RawDiffer-F, RawMask-F, RawPrim-F, RawSum-F, RawTerm-F, RawUnion-F}
+use Rattle.cw_tree.specs.declared.expression.RawExpr.TheOpen.{RawPrimary-F, RawRef-F, RawCand-F, RawCmp-F, RawCond-F, RawDiffer-F}
+use Rattle.cw_tree.specs.declared.expression.RawExpr.TheOpen.{RawMask-F, RawPrim-F, RawSum-F, RawTerm-F, RawUnion-F}
 use Rattle.cw_tree.specs.declared.expression.RawExpr.{RawExpr, RawExpr-F, fold-RawExpr}
 use Rattle.cw_tree.specs.declared.expression.RawPrimary.{RawPrimary, fold-RawPrimary}
 use Rattle.cw_tree.specs.declared.expression.RawRef.{RawRef, fold-RawRef}
@@ -35,8 +36,10 @@ use Rattle.cw_unit.specs.declared.unit.Arg.{Arg}
 use Rattle.cw_unit.specs.declared.unit.Ref.{Ref}
 use Rattle.cw_unit.specs.declared.unit.Spot.{Spot, roll-Spot}
 use Rattle.cw_unit.specs.declared.unit.Arg.TheOpen as unit_layer
-use Rattle.cw_make_expr.specs.Nodes.{number, nothing, constant, string, read, call, force, locate, bits, logic, minus, added, multiplied, choice, comparator, comparison, no_condition, both, either, reference, value_argument, place_argument, whole_part, whole_part_if}
-use Rattle.cw_make_expr.specs.Parts.{Numbers, within, number_of, item_in, item_here, params_of, is_called, target_of, handed, no_argument, named_spot, field_of, indexed_spot, twice_indexed_spot}
+use Rattle.cw_make_expr.specs.Nodes.{number, nothing, constant, string, read, call, force, locate, bits, logic, minus, added, multiplied, choice, comparator}
+use Rattle.cw_make_expr.specs.Nodes.{comparison, no_condition, both, either, reference, value_argument, place_argument, whole_part, whole_part_if}
+use Rattle.cw_make_expr.specs.Parts.{Numbers, within, number_of, item_in, item_here, params_of, is_called, target_of}
+use Rattle.cw_make_expr.specs.Parts.{handed, no_argument, named_spot, field_of, indexed_spot, twice_indexed_spot}
 
 -- Of an expression: its tree, where it is an operand of `*`, `/`, word logic or BITS and where it is not, and what it is as an argument
 -- that is no value and no place, if it is a name by itself.
@@ -244,40 +247,64 @@ module _ (named : Named) (numbers : Numbers) where
   union_step e = logic_of logic_op.Union e.operands
 
   abbrev pub expression_made : RawExpr → Made
-  expression_made = fold-RawExpr Made Made Placed Cond Cond Cond Made Made Made Made Made Made expression_step primary_step reference_step conjunction_step comparison_step condition_step differ_step mask_step prim_step sum_step term_step union_step
+  expression_made = fold-RawExpr Made Made Placed Cond Cond Cond Made Made Made Made Made Made expression_step
+      primary_step reference_step conjunction_step comparison_step condition_step differ_step mask_step prim_step
+      sum_step term_step union_step
 
   abbrev pub primary_made : RawPrimary → Made
-  primary_made = fold-RawPrimary Made Made Placed Cond Cond Cond Made Made Made Made Made Made expression_step primary_step reference_step conjunction_step comparison_step condition_step differ_step mask_step prim_step sum_step term_step union_step
+  primary_made = fold-RawPrimary Made Made Placed Cond Cond Cond Made Made Made Made Made Made expression_step
+      primary_step reference_step conjunction_step comparison_step condition_step differ_step mask_step prim_step
+      sum_step term_step union_step
 
   abbrev pub reference_made : RawRef → Placed
-  reference_made = fold-RawRef Made Made Placed Cond Cond Cond Made Made Made Made Made Made expression_step primary_step reference_step conjunction_step comparison_step condition_step differ_step mask_step prim_step sum_step term_step union_step
+  reference_made = fold-RawRef Made Made Placed Cond Cond Cond Made Made Made Made Made Made expression_step
+      primary_step reference_step conjunction_step comparison_step condition_step differ_step mask_step prim_step
+      sum_step term_step union_step
 
   abbrev pub conjunction_made : RawCand → Cond
-  conjunction_made = fold-RawCand Made Made Placed Cond Cond Cond Made Made Made Made Made Made expression_step primary_step reference_step conjunction_step comparison_step condition_step differ_step mask_step prim_step sum_step term_step union_step
+  conjunction_made = fold-RawCand Made Made Placed Cond Cond Cond Made Made Made Made Made Made expression_step
+      primary_step reference_step conjunction_step comparison_step condition_step differ_step mask_step prim_step
+      sum_step term_step union_step
 
   abbrev pub comparison_made : RawCmp → Cond
-  comparison_made = fold-RawCmp Made Made Placed Cond Cond Cond Made Made Made Made Made Made expression_step primary_step reference_step conjunction_step comparison_step condition_step differ_step mask_step prim_step sum_step term_step union_step
+  comparison_made = fold-RawCmp Made Made Placed Cond Cond Cond Made Made Made Made Made Made expression_step
+      primary_step reference_step conjunction_step comparison_step condition_step differ_step mask_step prim_step
+      sum_step term_step union_step
 
   abbrev pub condition_made : RawCond → Cond
-  condition_made = fold-RawCond Made Made Placed Cond Cond Cond Made Made Made Made Made Made expression_step primary_step reference_step conjunction_step comparison_step condition_step differ_step mask_step prim_step sum_step term_step union_step
+  condition_made = fold-RawCond Made Made Placed Cond Cond Cond Made Made Made Made Made Made expression_step
+      primary_step reference_step conjunction_step comparison_step condition_step differ_step mask_step prim_step
+      sum_step term_step union_step
 
   abbrev pub differ_made : RawDiffer → Made
-  differ_made = fold-RawDiffer Made Made Placed Cond Cond Cond Made Made Made Made Made Made expression_step primary_step reference_step conjunction_step comparison_step condition_step differ_step mask_step prim_step sum_step term_step union_step
+  differ_made = fold-RawDiffer Made Made Placed Cond Cond Cond Made Made Made Made Made Made expression_step
+      primary_step reference_step conjunction_step comparison_step condition_step differ_step mask_step prim_step
+      sum_step term_step union_step
 
   abbrev pub mask_made : RawMask → Made
-  mask_made = fold-RawMask Made Made Placed Cond Cond Cond Made Made Made Made Made Made expression_step primary_step reference_step conjunction_step comparison_step condition_step differ_step mask_step prim_step sum_step term_step union_step
+  mask_made = fold-RawMask Made Made Placed Cond Cond Cond Made Made Made Made Made Made expression_step primary_step
+      reference_step conjunction_step comparison_step condition_step differ_step mask_step prim_step sum_step
+      term_step union_step
 
   abbrev pub prim_made : RawPrim → Made
-  prim_made = fold-RawPrim Made Made Placed Cond Cond Cond Made Made Made Made Made Made expression_step primary_step reference_step conjunction_step comparison_step condition_step differ_step mask_step prim_step sum_step term_step union_step
+  prim_made = fold-RawPrim Made Made Placed Cond Cond Cond Made Made Made Made Made Made expression_step primary_step
+      reference_step conjunction_step comparison_step condition_step differ_step mask_step prim_step sum_step
+      term_step union_step
 
   abbrev pub sum_made : RawSum → Made
-  sum_made = fold-RawSum Made Made Placed Cond Cond Cond Made Made Made Made Made Made expression_step primary_step reference_step conjunction_step comparison_step condition_step differ_step mask_step prim_step sum_step term_step union_step
+  sum_made = fold-RawSum Made Made Placed Cond Cond Cond Made Made Made Made Made Made expression_step primary_step
+      reference_step conjunction_step comparison_step condition_step differ_step mask_step prim_step sum_step
+      term_step union_step
 
   abbrev pub term_made : RawTerm → Made
-  term_made = fold-RawTerm Made Made Placed Cond Cond Cond Made Made Made Made Made Made expression_step primary_step reference_step conjunction_step comparison_step condition_step differ_step mask_step prim_step sum_step term_step union_step
+  term_made = fold-RawTerm Made Made Placed Cond Cond Cond Made Made Made Made Made Made expression_step primary_step
+      reference_step conjunction_step comparison_step condition_step differ_step mask_step prim_step sum_step
+      term_step union_step
 
   abbrev pub union_made : RawUnion → Made
-  union_made = fold-RawUnion Made Made Placed Cond Cond Cond Made Made Made Made Made Made expression_step primary_step reference_step conjunction_step comparison_step condition_step differ_step mask_step prim_step sum_step term_step union_step
+  union_made = fold-RawUnion Made Made Placed Cond Cond Cond Made Made Made Made Made Made expression_step
+      primary_step reference_step conjunction_step comparison_step condition_step differ_step mask_step prim_step
+      sum_step term_step union_step
 
   -- ---- the trees
 

@@ -1,5 +1,6 @@
 -- What the names of a text give to the trees of its unit: numbers, bounds, sizes and scales. A number that is refused elsewhere counts as 0.
-use Rattle.std.specs.Prelude.{ℕ, nat_le, List, [], ◌∷◌, ℤ, pos, neg_ℤ, int_le, Bool, true, false, ◌&&◌, Option, Some, None, option_map, option_and_then, if◌then◌else◌}
+use Rattle.std.specs.Prelude.{ℕ, nat_le, List, [], ◌∷◌, ℤ, pos, neg_ℤ, int_le, Bool, true, false, ◌&&◌}
+use Rattle.std.specs.Prelude.{Option, Some, None, option_map, option_and_then, if◌then◌else◌}
 use Rattle.cw_tree.specs.declared.leaf.RawName.{RawName}
 use Rattle.cw_tree.specs.declared.leaf.RawSint.{RawSint}
 use Rattle.cw_tree.specs.declared.leaf.RawSize.{RawSize}

@@ -1,7 +1,9 @@
 //! Makes the trees of expressions, conditions and references.
 ghost use Rattle.std.specs.Prelude.{◌≡◌, ◌++◌, [], map, IfOk, OnOk};
 ghost use Rattle.cw_scale.specs.Kinds.{signature_of};
-ghost use Rattle.cw_make_expr.specs.Made.{expression_made, condition_made, conjunction_made, comparison_made, sum_made, term_made, differ_made, union_made, mask_made, prim_made, primary_made, reference_made, operand_for, is_alone, signed_term, bits_around, arguments_for, argument_for, place_of_name, reference_at, target};
+ghost use Rattle.cw_make_expr.specs.Made.{expression_made, condition_made, conjunction_made, comparison_made, sum_made, term_made, differ_made};
+ghost use Rattle.cw_make_expr.specs.Made.{union_made, mask_made, prim_made, primary_made, reference_made, operand_for, is_alone, signed_term};
+ghost use Rattle.cw_make_expr.specs.Made.{bits_around, arguments_for, argument_for, place_of_name, reference_at, target};
 
 use crate::handed::expression_handed;
 use crate::nodes::{

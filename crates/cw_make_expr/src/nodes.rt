@@ -1,6 +1,7 @@
 //! The nodes of a unit's expressions, conditions and references.
 ghost use Rattle.std.specs.Prelude.{◌≡◌, IfOk};
-ghost use Rattle.cw_make_expr.specs.Nodes.{nothing, read, call, force, locate, bits, logic, minus, added, multiplied, choice, comparator, comparison, no_condition, both, either, reference, place_argument, whole_part, whole_part_if};
+ghost use Rattle.cw_make_expr.specs.Nodes.{nothing, read, call, force, locate, bits, logic, minus, added, multiplied, choice, comparator, comparison};
+ghost use Rattle.cw_make_expr.specs.Nodes.{no_condition, both, either, reference, place_argument, whole_part, whole_part_if};
 
 use cw_tree::leaf::{AddOp, CompareOp as Compared, MulOp};
 use cw_unit::unit::{Arg, CompareOp, Cond, Expr, Field, LogicOp, Ref, Spot, Target};

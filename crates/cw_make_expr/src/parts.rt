@@ -2,7 +2,9 @@
 ghost use Rattle.std.specs.Prelude.{◌≡◌, option_copied};
 ghost use Rattle.cw_amount.specs.Amounts.{place_amount, place_sint};
 ghost use Rattle.cw_scale.specs.Kinds.{kind_of, signature_of};
-ghost use Rattle.cw_make_expr.specs.Parts.{within, bound, scale_of, item_in, item_here, number_of, params_of, is_called, answer_of, target_of, handed_item, no_argument, handed, named_spot, words_of, width_of, entries_of, element_word, element_field, field_of, element_spot, row_length, double_spot, twice_indexed_spot, kind_here, indexed_spot};
+ghost use Rattle.cw_make_expr.specs.Parts.{within, bound, scale_of, item_in, item_here, number_of, params_of, is_called, answer_of, target_of, handed_item};
+ghost use Rattle.cw_make_expr.specs.Parts.{no_argument, handed, named_spot, words_of, width_of, entries_of, element_word, element_field, field_of};
+ghost use Rattle.cw_make_expr.specs.Parts.{element_spot, row_length, double_spot, twice_indexed_spot, kind_here, indexed_spot};
 
 use cw_amount::amount::{place_amount, place_sint};
 use cw_data::data::range_span;

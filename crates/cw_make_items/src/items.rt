@@ -2,7 +2,9 @@
 ghost use Rattle.std.specs.Prelude.{◌≡◌, ◌++◌, ◌∷◌, [], IfOk, is_some};
 ghost use Rattle.cw_table.specs.Rows.{item_at, place_at};
 ghost use Rattle.cw_number.specs.things.Families.{frame_of};
-ghost use Rattle.cw_make_items.specs.Items.{address_row, aitem_address, aitems_addresses, communicator_addresses, addresses_of, kind_in, declared_kind, item_kind, whole_scale, declared_scale, item_scale, declared_name, item_name, item_line, proc_of_owner, home_in, home_on, home_at, home_listed, held_or_none, item_of, items_of};
+ghost use Rattle.cw_make_items.specs.Items.{address_row, aitem_address, aitems_addresses, communicator_addresses, addresses_of, kind_in, declared_kind};
+ghost use Rattle.cw_make_items.specs.Items.{item_kind, whole_scale, declared_scale, item_scale, declared_name, item_name, item_line, proc_of_owner};
+ghost use Rattle.cw_make_items.specs.Items.{home_in, home_on, home_at, home_listed, held_or_none, item_of, items_of};
 
 use crate::descriptors::short;
 use crate::lookup::{item_here, line_of, proc_here};

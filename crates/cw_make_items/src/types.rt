@@ -1,6 +1,7 @@
 //! Scales, bounds and specifications.
 ghost use Rattle.std.specs.Prelude.{◌≡◌, ◌++◌, ◌∷◌, [], IfOk, OnOk};
-ghost use Rattle.cw_make_items.specs.Types.{within, bound_in, bound, scale_of, answer_of, width_of, plain_taken, each_plain_taken, taken, each_taken, plain_spec, spec_of};
+ghost use Rattle.cw_make_items.specs.Types.{within, bound_in, bound, scale_of, answer_of, width_of, plain_taken};
+ghost use Rattle.cw_make_items.specs.Types.{each_plain_taken, taken, each_taken, plain_spec, spec_of};
 
 use cw_amount::amount::{place_amount, place_sint};
 use cw_scale::kinds::fraction_of_sint;

@@ -1,6 +1,7 @@
 //! The most words in hand at once in expressions, conditions, references and arguments.
 ghost use Rattle.std.specs.Prelude.{◌≡◌, ◌+◌, ◌≤◌, ◌⊎◌, ℕ, max};
-ghost use Rattle.cw_unit.specs.StackBound.{ArgumentNeed, operand_depth, condition_depth, address_depth, argument_depth, arguments_depth, argument_depths, two_depth};
+ghost use Rattle.cw_unit.specs.StackBound.{ArgumentNeed, operand_depth, condition_depth, address_depth, argument_depth};
+ghost use Rattle.cw_unit.specs.StackBound.{arguments_depth, argument_depths, two_depth};
 ghost use Rattle.cw_need.specs.Told.{told};
 ghost use Rattle.cw_need.specs.Depths.{spot_depth};
 

@@ -1,6 +1,7 @@
 //! The names that COMMON and LIBRARY list, which are the descriptors of a segment.
 ghost use Rattle.std.specs.Prelude.{◌≡◌, ◌++◌, ◌∷◌, [], IfOk};
-ghost use Rattle.cw_number.specs.Listed.{row, each_listed, groups_listed, data_listed, citem_listed, citems_listed, is_built_in, spec_listed, specs_listed, communicator_listed, communicators_listed, listed_of};
+ghost use Rattle.cw_number.specs.Listed.{row, each_listed, groups_listed, data_listed, citem_listed, citems_listed, is_built_in};
+ghost use Rattle.cw_number.specs.Listed.{spec_listed, specs_listed, communicator_listed, communicators_listed, listed_of};
 
 use cw_table::table::Table;
 use cw_tree::items::{RawData, RawGroup};

@@ -2,7 +2,8 @@
 ghost use Rattle.std.specs.Prelude.{◌≡◌, ◌++◌, ◌∷◌, [], IfOk};
 ghost use Rattle.cw_items.specs.Things.{text_things};
 ghost use Rattle.cw_number.specs.Listed.{listed_of};
-ghost use Rattle.cw_number.specs.Numbers.{item_rows, listed_number, listed_rows, own_number, counted, built_in_number, declared_number, counted_after, declared_rows, none_counted, row_if, with_control, begin_of, numbers_of};
+ghost use Rattle.cw_number.specs.Numbers.{item_rows, listed_number, listed_rows, own_number, counted, built_in_number, declared_number};
+ghost use Rattle.cw_number.specs.Numbers.{counted_after, declared_rows, none_counted, row_if, with_control, begin_of, numbers_of};
 
 use crate::listed::{Listing, listed_of};
 use crate::numbered::Numbered;

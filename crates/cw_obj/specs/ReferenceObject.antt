@@ -13,7 +13,8 @@ use Rattle.cw_tmpl.specs.declared.assembling.Code.{Code as MadeCode}
 use Rattle.std.specs.Int.{from_bool}
 use Rattle.cw_fields.specs.Fields.{word_bytes, long_bytes}
 use Rattle.cw_view.specs.Payloads.{ItemEntry, item_kind_number}
-use Rattle.cw_view.specs.ObjectFormat.{Record, SegmentName, Descriptor, StorageFamily, StoredItem, PresetWord, Code, Relocation, Definition, BodyFacts, Statement, End, record_bytes, header}
+use Rattle.cw_view.specs.ObjectFormat.{Record, SegmentName, Descriptor, StorageFamily, StoredItem, PresetWord, Code}
+use Rattle.cw_view.specs.ObjectFormat.{Relocation, Definition, BodyFacts, Statement, End, record_bytes, header}
 
 abbrev pub name_or_none : Option (List ℕ) → List ℕ
 name_or_none None = []

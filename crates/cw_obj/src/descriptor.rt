@@ -1,7 +1,8 @@
 //! Descriptors at the end of bytes.
 ghost use Rattle.std.specs.Prelude.{◌≡◌, ◌++◌, ◌∷◌, [], OnOk, IfOk, length, map};
 ghost use Rattle.cw_fields.specs.Fields.{each, signed_bytes, optional_bytes, word_bytes};
-ghost use Rattle.cw_view.specs.Payloads.{scale_bytes, plain_parameter_bytes, parameter_bytes, spec_bytes, bound_bytes, element_bytes, body_number, body_bytes, overlay_bytes, descriptor_bytes};
+ghost use Rattle.cw_view.specs.Payloads.{scale_bytes, plain_parameter_bytes, parameter_bytes, spec_bytes, bound_bytes};
+ghost use Rattle.cw_view.specs.Payloads.{element_bytes, body_number, body_bytes, overlay_bytes, descriptor_bytes};
 ghost use Rattle.cw_view.specs.ObjectFormat.{Descriptor};
 ghost use Rattle.cw_obj.specs.ReferenceObject.{records_bytes};
 

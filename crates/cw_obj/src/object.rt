@@ -3,7 +3,8 @@ ghost use Rattle.std.specs.Prelude.{◌≡◌, ℕ, ◌++◌, ◌∷◌, [], ◌
 ghost use Rattle.cw_fields.specs.Fields.{text_bytes};
 ghost use Rattle.cw_view.specs.Payloads.{definition_bytes, statement_bytes, body_facts_bytes};
 ghost use Rattle.cw_view.specs.ObjectFormat.{framed, header, PresetWord, Relocation, Statement};
-ghost use Rattle.cw_obj.specs.ReferenceObject.{records_bytes, definition_place, definition_of, definition_records, front_records, back_records, object_records, object_bytes};
+ghost use Rattle.cw_obj.specs.ReferenceObject.{records_bytes, definition_place, definition_of, definition_records};
+ghost use Rattle.cw_obj.specs.ReferenceObject.{front_records, back_records, object_records, object_bytes};
 
 use crate::descriptor::put_descriptors;
 use crate::item::put_items;

@@ -15,7 +15,8 @@ use Rattle.cw_fields.specs.Names.{is_name}
 use Rattle.cw_view.specs.ObjectFormat.{has_base, is_placed, is_named, has_words, has_preset, is_blank, has_index}
 use Rattle.cw_obj.specs.ReferenceObject.{entries_from, definition_of, body_of}
 use Rattle.cw_obj.specs.Writable.{tables}
-use Rattle.cw_object.specs.Fits.{is_long, fits_descriptor, fits_family, fits_item, fits_preset, fits_relocation, fits_definition, fits_body_facts, fits_statement}
+use Rattle.cw_object.specs.Fits.{is_long, fits_descriptor, fits_family, fits_item, fits_preset, fits_relocation}
+use Rattle.cw_object.specs.Fits.{fits_definition, fits_body_facts, fits_statement}
 
 -- ---- before the code
 

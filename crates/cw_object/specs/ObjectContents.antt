@@ -51,4 +51,5 @@ contents_with u l c need = record {
 
 -- The object of a unit is in the format, and tells what it was written from.
 abbrev pub TellsItsUnit : Type 0
-TellsItsUnit = (u : SourceUnit) (l : Layout) (c : Code) (need : ℕ) → IsTrue (is_writable u l c need) → IsObject (object_with u l c need) × (contents_in (object_with u l c need) ≡ contents_with u l c need)
+TellsItsUnit = (u : SourceUnit) (l : Layout) (c : Code) (need : ℕ) → IsTrue (is_writable u l c need)
+    → IsObject (object_with u l c need) × (contents_in (object_with u l c need) ≡ contents_with u l c need)

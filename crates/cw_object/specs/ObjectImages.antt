@@ -17,5 +17,6 @@ pub record AreLimits (limits : Limits) : Type 0 where
 -- The image of 1 to 200 objects whose code is not too long is in the format.
 abbrev pub LinksToImages : Type 0
 LinksToImages =
-    (objects : List (List ℕ)) (limits : Limits) → All IsObject objects → 1 ≤ length objects → length objects ≤ 200 → AreLimits limits → linked_size (map contents_in objects) ≤ 65536
+    (objects : List (List ℕ)) (limits : Limits) → All IsObject objects → 1 ≤ length objects → length objects ≤ 200
+    → AreLimits limits → linked_size (map contents_in objects) ≤ 65536
     → IsImage (linked_image (map contents_in objects) limits)

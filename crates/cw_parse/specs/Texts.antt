@@ -10,7 +10,8 @@ use Rattle.cw_grammar.specs.Statements.{text}
 use Rattle.cw_grammar.specs.Derives.{Derives, IsViablePrefix}
 use Rattle.cw_grammar.specs.Parsing.{IsLongestFront, IsDeepAt, syntax_fault, deep_fault}
 
--- The longest front opens at most n levels inside one another, and it is not the whole list or is no text, whatever levels a text may open. Behind it are so many tokens.
+-- The longest front opens at most n levels inside one another, and it is not the whole list or is no text, whatever
+-- levels a text may open. Behind it are so many tokens.
 pub record IsNoWhole (n : ℕ) (s : Sort) (g : Grammar s) (ts : List Item) (left : ℕ) : Type 0 where
   pub front : List Item
   pub rest : List Item

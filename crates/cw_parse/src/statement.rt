@@ -1,7 +1,8 @@
 //! Statements, blocks and procedures from left to right.
 ghost use Rattle.std.specs.Prelude.{◌≡◌, ℕ, [], ◌∷◌, false};
 ghost use Rattle.cw_grammar.specs.Tokens.{behind};
-ghost use Rattle.cw_grammar.specs.Grammar.{starts, first, many, a_pair, a_list, an_option, a_from, a_name, a_type, a_stmt, a_form, a_simple, a_felem, a_decl, a_param, a_cond, a_ref, if_rest, else_rest, for_rest, block_rest, proc_body, labelled, labelled_simple, again};
+ghost use Rattle.cw_grammar.specs.Grammar.{starts, first, many, a_pair, a_list, an_option, a_from, a_name, a_type, a_stmt, a_form, a_simple, a_felem, a_decl};
+ghost use Rattle.cw_grammar.specs.Grammar.{a_param, a_cond, a_ref, if_rest, else_rest, for_rest, block_rest, proc_body, labelled, labelled_simple, again};
 ghost use Rattle.cw_grammar.specs.Rules.{symbol, ◌<*◌};
 ghost use Rattle.cw_grammar.specs.Statements.{semicolons, listed, in_round, param, unnamed, proc_behind, decl};
 ghost use Rattle.cw_grammar.specs.Reading.{Gives, read, inside, applied};
@@ -106,7 +107,8 @@ fn read_labelled_simple(
     tokens: &[Token],
     at: usize,
 ) -> Result<((List<RawName>, RawSimple), usize), Stop>
-    ensures { Gives (λ x. (x.0, behind tokens.now x.1)) result (read levels (a_pair (a_list a_name) a_simple) (again (labelled_simple in_proc)) (behind tokens.now at)) }
+    ensures { Gives (λ x. (x.0, behind tokens.now x.1)) result
+        (read levels (a_pair (a_list a_name) a_simple) (again (labelled_simple in_proc)) (behind tokens.now at)) }
 {
     let (labels, at) = read_labels(alloc, tokens, at)?;
     let (simple, at) = read_simple(alloc, levels, in_proc, tokens, at)?;
@@ -163,7 +165,9 @@ fn read_if_rest(
     ),
     Stop,
 >
-    ensures { Gives (λ x. (x.0, behind tokens.now x.1)) result (inside levels (a_pair a_cond (a_pair (a_pair (a_list a_name) a_simple) (an_option a_stmt))) (if_rest in_proc) (behind tokens.now at)) }
+    ensures { Gives (λ x. (x.0, behind tokens.now x.1)) result
+        (inside levels (a_pair a_cond (a_pair (a_pair (a_list a_name) a_simple) (an_option a_stmt)))
+        (if_rest in_proc) (behind tokens.now at)) }
 {
     if levels == 0 {
         return Err(deep(tokens, at));
@@ -184,7 +188,8 @@ fn read_for_rest(
     tokens: &[Token],
     at: usize,
 ) -> Result<((RawRef, (List<RawFelem>, RawStmt)), usize), Stop>
-    ensures { Gives (λ x. (x.0, behind tokens.now x.1)) result (inside levels (a_pair a_ref (a_pair (a_list a_felem) a_stmt)) (for_rest in_proc) (behind tokens.now at)) }
+    ensures { Gives (λ x. (x.0, behind tokens.now x.1)) result
+        (inside levels (a_pair a_ref (a_pair (a_list a_felem) a_stmt)) (for_rest in_proc) (behind tokens.now at)) }
 {
     if levels == 0 {
         return Err(deep(tokens, at));
@@ -298,7 +303,8 @@ fn read_proc_behind(
     at: usize,
     kind: Option<RawType>,
 ) -> Result<(RawDecl, usize), Stop>
-    ensures { Gives (λ x. (x.0, behind tokens.now x.1)) result (applied kind (read levels (a_from (an_option a_type) a_decl) proc_behind (behind tokens.now at))) }
+    ensures { Gives (λ x. (x.0, behind tokens.now x.1)) result
+        (applied kind (read levels (a_from (an_option a_type) a_decl) proc_behind (behind tokens.now at))) }
 {
     let (tag, at) = read_ptag(tokens, at)?;
     let (name, at) = read_name(tokens, at)?;
@@ -405,7 +411,8 @@ pub fn read_block_rest(
     tokens: &[Token],
     at: usize,
 ) -> Result<((List<RawDecl>, List<RawStmt>), usize), Stop>
-    ensures { Gives (λ x. (x.0, behind tokens.now x.1)) result (inside levels (a_pair (a_list a_decl) (a_list a_stmt)) (block_rest in_proc) (behind tokens.now at)) }
+    ensures { Gives (λ x. (x.0, behind tokens.now x.1)) result
+        (inside levels (a_pair (a_list a_decl) (a_list a_stmt)) (block_rest in_proc) (behind tokens.now at)) }
 {
     if levels == 0 {
         return Err(deep(tokens, at));

@@ -1,10 +1,12 @@
 //! Declarations of data and presets from left to right.
 ghost use Rattle.std.specs.Prelude.{◌≡◌, ℕ, [], ◌∷◌};
 ghost use Rattle.cw_grammar.specs.Tokens.{behind, seen};
-ghost use Rattle.cw_grammar.specs.Grammar.{starts, first, a_pair, a_list, an_int, a_sint, an_option, a_position, a_from, a_token, a_name, a_type, a_place, a_presets, a_range, a_bounds, a_group, an_elem, a_table, a_data, a_base, ◌·◌, again, places, more_elems};
+ghost use Rattle.cw_grammar.specs.Grammar.{starts, first, a_pair, a_list, an_int, a_sint, an_option, a_position, a_from, a_token, a_name, a_type, a_place};
+ghost use Rattle.cw_grammar.specs.Grammar.{a_presets, a_range, a_bounds, a_group, an_elem, a_table, a_data, a_base, ◌·◌, again, places, more_elems};
 ghost use Rattle.cw_grammar.specs.Rules.{name, commas, optional, number_type, int, sint, symbol, ◌*>◌};
 ghost use Rattle.cw_lex.specs.declared.token.Symbol.TheVariants.{Comma};
-ghost use Rattle.cw_grammar.specs.Statements.{in_square, in_round, semicolons, listed, preset_value, assigned, preset, range, bounds, group, elem, table, table_body, data_table, singles, arrays, item_data, base, overlay};
+ghost use Rattle.cw_grammar.specs.Statements.{in_square, in_round, semicolons, listed, preset_value, assigned, preset, range, bounds, group};
+ghost use Rattle.cw_grammar.specs.Statements.{elem, table, table_body, data_table, singles, arrays, item_data, base, overlay};
 ghost use Rattle.cw_grammar.specs.Reading.{Gives, read, applied};
 ghost use Rattle.cw_parse_data.specs.Elems.{behind_elems, part};
 ghost use Rattle.cw_tree.specs.declared.items.RawElem.TheVariants.{Part};
@@ -94,7 +96,8 @@ fn read_places(
     at: usize,
     before: Position,
 ) -> Result<(List<RawPlace>, usize), Stop>
-    ensures { Gives (λ x. (x.0, behind tokens.now x.1)) result (applied before (read 0 (a_from a_position (a_list a_place)) (again places) (behind tokens.now at))) }
+    ensures { Gives (λ x. (x.0, behind tokens.now x.1)) result
+        (applied before (read 0 (a_from a_position (a_list a_place)) (again places) (behind tokens.now at))) }
 {
     let mut found = List::new(alloc);
     let mut depth = 0_usize;
@@ -235,7 +238,8 @@ fn read_groups(alloc: Global, tokens: &[Token], at: usize) -> Result<(List<RawGr
 
 // "(" int "," sint ")"
 fn read_bits_and_scale(tokens: &[Token], at: usize) -> Result<((RawInt, RawSint), usize), Stop>
-    ensures { Gives (λ x. (x.0, behind tokens.now x.1)) result (read 0 (a_pair an_int a_sint) (in_round (int · (symbol Comma *> sint))) (behind tokens.now at)) }
+    ensures { Gives (λ x. (x.0, behind tokens.now x.1)) result
+        (read 0 (a_pair an_int a_sint) (in_round (int · (symbol Comma *> sint))) (behind tokens.now at)) }
 {
     let (_, at) = take_kind(tokens, at, TokenKind::Symbol(Symbol::Open))?;
     let (bits, at) = read_int(tokens, at)?;
@@ -350,7 +354,9 @@ fn read_more_elems(
     at: usize,
     first: RawElem,
 ) -> Result<((List<RawElem>, Option<RawPresets>), usize), Stop>
-    ensures { Gives (λ x. (x.0, behind tokens.now x.1)) result (behind_elems (first ∷ []) (read 0 (a_pair (a_list an_elem) (an_option a_presets)) (again more_elems) (behind tokens.now at))) }
+    ensures { Gives (λ x. (x.0, behind tokens.now x.1)) result
+        (behind_elems (first ∷ []) (read 0 (a_pair (a_list an_elem) (an_option a_presets)) (again more_elems)
+        (behind tokens.now at))) }
 {
     let none: Option<Inside> = None;
     prove!(none.is_none());
@@ -405,7 +411,8 @@ fn read_square_body(
     tokens: &[Token],
     at: usize,
 ) -> Result<((List<RawElem>, Option<RawPresets>), usize), Stop>
-    ensures { Gives (λ x. (x.0, behind tokens.now x.1)) result (read 0 (a_pair (a_list an_elem) (an_option a_presets)) (in_square table_body) (behind tokens.now at)) }
+    ensures { Gives (λ x. (x.0, behind tokens.now x.1)) result
+        (read 0 (a_pair (a_list an_elem) (an_option a_presets)) (in_square table_body) (behind tokens.now at)) }
 {
     let (_, at) = take_kind(tokens, at, TokenKind::Symbol(Symbol::OpenSquare))?;
     let (body, at) = read_table_body(alloc, tokens, at)?;
@@ -490,7 +497,9 @@ fn read_square_indexes(
     tokens: &[Token],
     at: usize,
 ) -> Result<((RawSint, Option<RawSint>), usize), Stop>
-    ensures { Gives (λ x. (x.0, behind tokens.now x.1)) result (read 0 (a_pair a_sint (an_option a_sint)) (in_square (sint · optional (symbol Comma *> sint))) (behind tokens.now at)) }
+    ensures { Gives (λ x. (x.0, behind tokens.now x.1)) result
+        (read 0 (a_pair a_sint (an_option a_sint)) (in_square (sint · optional (symbol Comma *> sint)))
+        (behind tokens.now at)) }
 {
     let (_, at) = take_kind(tokens, at, TokenKind::Symbol(Symbol::OpenSquare))?;
     let (first, at) = read_sint(tokens, at)?;

@@ -29,7 +29,9 @@ pub fn parse_expr(
     ensures read { IfOk result (λ x. IsLongestText (64 - level) an_expr expr (behind tokens.now from) x.0 (behind tokens.now x.1)) }
     ensures place { IfOk result (λ x. x.1 ≤ length tokens.now) }
     // Where the longest front is an expression within the levels, it is read, unless memory runs out.
-    ensures all { (x : Tree) (rest : Sequence Item) → IsLongestText (64 - level) an_expr expr (behind tokens.now from) x rest → IsReadOrMemory x rest tokens.now result }
+    ensures all { (x : Tree) (rest : Sequence Item)
+        → IsLongestText (64 - level) an_expr expr (behind tokens.now from) x rest
+        → IsReadOrMemory x rest tokens.now result }
     // Else the first fault stands behind it, or where a level too many opens.
     ensures fault { IfErr result (λ f. IsFault (64 - level) an_expr expr tokens.now from f) }
 {

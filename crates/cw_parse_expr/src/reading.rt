@@ -1,8 +1,10 @@
 //! Expressions, conditions and references from left to right.
 ghost use Rattle.std.specs.Prelude.{◌≡◌, ℕ, [], ◌∷◌, IfOk};
 ghost use Rattle.cw_grammar.specs.Tokens.{behind};
-ghost use Rattle.cw_grammar.specs.Grammar.{a_pair, a_list, an_option, an_expr, a_cond, a_cand, a_cmp, a_sum, a_term, a_differ, a_union, a_mask, a_prim, a_primary, a_ref, bracketed, subscript, indexed, called, located, conditional};
-ghost use Rattle.cw_grammar.specs.Rules.{word as grammar_word, symbol, optional, commas, ◌*>◌, reference, worded, enclosed, named, primary, prim, mask, union, differ, term, sum, cmp, cand, condition, expr};
+ghost use Rattle.cw_grammar.specs.Grammar.{a_pair, a_list, an_option, an_expr, a_cond, a_cand, a_cmp, a_sum, a_term, a_differ, a_union, a_mask};
+ghost use Rattle.cw_grammar.specs.Grammar.{a_prim, a_primary, a_ref, bracketed, subscript, indexed, called, located, conditional};
+ghost use Rattle.cw_grammar.specs.Rules.{word as grammar_word, symbol, optional, commas, ◌*>◌, reference, worded, enclosed, named};
+ghost use Rattle.cw_grammar.specs.Rules.{primary, prim, mask, union, differ, term, sum, cmp, cand, condition, expr};
 ghost use Rattle.cw_grammar.specs.Reading.{Gives, read, inside};
 ghost use Rattle.cw_lex.specs.declared.token.Symbol.TheVariants.{Comma};
 ghost use Rattle.cw_operand.specs.Operands.{location, forced, in_brackets, addressed};

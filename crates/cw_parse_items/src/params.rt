@@ -24,7 +24,8 @@ fn read_procedure_param(
     at: usize,
     kind: Option<RawType>,
 ) -> Result<(RawParam, usize), Stop>
-    ensures { Gives (λ x. (x.0, behind tokens.now x.1)) result (applied kind (read 0 (a_from (an_option a_type) a_param) procedure_param (behind tokens.now at))) }
+    ensures { Gives (λ x. (x.0, behind tokens.now x.1)) result
+        (applied kind (read 0 (a_from (an_option a_type) a_param) procedure_param (behind tokens.now at))) }
 {
     let (word, at) = take_kind(tokens, at, TokenKind::Word(Word::Procedure))?;
     let (name, at) = read_name(tokens, at)?;

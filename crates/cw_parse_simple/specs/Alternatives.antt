@@ -6,7 +6,8 @@ use Rattle.cw_lex.specs.declared.token.Word.TheVariants as words
 use Rattle.cw_tree.specs.declared.expression.RawRef.TheVariants as ref_tree
 use Rattle.cw_tree.specs.declared.statement.RawSimple.TheVariants as simple_tree
 use Rattle.cw_grammar.specs.Tokens.{position}
-use Rattle.cw_grammar.specs.Grammar.{a_pair, an_option, a_from, a_name, an_expr, a_form, a_simple, a_stmt, Grammar, ◌·◌, ◌⇒◌, opens, subscript, indexed, called, block_rest, if_rest, for_rest, else_rest}
+use Rattle.cw_grammar.specs.Grammar.{a_pair, an_option, a_from, a_name, an_expr, a_form, a_simple, a_stmt, Grammar, ◌·◌}
+use Rattle.cw_grammar.specs.Grammar.{◌⇒◌, opens, subscript, indexed, called, block_rest, if_rest, for_rest, else_rest}
 use Rattle.cw_grammar.specs.Rules.{word, symbol, ◌*>◌, optional, name, bits, reference, expr, indexed_name}
 use Rattle.cw_grammar.specs.Statements.{jump, block_tree, if_tree, for_tree}
 
@@ -22,7 +23,8 @@ name_assigned = symbol symbols.Assign *> expr ⇒ (λ e n. simple_tree.Assign (r
 
 -- "[" expr [ "," expr ] "]" ":=" expr
 abbrev pub element_assigned : Grammar (a_from a_name a_simple)
-element_assigned = opens (kinds.Symbol symbols.OpenSquare) indexed · (symbol symbols.Assign *> expr) ⇒ (λ x n. simple_tree.Assign (indexed_name n x.0.1.0 x.0.1.1) x.1)
+element_assigned = opens (kinds.Symbol symbols.OpenSquare) indexed · (symbol symbols.Assign *> expr) ⇒
+    (λ x n. simple_tree.Assign (indexed_name n x.0.1.0 x.0.1.1) x.1)
 
 -- "(" expr { "," expr } ")"
 abbrev pub call_behind : Grammar (a_from a_name a_simple)
@@ -32,7 +34,8 @@ call_behind = opens (kinds.Symbol symbols.Open) called ⇒ (λ x n. simple_tree.
 
 -- "[" expr "]" ":=" expr
 abbrev pub address_assigned : Grammar a_simple
-address_assigned = opens (kinds.Symbol symbols.OpenSquare) subscript · (symbol symbols.Assign *> expr) ⇒ (λ x. simple_tree.Assign (ref_tree.Bare (position x.0.0) x.0.1) x.1)
+address_assigned = opens (kinds.Symbol symbols.OpenSquare) subscript · (symbol symbols.Assign *> expr) ⇒
+    (λ x. simple_tree.Assign (ref_tree.Bare (position x.0.0) x.0.1) x.1)
 
 -- BITS size ref ":=" expr
 abbrev pub bits_assigned : Grammar a_simple

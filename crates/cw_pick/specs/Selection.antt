@@ -64,4 +64,6 @@ pub record IsSelection (given members : List Bytes) (picked : List ℕ) : Type 0
 
 -- there is such a list, and no other
 abbrev pub HasOneSelection : Type 0
-HasOneSelection = (given members : List Bytes) → (picked : List ℕ) × IsSelection given members picked × ((others : List ℕ) → IsSelection given members others → others ≡ picked)
+HasOneSelection = (given members : List Bytes)
+    → (picked : List ℕ) × IsSelection given members picked
+    × ((others : List ℕ) → IsSelection given members others → others ≡ picked)

@@ -1,5 +1,6 @@
 -- The state while members are picked.
-use Rattle.std.specs.Prelude.{◌≡◌, ◌<◌, ◌+◌, ◌&&◌, ◌||◌, ℕ, zero, suc, Bool, true, false, not, if◌then◌else◌, List, [], ◌∷◌, length, slice_index_or, count_by, Contains}
+use Rattle.std.specs.Prelude.{◌≡◌, ◌<◌, ◌+◌, ◌&&◌, ◌||◌, ℕ, zero, suc, Bool, true, false, not, if◌then◌else◌}
+use Rattle.std.specs.Prelude.{List, [], ◌∷◌, length, slice_index_or, count_by, Contains}
 use Rattle.std.specs.List.{list_any}
 use Rattle.std.specs.Str.{bytes_eq}
 use Rattle.cw_comm.specs.Agreement.{Name}
@@ -51,7 +52,9 @@ pub record Marks (P : ℕ → Bool) (old new : Work) : Type 0 where
 -- the members that define a name which was asked for are picked
 pub record Keeps (index : Index) (asked : List Bool) (work : Work) : Type 0 where
   pub count : length asked ≡ length index.names.keys
-  pub kept : (n k : ℕ) → slice_index_or asked n false ≡ true → is_in (slice_index_or index.definers.items n []) k ≡ true → k < length work.picked.items → is_picked work k ≡ true
+  pub kept : (n k : ℕ) → slice_index_or asked n false ≡ true
+      → is_in (slice_index_or index.definers.items n []) k ≡ true → k < length work.picked.items
+      → is_picked work k ≡ true
 
 -- what is to be followed is what is picked
 abbrev pub IsFresh : Work → Type 0
@@ -62,4 +65,6 @@ pub record Closes (lead : ℕ → ℕ → Bool) (old new : Work) : Type 0 where
   pub count : length new.picked.items ≡ length old.picked.items
   pub kept : (k : ℕ) → is_picked old k ≡ true → is_picked new k ≡ true
   pub closed : (j k : ℕ) → is_picked new j ≡ true → lead j k ≡ true → k < length old.picked.items → is_picked new k ≡ true
-  pub least : (others : List ℕ) → ((k : ℕ) → is_picked old k ≡ true → Contains others k) → ((j k : ℕ) → Contains others j → lead j k ≡ true → Contains others k) → (k : ℕ) → is_picked new k ≡ true → Contains others k
+  pub least : (others : List ℕ) → ((k : ℕ) → is_picked old k ≡ true → Contains others k)
+      → ((j k : ℕ) → Contains others j → lead j k ≡ true → Contains others k) → (k : ℕ) → is_picked new k ≡ true
+      → Contains others k

@@ -54,7 +54,9 @@ fn number_of(alloc: Global, index: &mut Index, name: Name) -> Result<usize, NoMe
 fn enter(alloc: Global, index: &mut Index, name: Name, member: usize) -> Result<(), NoMemory>
     requires { HasLists index.old }
     ensures lists { OnOk result (HasLists index.new) }
-    ensures entered { OnOk result ((other : NameSpelled) (k : ℕ) → is_in (definers index.new other) k ≡ is_in (definers index.old other) k || (bytes_eq other name && nat_eq k member)) }
+    ensures entered { OnOk result ((other : NameSpelled) (k : ℕ)
+        → is_in (definers index.new other) k ≡ is_in (definers index.old other) k ||
+        (bytes_eq other name && nat_eq k member)) }
 {
     let n = number_of(alloc, index, name)?;
     add_member(&mut index.definers, n, member)?;
@@ -71,7 +73,9 @@ fn enter_all(
 ) -> Result<(), NoMemory>
     requires { HasLists index.old }
     ensures lists { OnOk result (HasLists index.new) }
-    ensures entered { OnOk result ((name : NameSpelled) (k : ℕ) → is_in (definers index.new name) k ≡ is_in (definers index.old name) k || ((is_among names.now name && not (is_among settled.now.keys name)) && nat_eq k member)) }
+    ensures entered { OnOk result ((name : NameSpelled) (k : ℕ)
+        → is_in (definers index.new name) k ≡ is_in (definers index.old name) k ||
+        ((is_among names.now name && not (is_among settled.now.keys name)) && nat_eq k member)) }
 {
     for name in names {
         if !settled.contains(name) {
@@ -88,7 +92,8 @@ pub(crate) fn indexed(
     members: &[Offer],
 ) -> Result<Index, NoMemory>
     ensures lists { IfOk result HasLists }
-    ensures entered { IfOk result (λ index. (name : NameSpelled) (k : ℕ) → is_in (definers index name) k ≡ defines_at members.now k name && not (is_among settled.now.keys name)) }
+    ensures entered { IfOk result (λ index. (name : NameSpelled) (k : ℕ)
+        → is_in (definers index name) k ≡ defines_at members.now k name && not (is_among settled.now.keys name)) }
 {
     let mut index = Index {
         names: IndexSet::new(alloc),

@@ -1,6 +1,7 @@
 -- How far the families of segments are placed. Families are taken by their keys, in order.
 use Rattle.std.specs.Prelude.{◌≡◌, ◌≤◌, ◌<◌, ℕ, min, List, [], ◌∷◌, ◌++◌, map, take, length, Option, None, Some, slice_get, slice_index_or, if◌then◌else◌}
-use Rattle.cw_unit.specs.Allocation.{name_at, SegmentStorage, FamilyKey, Shared, is_same_key, keys_in_segment, keys_from, first_keys, absolute_ranges, first_fit, Placed, placed_from, last_end_of, common_extent}
+use Rattle.cw_unit.specs.Allocation.{name_at, SegmentStorage, FamilyKey, Shared, is_same_key, keys_in_segment, keys_from, first_keys}
+use Rattle.cw_unit.specs.Allocation.{absolute_ranges, first_fit, Placed, placed_from, last_end_of, common_extent}
 use Rattle.cw_comm.specs.declared.face.Agreed.{Agreed}
 use Rattle.cw_place.specs.declared.space.Space.{Space}
 use Rattle.cw_place.specs.declared.sweep.Span.{Span}

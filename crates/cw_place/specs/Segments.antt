@@ -43,4 +43,5 @@ absolute_words (s ∷ ss) = absolute_ranges_in s.families ++ absolute_words ss
 
 -- the common families of each segment are those of its own descriptors
 abbrev pub HaveOwnFamilies : List Face → List Space → Type 0
-HaveOwnFamilies faces spaces = (g : ℕ) (f : Face) (s : Space) → slice_get faces g ≡ Some f → slice_get spaces g ≡ Some s → All (λ (x : Family). IsOfDescriptor (length f.descs) x.sort) s.families
+HaveOwnFamilies faces spaces = (g : ℕ) (f : Face) (s : Space) → slice_get faces g ≡ Some f
+    → slice_get spaces g ≡ Some s → All (λ (x : Family). IsOfDescriptor (length f.descs) x.sort) s.families

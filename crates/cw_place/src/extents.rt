@@ -28,7 +28,9 @@ fn raise_extents(extents: &mut Vec<u32>, agreed: &Agreed, spaces: &[Space], segm
     requires segment { segment < length spaces.now }
     requires count { length extents.old.items ≡ length agreed.now.names }
     ensures count { length extents.new.items ≡ length extents.old.items }
-    ensures raised { (k : ℕ) (s : SegmentSpace) → k < length agreed.now.names → slice_get spaces.now segment ≡ Some s → slice_index extents.new.items k ≡ max (slice_index extents.old.items k) (extent_in_segment (name_at agreed.now.names k) (names_of agreed.now segment) s.families) }
+    ensures raised { (k : ℕ) (s : SegmentSpace) → k < length agreed.now.names → slice_get spaces.now segment ≡ Some s
+        → slice_index extents.new.items k ≡ max (slice_index extents.old.items k)
+        (extent_in_segment (name_at agreed.now.names k) (names_of agreed.now segment) s.families) }
 {
     let numbers = agreed.of.as_slice()[segment].as_slice();
     let families = spaces[segment].families.as_slice();

@@ -19,7 +19,9 @@ use cw_unit::laws::storage_maps;
 /// A map that is given for units is valid: overlaid items share exactly their words, others none but those of absolute
 /// families whose numbers meet.
 pub fn valid_maps()
-    ensures { (agreed : Agreed) (spaces : List Space) (us : List SourceUnit) (limits : Limits) (m : Map) → segment_storage agreed spaces ≡ map storage_of us → All IsStorable us → AnswersPlace (segment_storage agreed spaces) spaces limits (Ok m) → ValidStorageMap us limits m }
+    ensures { (agreed : Agreed) (spaces : List Space) (us : List SourceUnit) (limits : Limits) (m : Map)
+        → segment_storage agreed spaces ≡ map storage_of us → All IsStorable us
+        → AnswersPlace (segment_storage agreed spaces) spaces limits (Ok m) → ValidStorageMap us limits m }
 {
     storage_maps();
 }

@@ -80,7 +80,10 @@ fn place_family(
     requires number { (s : SegmentSpace) → slice_get spaces.now segment ≡ Some s → number < length s.families }
     requires placed { HasPlaced agreed.now spans.now (placed_before agreed.now spaces.now segment number) placing.old }
     ensures placed { HasPlaced agreed.now spans.now (placed_before agreed.now spaces.now segment (number + 1)) placing.new }
-    ensures address { (s : SegmentSpace) (f : SegmentFamily) → slice_get spaces.now segment ≡ Some s → slice_get s.families number ≡ Some f → result ≡ family_address (told (placed_before agreed.now spaces.now segment (number + 1))) segment (names_of agreed.now segment) number f.sort }
+    ensures address { (s : SegmentSpace) (f : SegmentFamily) → slice_get spaces.now segment ≡ Some s
+        → slice_get s.families number ≡ Some f → result
+        ≡ family_address (told (placed_before agreed.now spaces.now segment (number + 1))) segment
+        (names_of agreed.now segment) number f.sort }
 {
     let family = &spaces[segment].families.as_slice()[number];
     match family.sort {
@@ -117,7 +120,9 @@ fn place_segment(
     requires segment { segment < length spaces.now }
     requires placed { HasPlaced agreed.now spans.now (placed_before agreed.now spaces.now segment 0) placing.old }
     ensures placed { OnOk result (HasPlaced agreed.now spans.now (placed_before agreed.now spaces.now (segment + 1) 0) placing.new) }
-    ensures homes { IfOk result (λ homes. (s : SegmentSpace) → slice_get spaces.now segment ≡ Some s → homes ≡ addresses_from (told (placed_before agreed.now spaces.now (segment + 1) 0)) segment (names_of agreed.now segment) 0 s.families) }
+    ensures homes { IfOk result (λ homes. (s : SegmentSpace) → slice_get spaces.now segment ≡ Some s
+        → homes ≡ addresses_from (told (placed_before agreed.now spaces.now (segment + 1) 0)) segment
+        (names_of agreed.now segment) 0 s.families) }
 {
     let mut homes = List::new(alloc);
     let count = spaces[segment].families.as_slice().len();
@@ -138,7 +143,9 @@ pub(crate) fn place_all(
     requires of { AreOf agreed.now spaces.now }
     requires spans { AreSweptFor (segment_storage agreed.now spaces.now) spans.now }
     requires extents { TellsExtents agreed.now (segment_storage agreed.now spaces.now) extents.now }
-    ensures homes { IfOk result (λ made. made.0 ≡ homes_from (told (placed_families (segment_storage agreed.now spaces.now))) 0 (segment_storage agreed.now spaces.now)) }
+    ensures homes { IfOk result (λ made. made.0
+        ≡ homes_from (told (placed_families (segment_storage agreed.now spaces.now))) 0
+        (segment_storage agreed.now spaces.now)) }
     ensures end { IfOk result (λ made. made.1 ≡ told_words (last_end_of 0 (placed_families (segment_storage agreed.now spaces.now)))) }
 {
     let starts = vec![in alloc; None; agreed.names.as_slice().len()].map_err(|_| NoMemory)?;

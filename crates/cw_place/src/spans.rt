@@ -55,7 +55,9 @@ fn all_spans(alloc: Global, spaces: &[Space]) -> Result<List<Span>, NoMemory>
 pub(crate) fn spans(alloc: Global, spaces: &[Space]) -> Result<Vec<Span>, NoMemory>
     ensures swept { IfOk result (λ spans. IsSwept spans.items) }
     ensures each { IfOk result (λ spans. All IsSpan spans.items) }
-    ensures fits { IfOk result (λ spans. (extent address : ℕ) → first_fit (ranges_of spans.items) extent address ≡ first_fit (absolute_words spaces.now) extent address) }
+    ensures fits { IfOk result (λ spans. (extent address : ℕ)
+        → first_fit (ranges_of spans.items) extent address
+        ≡ first_fit (absolute_words spaces.now) extent address) }
 {
     let mut spans = all_spans(alloc, spaces)?.into_vec();
     match spans.sort_by_key(|span| span.start) {

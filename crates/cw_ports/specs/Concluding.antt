@@ -43,7 +43,9 @@ IsQuiet (ends.PortFault n) is_asking = Unit {0}
 IsQuiet end is_asking = is_asking ≡ false
 
 -- What shows ends as the run of the processor did. Where that run was cut short for its input, `RunShows` says as much.
-abbrev pub EndsAlike : RunEnd → (shown : End) → (status : ImageEnd) (s : State) (input : List ℕ) (steps : ℕ) (a b : Outside) → RunShows status s input steps a b → Type 0
+abbrev pub EndsAlike : RunEnd → (shown : End)
+    → (status : ImageEnd) (s : State) (input : List ℕ) (steps : ℕ) (a b : Outside)
+    → RunShows status s input steps a b → Type 0
 EndsAlike end shown InputFault s input steps a b shows = Unit {0}
 EndsAlike end shown TooLong s input steps a b shows = Unit {0}
 EndsAlike end shown OutFault s input steps a b shows = IsQuiet end shows.2 × (shows.3.end ≡ shown)
@@ -58,7 +60,8 @@ pub record Concludes (end : RunEnd) (shown : End) (status : ImageEnd) (s : State
   pub behind : reached status s input steps a b shows ≡ steps_shown end steps
   pub alike : EndsAlike end shown status s input steps a b shows
 
--- Of whatever run ended so, from ports to which nothing was told to those which tell d' and stand as b and p do, the image shows this, and now the outside is as told.
+-- Of whatever run ended so, from ports to which nothing was told to those which tell d' and stand as b and p do, the
+-- image shows this, and now the outside is as told.
 abbrev pub ConcludesRuns : RunEnd → ImageEnd → (d' : Device) (b : InputSide) (p : OutputSide) (gathered' : ℕ) (now : Outside) → Type 0
 ConcludesRuns end status d' b p gathered' now =
     (s s' : State) (steps : ℕ) (d : Device) (a : InputSide) (o : OutputSide) (gathered : ℕ) → IsFresh d a o → (answers : RunAnswers end steps s d s' d')

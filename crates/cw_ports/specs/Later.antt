@@ -81,7 +81,8 @@ pub record IsUnwritten (held : Option (List ℕ)) (o : OutputSide) : Type 0 wher
 
 -- ---- both
 
--- Where the source failed or gave a byte too many, the sink has not failed and nothing is gathered for it: all that was gathered was written before the input was
+-- Where the source failed or gave a byte too many, the sink has not failed and nothing is gathered for it: all that
+-- was gathered was written before the input was
 -- asked for.
 abbrev pub IsSettled : Supply → (gathered : ℕ) → (is_broken : Bool) → Type 0
 IsSettled Open gathered is_broken = Unit {0}

@@ -1,5 +1,6 @@
 -- Calls follow one another on each side of the ports.
-use Rattle.std.proofs.Common.{◌≡◌, ℕ, ◌+◌, Bool, true, false, List, [], ◌++◌, length, Option, None, Some, refl, sym, ap, subst, ◌∙◌, length-append, append_assoc, append-nil}
+use Rattle.std.proofs.Common.{◌≡◌, ℕ, ◌+◌, Bool, true, false, List, [], ◌++◌, length, Option, None, Some}
+use Rattle.std.proofs.Common.{refl, sym, ap, subst, ◌∙◌, length-append, append_assoc, append-nil}
 use Rattle.std.proofs.Math.Nat.{add_assoc, add-zero}
 use Rattle.cw_io.specs.Bytes.{before_told, after_told}
 use Rattle.cw_ports.specs.Pieces.{Took, Wrote}
@@ -29,8 +30,12 @@ took_none : (left : Option (List ℕ)) (taken : ℕ) → Took left left taken ta
 took_none left taken = ([], sym (before_nothing left), sym (add-zero taken))
 
 took_more : (a b c : Option (List ℕ)) (k m n : ℕ) → Took a b k m → Took b c m n → Took a c k n
-took_more a b c k m n (xs, is, count) (ys, also, more) =
-    (xs ++ ys, is ∙ ap (before_told xs) also ∙ before_told-append xs ys c, more ∙ ap (λ m. m + length ys) count ∙ add_assoc k (length xs) (length ys) ∙ ap (λ m. k + m) (sym (length-append xs ys)))
+took_more a b c k m n (xs, is, count) (ys, also, more) = (
+  xs ++ ys,
+  is ∙ ap (before_told xs) also ∙ before_told-append xs ys c,
+  more ∙ ap (λ m. m + length ys) count ∙ add_assoc k (length xs) (length ys)
+      ∙ ap (λ m. k + m) (sym (length-append xs ys)),
+)
 
 input_stays_by : (supply : Supply) (a : InputSide) → a.supply ≡ supply → InputFrom supply a a
 input_stays_by Open a is = λ within. record {

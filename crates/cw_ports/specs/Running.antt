@@ -16,7 +16,8 @@ abbrev pub IsInput : (left : Option (List ℕ)) → (input : List ℕ) → Type 
 IsInput (Some told) input = input ≡ told
 IsInput None input = AreBytes input
 
--- What a source has left after these events. What the program has left is what is in hand, at most a piece, and then what the source has left. Nothing was taken
+-- What a source has left after these events. What the program has left is what is in hand, at most a piece, and then
+-- what the source has left. Nothing was taken
 -- where neither port 10h nor 11h was used, by the events or by an instruction that was tried after them.
 pub record ReadsAhead (events : List Event) (left left' : Option (List ℕ)) (is_asking : Bool) : Type 0 where
   pub hand : List ℕ
@@ -77,11 +78,13 @@ pub record Cut (s : State) (input : List ℕ) (steps : ℕ) (a b : Outside) : Ty
 -- What a run of at most so many steps from a state over an input does. A fault of the input comes where no byte was in hand, and it took a byte over the limit
 -- exactly where it ends with TooLong.
 abbrev pub RunShows : ImageEnd → State → (input : List ℕ) → (steps : ℕ) → (a b : Outside) → Type 0
-RunShows InputFault s input steps a b = ((cut : Cut s input steps a b) × (cut.ran.ahead.hand ≡ [])) × TakenWithin a.left b.left × Rose a.input_faults b.input_faults
+RunShows InputFault s input steps a b = ((cut : Cut s input steps a b) × (cut.ran.ahead.hand ≡ []))
+    × TakenWithin a.left b.left × Rose a.input_faults b.input_faults
 RunShows TooLong s input steps a b = Cut s input steps a b × Taken a.left b.left (input_limit + 1) × (input_limit < length input)
 RunShows OutFault s input steps a b =
     (n : ℕ) × (n ≤ steps) × (is_asking : Bool) × (shown : Observed) × Ran s input n a.left b.left is_asking shown
-    × ((count : ℕ) × (b.held ≡ after_told a.held (take count shown.output))) × TakenWithin a.left b.left × (b.input_faults ≡ a.input_faults) × Rose a.out_faults b.out_faults
+    × ((count : ℕ) × (b.held ≡ after_told a.held (take count shown.output))) × TakenWithin a.left b.left
+    × (b.input_faults ≡ a.input_faults) × Rose a.out_faults b.out_faults
 RunShows end s input steps a b =
     (shown : Observed) × Ran s input steps a.left b.left false shown × Tells end shown.end × (b.held ≡ after_told a.held shown.output)
     × TakenWithin a.left b.left × (b.input_faults ≡ a.input_faults) × (b.out_faults ≡ a.out_faults)

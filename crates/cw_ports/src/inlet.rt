@@ -72,8 +72,12 @@ impl<'a, I: Source> Inlet<'a, I> {
         requires used { self.old.is_used ≡ true }
         requires open { is_open self.old.supply ≡ true }
         requires more { self.old.is_at_end ≡ false }
-        ensures left { before_told (part self.new.bytes self.new.from self.new.to) (I.left self.new.input.now) ≡ before_told (part self.old.bytes self.old.from self.old.to) (I.left self.old.input.now) }
-        ensures later { InputLater (input_side self.old.input.ghost_name (I.left self.old.input.now) (I.faults self.old.input.now) self.old.taken self.old.supply) (input_side self.new.input.ghost_name (I.left self.new.input.now) (I.faults self.new.input.now) self.new.taken self.new.supply) }
+        ensures left { before_told (part self.new.bytes self.new.from self.new.to) (I.left self.new.input.now)
+            ≡ before_told (part self.old.bytes self.old.from self.old.to) (I.left self.old.input.now) }
+        ensures later { InputLater (input_side self.old.input.ghost_name (I.left self.old.input.now)
+            (I.faults self.old.input.now) self.old.taken self.old.supply)
+            (input_side self.new.input.ghost_name (I.left self.new.input.now) (I.faults self.new.input.now)
+            self.new.taken self.new.supply) }
         ensures end { result ≡ true → self.new.from ≡ self.new.to → IsEnd (I.left self.new.input.now) }
         ensures at_end { result ≡ true → self.new.from ≡ self.new.to → self.new.is_at_end ≡ true }
         ensures told { self.new.told_end ≡ self.old.told_end }

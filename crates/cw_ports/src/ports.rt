@@ -53,12 +53,18 @@ impl<I: Source, O: Sink> ImagePorts<'_, '_, I, O> {
     // Sees to it that a byte is in hand, or that the input has come to its end.
     #[tactic(auto, using(crate::proofs::Pieces::count_ends, crate::proofs::Pieces::settled_empty, crate::proofs::Pieces::settled_open))]
     fn ask(&mut self) -> bool
-        ensures left { before_told (part self.new.inlet.bytes self.new.inlet.from self.new.inlet.to) (I.left self.new.inlet.input.now) ≡ before_told (part self.old.inlet.bytes self.old.inlet.from self.old.inlet.to) (I.left self.old.inlet.input.now) }
-        ensures held { after_told (O.held self.new.outlet.out.now) (part self.new.outlet.bytes self.new.outlet.from self.new.outlet.to) ≡ after_told (O.held self.old.outlet.out.now) (part self.old.outlet.bytes self.old.outlet.from self.old.outlet.to) }
+        ensures left { before_told (part self.new.inlet.bytes self.new.inlet.from self.new.inlet.to)
+            (I.left self.new.inlet.input.now) ≡ before_told
+            (part self.old.inlet.bytes self.old.inlet.from self.old.inlet.to) (I.left self.old.inlet.input.now) }
+        ensures held { after_told (O.held self.new.outlet.out.now)
+            (part self.new.outlet.bytes self.new.outlet.from self.new.outlet.to)
+            ≡ after_told (O.held self.old.outlet.out.now)
+            (part self.old.outlet.bytes self.old.outlet.from self.old.outlet.to) }
         ensures used { self.new.inlet.is_used ≡ true }
         ensures refused { result ≡ false → self.new.inlet.is_cut ≡ true }
         ensures granted { result ≡ true → self.new.inlet.is_cut ≡ self.old.inlet.is_cut }
-        ensures settled { IsSettled self.old.inlet.supply self.old.outlet.to self.old.outlet.is_broken → IsSettled self.new.inlet.supply self.new.outlet.to self.new.outlet.is_broken }
+        ensures settled { IsSettled self.old.inlet.supply self.old.outlet.to self.old.outlet.is_broken
+            → IsSettled self.new.inlet.supply self.new.outlet.to self.new.outlet.is_broken }
         ensures kind { self.new.kind ≡ self.old.kind }
         ensures segment { self.new.segment ≡ self.old.segment }
         ensures line_low { self.new.line_low ≡ self.old.line_low }
@@ -67,10 +73,17 @@ impl<I: Source, O: Sink> ImagePorts<'_, '_, I, O> {
         ensures at_end { result ≡ true → self.new.inlet.from ≡ self.new.inlet.to → self.new.inlet.is_at_end ≡ true }
         ensures told { self.new.inlet.told_end ≡ self.old.inlet.told_end }
         ensures open { result ≡ true → is_open self.new.inlet.supply ≡ true }
-        ensures fine { result ≡ true → (faults_of self.new.inlet.supply self.new.outlet.is_broken ≡ 0) × (faults_of self.old.inlet.supply self.old.outlet.is_broken ≡ 0) }
+        ensures fine { result ≡ true → (faults_of self.new.inlet.supply self.new.outlet.is_broken ≡ 0)
+            × (faults_of self.old.inlet.supply self.old.outlet.is_broken ≡ 0) }
         ensures faulty { result ≡ false → faults_of self.new.inlet.supply self.new.outlet.is_broken ≡ 2 ^ 64 - 1 }
-        ensures input { InputLater (input_side self.old.inlet.input.ghost_name (I.left self.old.inlet.input.now) (I.faults self.old.inlet.input.now) self.old.inlet.taken self.old.inlet.supply) (input_side self.new.inlet.input.ghost_name (I.left self.new.inlet.input.now) (I.faults self.new.inlet.input.now) self.new.inlet.taken self.new.inlet.supply) }
-        ensures output { OutputLater (output_side self.old.outlet.out.ghost_name (O.held self.old.outlet.out.now) (O.faults self.old.outlet.out.now) self.old.outlet.is_broken) (output_side self.new.outlet.out.ghost_name (O.held self.new.outlet.out.now) (O.faults self.new.outlet.out.now) self.new.outlet.is_broken) }
+        ensures input { InputLater (input_side self.old.inlet.input.ghost_name (I.left self.old.inlet.input.now)
+            (I.faults self.old.inlet.input.now) self.old.inlet.taken self.old.inlet.supply)
+            (input_side self.new.inlet.input.ghost_name (I.left self.new.inlet.input.now)
+            (I.faults self.new.inlet.input.now) self.new.inlet.taken self.new.inlet.supply) }
+        ensures output { OutputLater (output_side self.old.outlet.out.ghost_name (O.held self.old.outlet.out.now)
+            (O.faults self.old.outlet.out.now) self.old.outlet.is_broken)
+            (output_side self.new.outlet.out.ghost_name (O.held self.new.outlet.out.now)
+            (O.faults self.new.outlet.out.now) self.new.outlet.is_broken) }
     {
         self.inlet.is_used = true;
         if !self.inlet.supply.is_open() {
@@ -163,5 +176,9 @@ impl<I: Source, O: Sink> Ports for ImagePorts<'_, '_, I, O> {
 
     ghost stays = { λ p. (input_stays _, output_stays _, λ settled. settled) };
 
-    ghost goes_on = { λ p q r first second. (input_goes_on _ _ _ first.0 second.0, output_goes_on _ _ _ first.1 second.1, λ settled. second.2 (first.2 settled)) };
+    ghost goes_on = { λ p q r first second. (
+      input_goes_on _ _ _ first.0 second.0,
+      output_goes_on _ _ _ first.1 second.1,
+      λ settled. second.2 (first.2 settled),
+    ) };
 }

@@ -59,7 +59,9 @@ impl<I: Source, O: Sink> ImagePorts<'_, '_, I, O> {
     /// How the run of an image ended, by how that of the processor did over these ports. What is gathered is written, unless the sink has failed or the
     /// input has too many bytes.
     pub fn conclude(&mut self, end: RunEnd) -> ImageEnd
-        ensures runs { ConcludesRuns end result (device_of O.Sink self.old) (input_of self.old) (output_of O.Sink self.old) (gathered_in self.old) (outside_of (input_of self.new) (output_of O.Sink self.new)) }
+        ensures runs { ConcludesRuns end result (device_of O.Sink self.old) (input_of self.old)
+            (output_of O.Sink self.old) (gathered_in self.old)
+            (outside_of (input_of self.new) (output_of O.Sink self.new)) }
         ensures input { (input_of self.new).name ≡ (input_of self.old).name }
         ensures out { (output_of O.Sink self.new).name ≡ (output_of O.Sink self.old).name }
     {
@@ -82,7 +84,8 @@ fn run_with<I: Source, O: Sink>(
     steps: u64,
 ) -> ImageEnd
     requires { IsFresh (device_of O.Sink ports.old) (input_of ports.old) (output_of O.Sink ports.old) }
-    ensures shows { RunTells result cpu.old steps (outside_of (input_of ports.old) (output_of O.Sink ports.old)) (outside_of (input_of ports.new) (output_of O.Sink ports.new)) }
+    ensures shows { RunTells result cpu.old steps (outside_of (input_of ports.old) (output_of O.Sink ports.old))
+        (outside_of (input_of ports.new) (output_of O.Sink ports.new)) }
     ensures input { (input_of ports.new).name ≡ (input_of ports.old).name }
     ensures out { (output_of O.Sink ports.new).name ≡ (output_of O.Sink ports.old).name }
 {
@@ -97,7 +100,9 @@ pub fn run_image<I: Source, O: Sink>(
     out: &mut O,
     steps: u64,
 ) -> ImageEnd
-    ensures { RunTells result cpu.old steps (outside (I.left input.old) (I.faults input.old) (O.held out.old) (O.faults out.old)) (outside (I.left input.new) (I.faults input.new) (O.held out.new) (O.faults out.new)) }
+    ensures { RunTells result cpu.old steps
+        (outside (I.left input.old) (I.faults input.old) (O.held out.old) (O.faults out.old))
+        (outside (I.left input.new) (I.faults input.new) (O.held out.new) (O.faults out.new)) }
 {
     let mut ports = ImagePorts::new(Inlet::new(input), Outlet::new(out));
     run_with(cpu, &mut ports, steps)

@@ -1,7 +1,8 @@
 -- The words of preset lists: the values of a list fill the words of the declared items in order, and a void place skips a word.
 -- Official Definition of CORAL 66, "Presetting"; BS 5905, "Presetting". That the presets in the brackets of a table fill its elements entry
 -- by entry is this project's profile.
-use Rattle.std.specs.Prelude.{ℕ, zero, suc, nat_eq, nat_le, min, ◌+◌, ◌-◌, ◌*◌, ◌%◌, ◌^◌, List, [], ◌∷◌, ◌++◌, length, take, drop, Bool, true, false, ◌&&◌, Option, Some, None, if◌then◌else◌}
+use Rattle.std.specs.Prelude.{ℕ, zero, suc, nat_eq, nat_le, min, ◌+◌, ◌-◌, ◌*◌, ◌%◌, ◌^◌, List, [], ◌∷◌, ◌++◌, length}
+use Rattle.std.specs.Prelude.{take, drop, Bool, true, false, ◌&&◌, Option, Some, None, if◌then◌else◌}
 use Rattle.std.specs.Map.{lookup}
 use Rattle.indexmap.specs.IndexMap.{insert_entry}
 use Rattle.cw_word.specs.Decimal.{decimal_floor}

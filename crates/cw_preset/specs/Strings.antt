@@ -4,7 +4,8 @@ use Rattle.std.specs.Prelude.{ℕ, min, List, [], ◌∷◌, ◌++◌, length, m
 use Rattle.cw_table.specs.declared.table.Row.{Row}
 use Rattle.cw_tree.specs.declared.expression.RawExpr.{RawExpr, RawExpr-F, fold-RawExpr}
 use Rattle.cw_tree.specs.declared.expression.RawExpr.TheOpen as layer
-use Rattle.cw_tree.specs.declared.expression.RawExpr.TheOpen.{RawPrimary-F, RawRef-F, RawCand-F, RawCmp-F, RawCond-F, RawDiffer-F, RawMask-F, RawPrim-F, RawSum-F, RawTerm-F, RawUnion-F}
+use Rattle.cw_tree.specs.declared.expression.RawExpr.TheOpen.{RawPrimary-F, RawRef-F, RawCand-F, RawCmp-F, RawCond-F, RawDiffer-F}
+use Rattle.cw_tree.specs.declared.expression.RawExpr.TheOpen.{RawMask-F, RawPrim-F, RawSum-F, RawTerm-F, RawUnion-F}
 use Rattle.cw_tree.specs.declared.expression.RawPrimary.{RawPrimary, fold-RawPrimary}
 use Rattle.cw_tree.specs.declared.expression.RawRef.{RawRef, fold-RawRef}
 use Rattle.cw_tree.specs.declared.expression.RawCand.{RawCand, fold-RawCand}
@@ -87,51 +88,75 @@ union_step e = joined e.operands
 
 abbrev pub expression_rows : RawExpr → Rows
 expression_rows =
-    fold-RawExpr Rows Rows Rows Rows Rows Rows Rows Rows Rows Rows Rows Rows expression_step primary_step reference_step conjunction_step comparison_step condition_step differ_step mask_step prim_step sum_step term_step union_step
+    fold-RawExpr Rows Rows Rows Rows Rows Rows Rows Rows Rows Rows Rows Rows expression_step primary_step
+    reference_step conjunction_step comparison_step condition_step differ_step mask_step prim_step sum_step
+    term_step union_step
 
 abbrev pub primary_rows : RawPrimary → Rows
 primary_rows =
-    fold-RawPrimary Rows Rows Rows Rows Rows Rows Rows Rows Rows Rows Rows Rows expression_step primary_step reference_step conjunction_step comparison_step condition_step differ_step mask_step prim_step sum_step term_step union_step
+    fold-RawPrimary Rows Rows Rows Rows Rows Rows Rows Rows Rows Rows Rows Rows expression_step primary_step
+    reference_step conjunction_step comparison_step condition_step differ_step mask_step prim_step sum_step
+    term_step union_step
 
 abbrev pub reference_rows : RawRef → Rows
 reference_rows =
-    fold-RawRef Rows Rows Rows Rows Rows Rows Rows Rows Rows Rows Rows Rows expression_step primary_step reference_step conjunction_step comparison_step condition_step differ_step mask_step prim_step sum_step term_step union_step
+    fold-RawRef Rows Rows Rows Rows Rows Rows Rows Rows Rows Rows Rows Rows expression_step primary_step
+    reference_step conjunction_step comparison_step condition_step differ_step mask_step prim_step sum_step
+    term_step union_step
 
 abbrev pub conjunction_rows : RawCand → Rows
 conjunction_rows =
-    fold-RawCand Rows Rows Rows Rows Rows Rows Rows Rows Rows Rows Rows Rows expression_step primary_step reference_step conjunction_step comparison_step condition_step differ_step mask_step prim_step sum_step term_step union_step
+    fold-RawCand Rows Rows Rows Rows Rows Rows Rows Rows Rows Rows Rows Rows expression_step primary_step
+    reference_step conjunction_step comparison_step condition_step differ_step mask_step prim_step sum_step
+    term_step union_step
 
 abbrev pub comparison_rows : RawCmp → Rows
 comparison_rows =
-    fold-RawCmp Rows Rows Rows Rows Rows Rows Rows Rows Rows Rows Rows Rows expression_step primary_step reference_step conjunction_step comparison_step condition_step differ_step mask_step prim_step sum_step term_step union_step
+    fold-RawCmp Rows Rows Rows Rows Rows Rows Rows Rows Rows Rows Rows Rows expression_step primary_step
+    reference_step conjunction_step comparison_step condition_step differ_step mask_step prim_step sum_step
+    term_step union_step
 
 abbrev pub condition_rows : RawCond → Rows
 condition_rows =
-    fold-RawCond Rows Rows Rows Rows Rows Rows Rows Rows Rows Rows Rows Rows expression_step primary_step reference_step conjunction_step comparison_step condition_step differ_step mask_step prim_step sum_step term_step union_step
+    fold-RawCond Rows Rows Rows Rows Rows Rows Rows Rows Rows Rows Rows Rows expression_step primary_step
+    reference_step conjunction_step comparison_step condition_step differ_step mask_step prim_step sum_step
+    term_step union_step
 
 abbrev pub differ_rows : RawDiffer → Rows
 differ_rows =
-    fold-RawDiffer Rows Rows Rows Rows Rows Rows Rows Rows Rows Rows Rows Rows expression_step primary_step reference_step conjunction_step comparison_step condition_step differ_step mask_step prim_step sum_step term_step union_step
+    fold-RawDiffer Rows Rows Rows Rows Rows Rows Rows Rows Rows Rows Rows Rows expression_step primary_step
+    reference_step conjunction_step comparison_step condition_step differ_step mask_step prim_step sum_step
+    term_step union_step
 
 abbrev pub mask_rows : RawMask → Rows
 mask_rows =
-    fold-RawMask Rows Rows Rows Rows Rows Rows Rows Rows Rows Rows Rows Rows expression_step primary_step reference_step conjunction_step comparison_step condition_step differ_step mask_step prim_step sum_step term_step union_step
+    fold-RawMask Rows Rows Rows Rows Rows Rows Rows Rows Rows Rows Rows Rows expression_step primary_step
+    reference_step conjunction_step comparison_step condition_step differ_step mask_step prim_step sum_step
+    term_step union_step
 
 abbrev pub prim_rows : RawPrim → Rows
 prim_rows =
-    fold-RawPrim Rows Rows Rows Rows Rows Rows Rows Rows Rows Rows Rows Rows expression_step primary_step reference_step conjunction_step comparison_step condition_step differ_step mask_step prim_step sum_step term_step union_step
+    fold-RawPrim Rows Rows Rows Rows Rows Rows Rows Rows Rows Rows Rows Rows expression_step primary_step
+    reference_step conjunction_step comparison_step condition_step differ_step mask_step prim_step sum_step
+    term_step union_step
 
 abbrev pub sum_rows : RawSum → Rows
 sum_rows =
-    fold-RawSum Rows Rows Rows Rows Rows Rows Rows Rows Rows Rows Rows Rows expression_step primary_step reference_step conjunction_step comparison_step condition_step differ_step mask_step prim_step sum_step term_step union_step
+    fold-RawSum Rows Rows Rows Rows Rows Rows Rows Rows Rows Rows Rows Rows expression_step primary_step
+    reference_step conjunction_step comparison_step condition_step differ_step mask_step prim_step sum_step
+    term_step union_step
 
 abbrev pub term_rows : RawTerm → Rows
 term_rows =
-    fold-RawTerm Rows Rows Rows Rows Rows Rows Rows Rows Rows Rows Rows Rows expression_step primary_step reference_step conjunction_step comparison_step condition_step differ_step mask_step prim_step sum_step term_step union_step
+    fold-RawTerm Rows Rows Rows Rows Rows Rows Rows Rows Rows Rows Rows Rows expression_step primary_step
+    reference_step conjunction_step comparison_step condition_step differ_step mask_step prim_step sum_step
+    term_step union_step
 
 abbrev pub union_rows : RawUnion → Rows
 union_rows =
-    fold-RawUnion Rows Rows Rows Rows Rows Rows Rows Rows Rows Rows Rows Rows expression_step primary_step reference_step conjunction_step comparison_step condition_step differ_step mask_step prim_step sum_step term_step union_step
+    fold-RawUnion Rows Rows Rows Rows Rows Rows Rows Rows Rows Rows Rows Rows expression_step primary_step
+    reference_step conjunction_step comparison_step condition_step differ_step mask_step prim_step sum_step
+    term_step union_step
 
 abbrev pub argument_rows : List RawExpr → Rows
 argument_rows es = joined (map expression_rows es)

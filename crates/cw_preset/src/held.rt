@@ -1,7 +1,8 @@
 //! What the items of a text hold at the start.
 ghost use Rattle.std.specs.Prelude.{◌≡◌, ◌++◌, ◌∷◌, [], map, IfOk, OnOk};
 ghost use Rattle.cw_preset.specs.Strings.{joined, expression_rows, condition_rows, reference_rows, argument_rows};
-ghost use Rattle.cw_preset.specs.Held.{felem_rows, felems_rows, rows_if, declaration_rows, form_rows, simple_rows, block_rows, procedure_rows, statement_rows, citem_rows, citems_rows, communicator_rows, communicators_rows, held_of};
+ghost use Rattle.cw_preset.specs.Held.{felem_rows, felems_rows, rows_if, declaration_rows, form_rows, simple_rows, block_rows, procedure_rows};
+ghost use Rattle.cw_preset.specs.Held.{statement_rows, citem_rows, citems_rows, communicator_rows, communicators_rows, held_of};
 
 use crate::lists::data_rows;
 use crate::strings::{argument_rows, condition_rows, expression_rows, reference_rows};

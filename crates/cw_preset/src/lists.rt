@@ -5,7 +5,8 @@ ghost use Rattle.cw_data.specs.Presets.{behind_each, table_entries};
 ghost use Rattle.cw_make_items.specs.things.Things.{amount_or_none, group_words, words_of_table};
 ghost use Rattle.cw_make_items.specs.scale.Kinds.{fraction_of, fraction_of_sint, element_fraction};
 ghost use Rattle.cw_amount.specs.Amounts.{octal_word};
-ghost use Rattle.cw_preset.specs.Lists.{as_word, place_word, word_if, places_words, named_rows, groups_rows, put_part, element_put, element_word, stored, entry_words, entries_words, elements_words, singles_preset, groups_preset, table_preset, data_rows};
+ghost use Rattle.cw_preset.specs.Lists.{as_word, place_word, word_if, places_words, named_rows, groups_rows, put_part, element_put, element_word, stored};
+ghost use Rattle.cw_preset.specs.Lists.{entry_words, entries_words, elements_words, singles_preset, groups_preset, table_preset, data_rows};
 
 use crate::stored::{Stored, words_of};
 use cw_amount::amount::{is_negative, octal_word, place_amount};

@@ -1,5 +1,6 @@
 -- What the routines of the library do, and short pieces of the code of segments.
-use Rattle.std.specs.Prelude.{◌≡◌, ℕ, suc, ◌+◌, ◌-◌, ◌*◌, ◌%◌, ◌<◌, ◌≤◌, ◌==◌, if◌then◌else◌, ℤ, List, [], ◌∷◌, length, drop, Bool, true, false, nat_lt, nat_le, All}
+use Rattle.std.specs.Prelude.{◌≡◌, ℕ, suc, ◌+◌, ◌-◌, ◌*◌, ◌%◌, ◌<◌, ◌≤◌, ◌==◌, if◌then◌else◌, ℤ, List}
+use Rattle.std.specs.Prelude.{[], ◌∷◌, length, drop, Bool, true, false, nat_lt, nat_le, All}
 use Rattle.cw_i86.specs.Sums.{logic_flags}
 use Rattle.cw_i86.specs.Effect.{holds}
 use Rattle.cw_i86.specs.declared.flags.Flags.{Flags}
@@ -120,8 +121,10 @@ ToldStop Silent code place count kind =
 -- The frame begins where the caller's ends.
 abbrev pub EnterRoutine : (Silent : ℕ → Type 0) → (code : List ℕ) → (place bound : ℕ) → Type 0
 EnterRoutine Silent code place bound =
-    (m at line r segment calls base rest number size ax cx bx bp si area : ℕ) (flags : Flags) (cells stack : ℕ → ℕ) (input : List ℕ) (told : Told) (p : Processor)
-    → m + 4 < 32767 → stack (m + 4) ≡ at → HasWord code at size → HasWord code (at + 2) number → line < 65536 → calls < 65536 → number < 256 → size < 65536 → rest ≤ area → area ≤ 32768
+    (m at line r segment calls base rest number size ax cx bx bp si area : ℕ) (flags : Flags) (cells stack : ℕ → ℕ)
+    (input : List ℕ) (told : Told) (p : Processor)
+    → m + 4 < 32767 → stack (m + 4) ≡ at → HasWord code at size → HasWord code (at + 2) number → line < 65536
+    → calls < 65536 → number < 256 → size < 65536 → rest ≤ area → area ≤ 32768
     → RecordIs stack bp r segment calls base rest
     → At code place (view ax cx line bx (2 * (m + 4)) bp si area cells stack input told) flags p
     → Within Silent code told.output bound p
@@ -202,7 +205,9 @@ SetRoutine Silent code place bound =
     → FitsWord x → a < area → Holds area w.memory cells → line < 65536 → n < 32766 → stack n ≡ back → stack (suc n) ≡ unsigned x → back < 65536
     → Tells stack bp r segment
     → At code place (view a cx line bx (2 * n) bp si area cells stack input told) flags p
-    → Within Silent code told.output bound p (Ends code told.output area back (2 * suc (suc n)) bp segment line stack input told (perform area (SetVariable a) (put x w)))
+    → Within Silent code told.output bound p
+    (Ends code told.output area back (2 * suc (suc n)) bp segment line stack input told
+    (perform area (SetVariable a) (put x w)))
 
 -- The step of a loop is added to its control variable.
 abbrev pub StepRoutine : (Silent : ℕ → Type 0) → (code : List ℕ) → (place bound : ℕ) → Type 0
@@ -246,7 +251,8 @@ ExhaustedRoutine Silent code place bound =
     → FitsWord x → a + 2 < area → Holds area memory cells → n < 32766 → stack n ≡ back → stack (suc n) ≡ unsigned x → back < 65536
     → At code place (view a cx dx bx (2 * n) bp si area cells stack input told) flags p
     → Within Silent code told.output bound p
-    (Back code (if is_past (word_at memory (a + 1)) x (word_at memory (a + 2)) then back else back + 3) (2 * suc (suc n)) bp area cells stack input told (λ ax f. Unit {0}))
+    (Back code (if is_past (word_at memory (a + 1)) x (word_at memory (a + 2)) then back else back + 3)
+    (2 * suc (suc n)) bp area cells stack input told (λ ax f. Unit {0}))
 
 -- whether the flags are those of a comparison with a left side that is at most the right one
 abbrev pub AtMost : Bool → ℕ → Flags → Type 0
@@ -263,7 +269,8 @@ GoesOn code output area to sp bp segment line stack input told Nowhere p = ⊥
 abbrev pub NextStepRoutine : (Silent : ℕ → Type 0) → (code : List ℕ) → (place bound : ℕ) → Type 0
 NextStepRoutine Silent code place bound =
     (area a m line bp n r segment back ax cx dx si : ℕ) (flags : Flags) (cells stack : ℕ → ℕ) (input : List ℕ) (told : Told) (w : Words) (p : Processor)
-    → a + 3 < area → Holds area w.memory cells → HasWord code (back + 5) line → line < 65536 → n < 32767 → stack n ≡ back → back < 65536 → Tells stack bp r segment
+    → a + 3 < area → Holds area w.memory cells → HasWord code (back + 5) line → line < 65536 → n < 32767
+    → stack n ≡ back → back < 65536 → Tells stack bp r segment
     → At code place (view ax cx dx (2 * a) (2 * n) bp si area cells stack input told) flags p
     → Within Silent code told.output bound p (GoesOn code told.output area back (2 * suc n) bp segment line stack input told (stepped area m a w))
 

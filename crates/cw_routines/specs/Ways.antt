@@ -46,7 +46,8 @@ pub record HasWord (code : List ℕ) (place word : ℕ) : Type 0 where
 -- So many instructions lead from one processor to another. At each the processor is at work at a place that is quiet, and this output is told.
 pub data Way (Quiet : ℕ → Type 0) (code output : List ℕ) : ℕ → Processor → Processor → Type 0 where
   stay : {n : ℕ} {p q : Processor} → p ≡ q → n ≡ 0 → Way Quiet code output n p q
-  go : {n m : ℕ} {p q : Processor} (v : View) → Sees code v p → Quiet v.place → v.told.output ≡ output → n ≡ 1 + m → Way Quiet code output m (processor_step p) q
+  go : {n m : ℕ} {p q : Processor} (v : View) → Sees code v p → Quiet v.place → v.told.output ≡ output → n ≡ 1 + m
+      → Way Quiet code output m (processor_step p) q
       → Way Quiet code output n p q
 
 -- they lead to a processor that is so

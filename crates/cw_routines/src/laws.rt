@@ -9,9 +9,11 @@ ghost use Rattle.cw_i86.specs.MachineRun.{Bad};
 ghost use Rattle.cw_i86.specs.declared.instr.Instr.TheVariants as i86;
 ghost use Rattle.cw_unit.specs.Stop.{Overflow, ZeroDivisor, SwitchRange, AddressRange, IndexRange};
 ghost use Rattle.cw_tmpl.specs.Mnemonics.{divide_signed};
-ghost use Rattle.cw_tmpl.specs.Library.{library_bytes, retired_place, start_place, stop_place, enter_place, read_place, set_variable_place, add_step_place, put_variable_place, exhausted_place, next_step_place, product_place, quotient_down_place, quotient_up_place, enter_stop_place};
+ghost use Rattle.cw_tmpl.specs.Library.{library_bytes, retired_place, start_place, stop_place, enter_place, read_place, set_variable_place, add_step_place, put_variable_place};
+ghost use Rattle.cw_tmpl.specs.Library.{exhausted_place, next_step_place, product_place, quotient_down_place, quotient_up_place, enter_stop_place};
 ghost use Rattle.cw_routines.specs.Ways.{HasAll, HasWord, QuietAll};
-ghost use Rattle.cw_routines.specs.Results.{Stands, Quiet, InLibrary, StartRoutine, StopRoutine, ToldStop, EnterRoutine, begin, Beginning, leave, Leaving, ReadRoutine, SetRoutine, StepRoutine, PutRoutine, ExhaustedRoutine, NextStepRoutine, WordRoutine, divisor_test, DivisorTest};
+ghost use Rattle.cw_routines.specs.Results.{Stands, Quiet, InLibrary, StartRoutine, StopRoutine, ToldStop, EnterRoutine, begin, Beginning, leave, Leaving, ReadRoutine};
+ghost use Rattle.cw_routines.specs.Results.{SetRoutine, StepRoutine, PutRoutine, ExhaustedRoutine, NextStepRoutine, WordRoutine, divisor_test, DivisorTest};
 
 use cw_run86::laws::fetching;
 use cw_word::laws::{many_places, products, quotients, readings, scaling, sums};
@@ -33,8 +35,10 @@ pub fn standing()
 pub fn bodies()
     ensures start { (quiet : ℕ → Bool) (code : List ℕ) → Stands code → InLibrary quiet → StartRoutine (Quiet quiet) code start_place 10 }
     ensures overflow { (quiet : ℕ → Bool) (code : List ℕ) → Stands code → InLibrary quiet → StopRoutine (Quiet quiet) code (stop_place Overflow) 12 Overflow }
-    ensures zero_divisor { (quiet : ℕ → Bool) (code : List ℕ) → Stands code → InLibrary quiet → StopRoutine (Quiet quiet) code (stop_place ZeroDivisor) 12 ZeroDivisor }
-    ensures address { (quiet : ℕ → Bool) (code : List ℕ) → Stands code → InLibrary quiet → StopRoutine (Quiet quiet) code (stop_place AddressRange) 12 AddressRange }
+    ensures zero_divisor { (quiet : ℕ → Bool) (code : List ℕ) → Stands code → InLibrary quiet
+        → StopRoutine (Quiet quiet) code (stop_place ZeroDivisor) 12 ZeroDivisor }
+    ensures address { (quiet : ℕ → Bool) (code : List ℕ) → Stands code → InLibrary quiet
+        → StopRoutine (Quiet quiet) code (stop_place AddressRange) 12 AddressRange }
     ensures bounds { (quiet : ℕ → Bool) (code : List ℕ) → Stands code → InLibrary quiet → StopRoutine (Quiet quiet) code (stop_place IndexRange) 12 IndexRange }
     ensures switch { (quiet : ℕ → Bool) (code : List ℕ) → Stands code → InLibrary quiet → ToldStop (Quiet quiet) code (stop_place SwitchRange) 10 SwitchRange }
 {
@@ -44,8 +48,10 @@ pub fn bodies()
 /// Activations begin, by the routine or by the code of a segment, or stop with Depth or Frames, and end in the code of a segment. A byte is read.
 pub fn calls()
     ensures enter { (quiet : ℕ → Bool) (code : List ℕ) → Stands code → InLibrary quiet → EnterRoutine (Quiet quiet) code enter_place 18 }
-    ensures beginning { (quiet : ℕ → Bool) (code : List ℕ) → Stands code → InLibrary quiet → (at size place number by : ℕ) → (at + 22 + by) % 65536 ≡ enter_stop_place →
-        HasWord code place number → QuietAll (Quiet quiet) at (begin size place by) → HasAll code at (begin size place by) → Beginning (Quiet quiet) code at size number 20 }
+    ensures beginning { (quiet : ℕ → Bool) (code : List ℕ) → Stands code → InLibrary quiet
+        → (at size place number by : ℕ) → (at + 22 + by) % 65536 ≡ enter_stop_place →
+        HasWord code place number → QuietAll (Quiet quiet) at (begin size place by)
+        → HasAll code at (begin size place by) → Beginning (Quiet quiet) code at size number 20 }
     ensures leaving { (quiet : ℕ → Bool) (code : List ℕ) (at words : ℕ) → QuietAll (Quiet quiet) at (leave words) → HasAll code at (leave words) →
         Leaving (Quiet quiet) code at words }
     ensures read { (quiet : ℕ → Bool) (code : List ℕ) → Stands code → InLibrary quiet → ReadRoutine (Quiet quiet) code read_place 6 }
@@ -57,9 +63,11 @@ pub fn calls()
 pub fn numbers()
     ensures product { (quiet : ℕ → Bool) (code : List ℕ) → Stands code → InLibrary quiet → (x y : ℤ) (j : ℕ) → FitsWord x → FitsWord y → j < 15 →
         WordRoutine (Quiet quiet) code product_place 15 (suc j) x y (scaled_product x y (negsuc j)) }
-    ensures quotient_down { (quiet : ℕ → Bool) (code : List ℕ) → Stands code → InLibrary quiet → (x y : ℤ) (j : ℕ) → FitsWord x → FitsWord y → y ≢ pos 0 → j < 15 →
+    ensures quotient_down { (quiet : ℕ → Bool) (code : List ℕ) → Stands code → InLibrary quiet → (x y : ℤ) (j : ℕ)
+        → FitsWord x → FitsWord y → y ≢ pos 0 → j < 15 →
         WordRoutine (Quiet quiet) code quotient_down_place 24 (suc j) x y (scaled_quotient x y (negsuc j)) }
-    ensures quotient_up { (quiet : ℕ → Bool) (code : List ℕ) → Stands code → InLibrary quiet → (x y : ℤ) (k : ℕ) → FitsWord x → FitsWord y → y ≢ pos 0 → k ≤ 16 →
+    ensures quotient_up { (quiet : ℕ → Bool) (code : List ℕ) → Stands code → InLibrary quiet → (x y : ℤ) (k : ℕ)
+        → FitsWord x → FitsWord y → y ≢ pos 0 → k ≤ 16 →
         WordRoutine (Quiet quiet) code quotient_up_place 26 k x y (scaled_quotient x y (pos k)) }
 {
     fetching();
@@ -88,12 +96,14 @@ pub fn loops()
 /// Code of segments: AX exchanged with another register, a word divided behind CWD by a number whose magnitude
 /// is 2 or more, which never faults, and the test of a divisor.
 pub fn pieces()
-    ensures exchange { (code : List ℕ) (v : View) (r : ℕ) → Has code v.place (i86.XchgAx r) → Goes code v (with_register 0 (register v r) (with_register r (register v 0) (on (i86.XchgAx r) v))) }
+    ensures exchange { (code : List ℕ) (v : View) (r : ℕ) → Has code v.place (i86.XchgAx r)
+        → Goes code v (with_register 0 (register v r) (with_register r (register v 0) (on (i86.XchgAx r) v))) }
     ensures quotient { (code : List ℕ) (v : View) (r : ℕ) (x n : ℤ) → Has code v.place (divide_signed r) → FitsWord x → FitsWord n → 2 ≤ unsigned_abs n →
         register v 0 ≡ unsigned x → register v 2 ≡ sign_of (unsigned x) → register v r ≡ unsigned n →
         Goes code v (with_pair (unsigned (scaled_quotient x n (pos 0))) (unsigned (int_rem x n)) (on (divide_signed r) v)) }
     ensures quotient_fits { (x n : ℤ) → FitsWord x → 2 ≤ unsigned_abs n → FitsWord (scaled_quotient x n (pos 0)) }
-    ensures divisor { (quiet : ℕ → Bool) (code : List ℕ) (at by : ℕ) → QuietAll (Quiet quiet) at (divisor_test by) → HasAll code at (divisor_test by) → by < 128 →
+    ensures divisor { (quiet : ℕ → Bool) (code : List ℕ) (at by : ℕ) → QuietAll (Quiet quiet) at (divisor_test by)
+        → HasAll code at (divisor_test by) → by < 128 →
         DivisorTest (Quiet quiet) code at by }
 {
     fetching();

@@ -10,10 +10,12 @@ use Rattle.cw_i86.specs.declared.instr.Instr.TheVariants as i86
 use Rattle.cw_i86.specs.declared.instr.Imm.TheVariants as imm
 use Rattle.cw_i86.specs.declared.instr.Mem.{Mem}
 use Rattle.cw_i86.specs.declared.instr.Rm.{Rm}
-use Rattle.cw_run86.specs.Views.{View, Has, IsTop, register, with_register, with_pair, with_stack, with_overflow, word_difference, difference_overflows, product_low, product_high, product_overflows, shift_overflow, sign_of}
+use Rattle.cw_run86.specs.Views.{View, Has, IsTop, register, with_register, with_pair, with_stack, with_overflow, word_difference}
+use Rattle.cw_run86.specs.Views.{difference_overflows, product_low, product_high, product_overflows, shift_overflow, sign_of}
 use Rattle.cw_rows86.specs.Locations.{Location, InRegister, contents, with_contents, IsWritable, offset_in, Denotes, in_memory}
 use Rattle.cw_i86.specs.declared.instr.Place.TheVariants.{Direct}
-use Rattle.cw_rows86.specs.Operations.{WordOperation, Subtract, number_of, operated_on, flags_after, counted_to, count_overflows, flags_counted, Shifting, shift_number, shifted_word, flags_shifted, places_of}
+use Rattle.cw_rows86.specs.Operations.{WordOperation, Subtract, number_of, operated_on, flags_after, counted_to, count_overflows}
+use Rattle.cw_rows86.specs.Operations.{flags_counted, Shifting, shift_number, shifted_word, flags_shifted, places_of}
 
 -- An operand comes with the location that it denotes, and where it is read, with the word a there. Of a push n is the place below the
 -- top, of a pop that of the top.
@@ -120,7 +122,8 @@ after (CountIn down rm o a) v = with_overflow (count_overflows down a) (with_con
 after (Multiply rm o a) v = with_overflow (product_overflows (register v 0) a) (with_pair (product_low (register v 0) a) (product_high (register v 0) a) v)
 after (Divide rm o a q r) v = with_pair q r v
 after Extend v = with_register 2 (sign_of (register v 0)) v
-after (Shift op by_cl rm o a) v = with_overflow (shift_overflow (shift_number op) a (places_of by_cl v) v.overflow) (with_contents o (shifted_word op a (places_of by_cl v)) v)
+after (Shift op by_cl rm o a) v = with_overflow (shift_overflow (shift_number op) a (places_of by_cl v) v.overflow)
+    (with_contents o (shifted_word op a (places_of by_cl v)) v)
 after (Push r n) v = with_register 4 (2 * n) (with_stack n (register v r) v)
 after (PushAny rm o a n) v = with_register 4 (2 * n) (with_stack n a v)
 after (Pop r n a) v = with_register r a (with_register 4 (2 * suc n) v)

@@ -9,4 +9,5 @@ use Rattle.cw_rows86.specs.Acts.{Act, Into, OperateNumberOnto, Operate}
 -- x is the index
 abbrev pub index_code : (j x k area : ℕ) → List Act
 index_code j x k area =
-    Into 3 (in_memory (Direct (2 * j))) (InData j) x ∷ OperateNumberOnto Add k (rms.Reg 3) (InRegister 3) x ∷ Operate Compare 3 (rms.Reg 7) (InRegister 7) area ∷ []
+    Into 3 (in_memory (Direct (2 * j))) (InData j) x ∷ OperateNumberOnto Add k (rms.Reg 3) (InRegister 3) x
+    ∷ Operate Compare 3 (rms.Reg 7) (InRegister 7) area ∷ []

@@ -5,7 +5,8 @@ use Rattle.cw_i86.specs.Sums.{overflows, signed, keeping_carry, sum_flags, diffe
 use Rattle.cw_i86.specs.Shifts.{shift_flags}
 use Rattle.cw_i86.specs.declared.shift.ShiftOp.TheVariants.{Shl, Shr, Sar}
 use Rattle.cw_i86.specs.declared.flags.Flags.{Flags}
-use Rattle.cw_run86.specs.Views.{View, register, with_register, with_overflow, word_sum, word_difference, sum_overflows, difference_overflows, word_up, word_down, word_down_signed}
+use Rattle.cw_run86.specs.Views.{View, register, with_register, with_overflow, word_sum, word_difference, sum_overflows}
+use Rattle.cw_run86.specs.Views.{difference_overflows, word_up, word_down, word_down_signed}
 use Rattle.cw_i86.specs.declared.instr.Instr.{Instr}
 use Rattle.cw_run86.specs.Views.{on}
 use Rattle.cw_rows86.specs.Locations.{Location, contents, with_contents, GoesWith}

@@ -33,24 +33,34 @@ module _ (p : Program) where
   -- a label of a procedure is owned by an activation of that procedure
   abbrev pub IsOwned : List Activation → (segment label owner : ℕ) → Type 0
   IsOwned acts h label owner =
-      (v : SourceUnit) (m : Label) (q : ℕ) → slice_get p.units h ≡ Some v → slice_get v.labels label ≡ Some m → m.proc ≡ Some q → owner_of (kept owner acts) ≡ Some (h, q)
+      (v : SourceUnit) (m : Label) (q : ℕ) → slice_get p.units h ≡ Some v → slice_get v.labels label ≡ Some m
+      → m.proc ≡ Some q → owner_of (kept owner acts) ≡ Some (h, q)
 
   -- the labels to which a destination may go, with their owners
   abbrev pub Names : (segment : ℕ) → List Activation → Dest → (h label owner : ℕ) → Type 0
   Names s acts (dest.Goal g) h label owner = (label_of_goal p (segment_of s acts) g ≡ Some (h, label)) × (owner ≡ length acts)
   Names s acts (dest.Special k) h label owner = control_at acts k ≡ Some (LabelControl h label owner)
   Names s acts (dest.Switch n e) h label owner =
-      (gs : List Goal) × (x : Goal) × (z : ℤ) × (switch_in (slice_get p.units (segment_of s acts)) n ≡ Some gs) × (goal_at gs z ≡ Some x) × (label_of_goal p (segment_of s acts) x ≡ Some (h, label)) × (owner ≡ length acts)
+      (gs : List Goal) × (x : Goal) × (z : ℤ) × (switch_in (slice_get p.units (segment_of s acts)) n ≡ Some gs)
+      × (goal_at gs z ≡ Some x) × (label_of_goal p (segment_of s acts) x ≡ Some (h, label))
+      × (owner ≡ length acts)
   Names s acts (dest.CommonSwitch d e) h label owner =
-      (h0 : ℕ) × (n0 : ℕ) × (gs : List Goal) × (x : Goal) × (z : ℤ) × (switch_of_def (definition_of p (segment_of s acts) d) ≡ Some (h0, n0)) × (switch_in (slice_get p.units h0) n0 ≡ Some gs) × (goal_at gs z ≡ Some x) × (label_of_goal p h0 x ≡ Some (h, label)) × (owner ≡ length acts)
+      (h0 : ℕ) × (n0 : ℕ) × (gs : List Goal) × (x : Goal) × (z : ℤ)
+      × (switch_of_def (definition_of p (segment_of s acts) d) ≡ Some (h0, n0))
+      × (switch_in (slice_get p.units h0) n0 ≡ Some gs) × (goal_at gs z ≡ Some x)
+      × (label_of_goal p h0 x ≡ Some (h, label)) × (owner ≡ length acts)
   Names s acts (dest.SpecialSwitch k e) h label owner =
-      (h0 : ℕ) × (n0 : ℕ) × (gs : List Goal) × (x : Goal) × (z : ℤ) × (control_at acts k ≡ Some (SwitchControl h0 n0 owner)) × (switch_in (slice_get p.units h0) n0 ≡ Some gs) × (goal_at gs z ≡ Some x) × (label_of_goal p h0 x ≡ Some (h, label))
+      (h0 : ℕ) × (n0 : ℕ) × (gs : List Goal) × (x : Goal) × (z : ℤ)
+      × (control_at acts k ≡ Some (SwitchControl h0 n0 owner)) × (switch_in (slice_get p.units h0) n0 ≡ Some gs)
+      × (goal_at gs z ≡ Some x) × (label_of_goal p h0 x ≡ Some (h, label))
 
   pub record Coherent (s : ℕ) (k : Work) (acts : List Activation) (w : Words) : Type 0 where
     -- each call is one of a procedure that there is
     pub procedures : (n : ℕ) (a : Activation) → slice_get acts n ≡ Some a → (q : Proc) × (procedure_at p a.segment a.procedure ≡ Some q)
     -- a call finds its arguments
-    pub arguments : (t : Target) (line : ℕ) (wanted : Bool) (next : Work) → k ≡ Enter t line wanted next → (h n : ℕ) (q : Proc) → callee_of p (segment_of s acts) acts t ≡ Calling h n → procedure_at p h n ≡ Some q → length q.params ≤ length w.operands
+    pub arguments : (t : Target) (line : ℕ) (wanted : Bool) (next : Work) → k ≡ Enter t line wanted next
+        → (h n : ℕ) (q : Proc) → callee_of p (segment_of s acts) acts t ≡ Calling h n → procedure_at p h n ≡ Some q
+        → length q.params ≤ length w.operands
     -- a jump to a label that is named leaves nothing in hand
     pub empty : (g : Goal) (line : ℕ) → k ≡ Jump (dest.Goal g) line → w.operands ≡ []
     -- a jump through a switch of the unit finds its index alone

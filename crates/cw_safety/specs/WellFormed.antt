@@ -261,7 +261,8 @@ pub record WellFormed (p : Program) : Type 0 where
   -- the body of each segment
   pub bodies : (g : ℕ) (u : SourceUnit) → slice_get p.units g ≡ Some u → IsTrue (is_statement p g None u.body)
   -- and that of each procedure
-  pub procedures : (g q : ℕ) (u : SourceUnit) (proc : Proc) → slice_get p.units g ≡ Some u → slice_get u.procs q ≡ Some proc → IsTrue (is_statement p g (Some (g, q)) proc.body)
+  pub procedures : (g q : ℕ) (u : SourceUnit) (proc : Proc) → slice_get p.units g ≡ Some u
+      → slice_get u.procs q ≡ Some proc → IsTrue (is_statement p g (Some (g, q)) proc.body)
 
 -- ---- the same as a test
 

@@ -21,7 +21,9 @@ pub fn never_stuck()
 /// In each configuration that such a run reaches, the operand stack holds no more than the depth of the body at work, where a control
 /// argument counts two.
 pub fn operands_within_depth()
-    ensures { (p : Program) (input : List ℕ) (m : ℕ) → WellFormed p → operands_held (words_of (configuration_after p input m)).operands ≤ depth_in p (configuration_after p input m) }
+    ensures { (p : Program) (input : List ℕ) (m : ℕ) → WellFormed p
+        → operands_held (words_of (configuration_after p input m)).operands
+        ≤ depth_in p (configuration_after p input m) }
 {}
 
 /// In each configuration that such a run reaches, a call finds its arguments, labels have their owners at work, a jump to a label and the

@@ -1,9 +1,11 @@
 -- The number of each status, and the line that closes what is told of a run.
 use Rattle.std.specs.Prelude.{ℕ, ◌-◌, ◌==◌, List, [], ◌++◌, Option, None, Some, slice_get, slice_index_or, codes, decimal, if◌then◌else◌}
 use Rattle.cw_say.specs.declared.status.Status.{Status}
-use Rattle.cw_say.specs.declared.status.Status.TheVariants.{Ended, Usage, Refused, Unlinked, Stopped, Unfinished, NoFile, Outside, NoMemory, BadFile, TooLong, BadCode, Divided, TooMany, NoPlace, NoItem}
+use Rattle.cw_say.specs.declared.status.Status.TheVariants.{Ended, Usage, Refused, Unlinked, Stopped, Unfinished, NoFile, Outside, NoMemory}
+use Rattle.cw_say.specs.declared.status.Status.TheVariants.{BadFile, TooLong, BadCode, Divided, TooMany, NoPlace, NoItem}
 use Rattle.cw_link.specs.declared.fault.LinkFault.{LinkFault}
-use Rattle.cw_link.specs.declared.fault.LinkFault.TheVariants.{SegmentTwice, Differs, DefinedTwice, Undefined, AbsoluteOutside, DataTooBig, ControlTooBig, PresetClash, CodeTooBig}
+use Rattle.cw_link.specs.declared.fault.LinkFault.TheVariants.{SegmentTwice, Differs, DefinedTwice, Undefined, AbsoluteOutside}
+use Rattle.cw_link.specs.declared.fault.LinkFault.TheVariants.{DataTooBig, ControlTooBig, PresetClash, CodeTooBig}
 use Rattle.cw_link.specs.declared.fault.LinkFault.TheVariants as linking
 use Rattle.cw_view.specs.declared.fault.ObjFault.{ObjFault}
 use Rattle.cw_view.specs.declared.fault.ObjFault.TheVariants as objects
@@ -215,7 +217,8 @@ abbrev pub long_name : List (List ℕ) → Long → List ℕ
 long_name names (File file) = file_name names file
 long_name names long.Input = codes "input"
 
--- The last line, for the names of the files and those of the segments. At NoPlace the names are those of what the stop word names, its segment and line as one; at
+-- The last line, for the names of the files and those of the segments. At NoPlace the names are those of what the
+-- stop word names, its segment and line as one; at
 -- NoItem, of what it watches.
 abbrev pub closing_line : (names segments : List (List ℕ)) → Status → List ℕ
 closing_line names segments Ended = []

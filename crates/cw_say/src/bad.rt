@@ -32,7 +32,8 @@ fn write_place_parts<S: Sink>(
     text: &[u8],
     place: &[u8],
 ) -> Result<(), Failed>
-    ensures { Writes (S.held say.old) (S.held say.new) (S.faults say.old) (S.faults say.new) (file.now ++ (mark.now ++ (text.now ++ (codes " " ++ (place.now ++ codes "\n"))))) result }
+    ensures { Writes (S.held say.old) (S.held say.new) (S.faults say.old) (S.faults say.new)
+        (file.now ++ (mark.now ++ (text.now ++ (codes " " ++ (place.now ++ codes "\n"))))) result }
 {
     write_line(say, &[file, mark, text, b" ", place, b"\n"])
 }
@@ -111,7 +112,8 @@ fn write_member_fault<S: Sink>(
     member: u16,
     fault: &ObjFault,
 ) -> Result<(), Failed>
-    ensures { Writes (S.held say.old) (S.held say.new) (S.faults say.old) (S.faults say.new) (file.now ++ (codes ": B5 BadMember " ++ (decimal member ++ object_line (codes " ") fault.now))) result }
+    ensures { Writes (S.held say.old) (S.held say.new) (S.faults say.old) (S.faults say.new)
+        (file.now ++ (codes ": B5 BadMember " ++ (decimal member ++ object_line (codes " ") fault.now))) result }
 {
     let mut buffer = itoa::Buffer::new();
     let digits = buffer.format(member);

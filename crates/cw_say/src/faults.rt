@@ -43,7 +43,9 @@ fn write_named_parts<S: Sink>(
     name: &[u8],
     what: &[u8],
 ) -> Result<(), Failed>
-    ensures { Writes (S.held say.old) (S.held say.new) (S.faults say.old) (S.faults say.new) (file.now ++ (codes ":" ++ (line.now ++ (codes ": " ++ (name.now ++ (codes " " ++ (what.now ++ codes "\n"))))))) result }
+    ensures { Writes (S.held say.old) (S.held say.new) (S.faults say.old) (S.faults say.new)
+        (file.now ++ (codes ":"
+        ++ (line.now ++ (codes ": " ++ (name.now ++ (codes " " ++ (what.now ++ codes "\n"))))))) result }
 {
     write_line(say, &[file, b":", line, b": ", name, b" ", what, b"\n"])
 }

@@ -24,7 +24,8 @@ fn file_name<'a>(names: &'a [&str], file: u16) -> &'a [u8]
 }
 
 fn write_too_long<S: Sink>(say: &mut S, names: &[&str], long: &Long) -> Result<(), Failed>
-    ensures { Writes (S.held say.old) (S.held say.new) (S.faults say.old) (S.faults say.new) (codes "too long: " ++ long_name (map (λ name. name.now) names.now) long.now ++ codes "\n") result }
+    ensures { Writes (S.held say.old) (S.held say.new) (S.faults say.old) (S.faults say.new)
+        (codes "too long: " ++ long_name (map (λ name. name.now) names.now) long.now ++ codes "\n") result }
 {
     match long {
         Long::File(file) => write_name(say, b"too long: ", file_name(names, *file)),
@@ -39,7 +40,8 @@ pub fn write_last<S: Sink>(
     segments: &[Name],
     status: &Status,
 ) -> Result<(), Failed>
-    ensures line { Writes (S.held say.old) (S.held say.new) (S.faults say.old) (S.faults say.new) (closing_line (map (λ name. name.now) names.now) segments.now status.now) result }
+    ensures line { Writes (S.held say.old) (S.held say.new) (S.faults say.old) (S.faults say.new)
+        (closing_line (map (λ name. name.now) names.now) segments.now status.now) result }
     ensures none { status.now ≡ Status.Ended → S.faults say.new ≡ S.faults say.old }
 {
     match status {
@@ -99,7 +101,10 @@ fn write_stopped<S: Sink>(
     number: u8,
     line: u16,
 ) -> Result<(), Failed>
-    ensures { Writes (S.held say.old) (S.held say.new) (S.faults say.old) (S.faults say.new) (codes "stopped: " ++ name_or_number (stop_name kind) kind ++ codes " " ++ name_or_number (segment_name segments.now number) number ++ codes " " ++ decimal line ++ codes "\n") result }
+    ensures { Writes (S.held say.old) (S.held say.new) (S.faults say.old) (S.faults say.new)
+        (codes "stopped: " ++ name_or_number (stop_name kind) kind ++ codes " "
+        ++ name_or_number (segment_name segments.now number) number ++ codes " " ++ decimal line ++ codes "\n")
+        result }
 {
     let mut kind_digits = itoa::Buffer::new();
     let mut number_digits = itoa::Buffer::new();
@@ -125,7 +130,8 @@ fn write_stopped_parts<S: Sink>(
     segment: &[u8],
     line: &[u8],
 ) -> Result<(), Failed>
-    ensures { Writes (S.held say.old) (S.held say.new) (S.faults say.old) (S.faults say.new) (codes "stopped: " ++ kind.now ++ codes " " ++ segment.now ++ codes " " ++ line.now ++ codes "\n") result }
+    ensures { Writes (S.held say.old) (S.held say.new) (S.faults say.old) (S.faults say.new)
+        (codes "stopped: " ++ kind.now ++ codes " " ++ segment.now ++ codes " " ++ line.now ++ codes "\n") result }
 {
     write_line(say, &[b"stopped: ", kind, b" ", segment, b" ", line, b"\n"])
 }

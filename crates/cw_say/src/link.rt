@@ -10,7 +10,8 @@ use cw_write::{write_line, write_name, write_number, write_piece};
 
 // Writes a text, two numbers and the end of the line.
 fn write_outside<S: Sink>(say: &mut S, text: &[u8], segment: u8, address: u16) -> Result<(), Failed>
-    ensures { Writes (S.held say.old) (S.held say.new) (S.faults say.old) (S.faults say.new) (text.now ++ decimal segment ++ codes " " ++ decimal address ++ codes "\n") result }
+    ensures { Writes (S.held say.old) (S.held say.new) (S.faults say.old) (S.faults say.new)
+        (text.now ++ decimal segment ++ codes " " ++ decimal address ++ codes "\n") result }
 {
     let mut segment_buffer = itoa::Buffer::new();
     let mut address_buffer = itoa::Buffer::new();
@@ -27,7 +28,9 @@ fn write_clash<S: Sink>(
     first: u8,
     second: u8,
 ) -> Result<(), Failed>
-    ensures { Writes (S.held say.old) (S.held say.new) (S.faults say.old) (S.faults say.new) (text.now ++ (decimal address ++ (codes " " ++ (decimal first ++ (codes " " ++ (decimal second ++ codes "\n")))))) result }
+    ensures { Writes (S.held say.old) (S.held say.new) (S.faults say.old) (S.faults say.new)
+        (text.now ++ (decimal address ++ (codes " "
+        ++ (decimal first ++ (codes " " ++ (decimal second ++ codes "\n")))))) result }
 {
     let mut buffer = itoa::Buffer::new();
     let digits = buffer.format(address).as_bytes();
@@ -41,7 +44,9 @@ fn write_segments<S: Sink>(
     first: u8,
     second: u8,
 ) -> Result<(), Failed>
-    ensures { Writes (S.held say.old) (S.held say.new) (S.faults say.old) (S.faults say.new) (text.now ++ (address.now ++ (codes " " ++ (decimal first ++ (codes " " ++ (decimal second ++ codes "\n")))))) result }
+    ensures { Writes (S.held say.old) (S.held say.new) (S.faults say.old) (S.faults say.new)
+        (text.now ++ (address.now ++ (codes " "
+        ++ (decimal first ++ (codes " " ++ (decimal second ++ codes "\n")))))) result }
 {
     let mut first_buffer = itoa::Buffer::new();
     let mut second_buffer = itoa::Buffer::new();
@@ -57,7 +62,8 @@ fn write_three<S: Sink>(
     second: &[u8],
     third: &[u8],
 ) -> Result<(), Failed>
-    ensures { Writes (S.held say.old) (S.held say.new) (S.faults say.old) (S.faults say.new) (text.now ++ (first.now ++ (codes " " ++ (second.now ++ (codes " " ++ (third.now ++ codes "\n")))))) result }
+    ensures { Writes (S.held say.old) (S.held say.new) (S.faults say.old) (S.faults say.new)
+        (text.now ++ (first.now ++ (codes " " ++ (second.now ++ (codes " " ++ (third.now ++ codes "\n")))))) result }
 {
     write_line(say, &[text, first, b" ", second, b" ", third, b"\n"])
 }

@@ -1,6 +1,7 @@
 -- The rules of types in expressions: the natural scale and the operand scale of each, and its faults where it is evaluated at a scale.
 -- Official Definition of CORAL 66, "Expressions"; BS 5905, "Scaling".
-use Rattle.std.specs.Prelude.{ℕ, zero, suc, ◌+◌, ◌≤◌, nat_le, nat_lt, max, ◌==◌, List, [], ◌∷◌, length, map, Bool, true, false, ◌&&◌, Option, Some, None, is_none, is_some, if◌then◌else◌}
+use Rattle.std.specs.Prelude.{ℕ, zero, suc, ◌+◌, ◌≤◌, nat_le, nat_lt, max, ◌==◌, List, [], ◌∷◌, length, map, Bool}
+use Rattle.std.specs.Prelude.{true, false, ◌&&◌, Option, Some, None, is_none, is_some, if◌then◌else◌}
 use Rattle.cw_word.specs.Decimal.{decimal_floor}
 use Rattle.cw_tree.specs.declared.leaf.Position.{Position}
 use Rattle.cw_tree.specs.declared.leaf.RawName.{RawName}
@@ -9,7 +10,8 @@ use Rattle.cw_tree.specs.declared.leaf.MulOp.{MulOp}
 use Rattle.cw_tree.specs.declared.leaf.MulOp.TheVariants as op
 use Rattle.cw_word.specs.Number.{Number}
 use Rattle.cw_tree.specs.declared.expression.RawExpr.TheOpen as layer
-use Rattle.cw_tree.specs.declared.expression.RawExpr.TheOpen.{RawPrimary-F, RawRef-F, RawCand-F, RawCmp-F, RawCond-F, RawDiffer-F, RawMask-F, RawPrim-F, RawSum-F, RawTerm-F, RawUnion-F}
+use Rattle.cw_tree.specs.declared.expression.RawExpr.TheOpen.{RawPrimary-F, RawRef-F, RawCand-F, RawCmp-F, RawCond-F, RawDiffer-F}
+use Rattle.cw_tree.specs.declared.expression.RawExpr.TheOpen.{RawMask-F, RawPrim-F, RawSum-F, RawTerm-F, RawUnion-F}
 use Rattle.cw_tree.specs.declared.expression.RawExpr.{RawExpr, RawExpr-F, fold-RawExpr}
 use Rattle.cw_tree.specs.declared.expression.RawPrimary.{RawPrimary, fold-RawPrimary}
 use Rattle.cw_tree.specs.declared.expression.RawRef.{RawRef, fold-RawRef}
@@ -36,7 +38,8 @@ use Rattle.cw_scale.specs.Kinds.{kind_of, signature_of, fraction_of, fraction_of
 use Rattle.cw_scale.specs.Arguments.{is_word_item_if, is_whole_if, takes}
 use Rattle.cw_amount.specs.Amounts.{octal_word}
 
--- of an expression: its shape (its natural scale, its scale as an operand, its name where it is a name by itself, and whether it is a reference of a whole word), and the faults of
+-- of an expression: its shape (its natural scale, its scale as an operand, its name where it is a name by itself, and
+-- whether it is a reference of a whole word), and the faults of
 -- its evaluation at a scale
 pub record Judged : Type 0 where
   pub shape : Shape
@@ -209,7 +212,11 @@ module _ (named : Named) where
 
   abbrev pub comparison_step : RawCmp-F Judged Judged Judged Judged Judged Judged Judged Judged Judged Judged Judged Judged → Judged
   comparison_step c =
-      record { shape = plain 0; faults = λ f. both (c.left.faults (max c.left.shape.natural c.right.shape.natural)) (c.right.faults (max c.left.shape.natural c.right.shape.natural)) }
+      record {
+        shape = plain 0;
+        faults = λ f. both (c.left.faults (max c.left.shape.natural c.right.shape.natural))
+            (c.right.faults (max c.left.shape.natural c.right.shape.natural));
+      }
 
   abbrev pub condition_step : RawCond-F Judged Judged Judged Judged Judged Judged Judged Judged Judged Judged Judged Judged → Judged
   condition_step c = record { shape = plain 0; faults = λ f. each_at 0 c.operands }
@@ -248,37 +255,61 @@ module _ (named : Named) where
       }
 
   abbrev pub expression : RawExpr → Judged
-  expression = fold-RawExpr Judged Judged Judged Judged Judged Judged Judged Judged Judged Judged Judged Judged expression_step primary_step reference_step conjunction_step comparison_step condition_step differ_step mask_step prim_step sum_step term_step union_step
+  expression = fold-RawExpr Judged Judged Judged Judged Judged Judged Judged Judged Judged Judged Judged Judged
+      expression_step primary_step reference_step conjunction_step comparison_step condition_step differ_step
+      mask_step prim_step sum_step term_step union_step
 
   abbrev pub primary : RawPrimary → Judged
-  primary = fold-RawPrimary Judged Judged Judged Judged Judged Judged Judged Judged Judged Judged Judged Judged expression_step primary_step reference_step conjunction_step comparison_step condition_step differ_step mask_step prim_step sum_step term_step union_step
+  primary = fold-RawPrimary Judged Judged Judged Judged Judged Judged Judged Judged Judged Judged Judged Judged
+      expression_step primary_step reference_step conjunction_step comparison_step condition_step differ_step
+      mask_step prim_step sum_step term_step union_step
 
   abbrev pub reference : RawRef → Judged
-  reference = fold-RawRef Judged Judged Judged Judged Judged Judged Judged Judged Judged Judged Judged Judged expression_step primary_step reference_step conjunction_step comparison_step condition_step differ_step mask_step prim_step sum_step term_step union_step
+  reference = fold-RawRef Judged Judged Judged Judged Judged Judged Judged Judged Judged Judged Judged Judged
+      expression_step primary_step reference_step conjunction_step comparison_step condition_step differ_step
+      mask_step prim_step sum_step term_step union_step
 
   abbrev pub conjunction : RawCand → Judged
-  conjunction = fold-RawCand Judged Judged Judged Judged Judged Judged Judged Judged Judged Judged Judged Judged expression_step primary_step reference_step conjunction_step comparison_step condition_step differ_step mask_step prim_step sum_step term_step union_step
+  conjunction = fold-RawCand Judged Judged Judged Judged Judged Judged Judged Judged Judged Judged Judged Judged
+      expression_step primary_step reference_step conjunction_step comparison_step condition_step differ_step
+      mask_step prim_step sum_step term_step union_step
 
   abbrev pub comparison : RawCmp → Judged
-  comparison = fold-RawCmp Judged Judged Judged Judged Judged Judged Judged Judged Judged Judged Judged Judged expression_step primary_step reference_step conjunction_step comparison_step condition_step differ_step mask_step prim_step sum_step term_step union_step
+  comparison = fold-RawCmp Judged Judged Judged Judged Judged Judged Judged Judged Judged Judged Judged Judged
+      expression_step primary_step reference_step conjunction_step comparison_step condition_step differ_step
+      mask_step prim_step sum_step term_step union_step
 
   abbrev pub condition : RawCond → Judged
-  condition = fold-RawCond Judged Judged Judged Judged Judged Judged Judged Judged Judged Judged Judged Judged expression_step primary_step reference_step conjunction_step comparison_step condition_step differ_step mask_step prim_step sum_step term_step union_step
+  condition = fold-RawCond Judged Judged Judged Judged Judged Judged Judged Judged Judged Judged Judged Judged
+      expression_step primary_step reference_step conjunction_step comparison_step condition_step differ_step
+      mask_step prim_step sum_step term_step union_step
 
   abbrev pub differ : RawDiffer → Judged
-  differ = fold-RawDiffer Judged Judged Judged Judged Judged Judged Judged Judged Judged Judged Judged Judged expression_step primary_step reference_step conjunction_step comparison_step condition_step differ_step mask_step prim_step sum_step term_step union_step
+  differ = fold-RawDiffer Judged Judged Judged Judged Judged Judged Judged Judged Judged Judged Judged Judged
+      expression_step primary_step reference_step conjunction_step comparison_step condition_step differ_step
+      mask_step prim_step sum_step term_step union_step
 
   abbrev pub mask : RawMask → Judged
-  mask = fold-RawMask Judged Judged Judged Judged Judged Judged Judged Judged Judged Judged Judged Judged expression_step primary_step reference_step conjunction_step comparison_step condition_step differ_step mask_step prim_step sum_step term_step union_step
+  mask = fold-RawMask Judged Judged Judged Judged Judged Judged Judged Judged Judged Judged Judged Judged
+      expression_step primary_step reference_step conjunction_step comparison_step condition_step differ_step
+      mask_step prim_step sum_step term_step union_step
 
   abbrev pub prim : RawPrim → Judged
-  prim = fold-RawPrim Judged Judged Judged Judged Judged Judged Judged Judged Judged Judged Judged Judged expression_step primary_step reference_step conjunction_step comparison_step condition_step differ_step mask_step prim_step sum_step term_step union_step
+  prim = fold-RawPrim Judged Judged Judged Judged Judged Judged Judged Judged Judged Judged Judged Judged
+      expression_step primary_step reference_step conjunction_step comparison_step condition_step differ_step
+      mask_step prim_step sum_step term_step union_step
 
   abbrev pub sum : RawSum → Judged
-  sum = fold-RawSum Judged Judged Judged Judged Judged Judged Judged Judged Judged Judged Judged Judged expression_step primary_step reference_step conjunction_step comparison_step condition_step differ_step mask_step prim_step sum_step term_step union_step
+  sum = fold-RawSum Judged Judged Judged Judged Judged Judged Judged Judged Judged Judged Judged Judged
+      expression_step primary_step reference_step conjunction_step comparison_step condition_step differ_step
+      mask_step prim_step sum_step term_step union_step
 
   abbrev pub term : RawTerm → Judged
-  term = fold-RawTerm Judged Judged Judged Judged Judged Judged Judged Judged Judged Judged Judged Judged expression_step primary_step reference_step conjunction_step comparison_step condition_step differ_step mask_step prim_step sum_step term_step union_step
+  term = fold-RawTerm Judged Judged Judged Judged Judged Judged Judged Judged Judged Judged Judged Judged
+      expression_step primary_step reference_step conjunction_step comparison_step condition_step differ_step
+      mask_step prim_step sum_step term_step union_step
 
   abbrev pub union : RawUnion → Judged
-  union = fold-RawUnion Judged Judged Judged Judged Judged Judged Judged Judged Judged Judged Judged Judged expression_step primary_step reference_step conjunction_step comparison_step condition_step differ_step mask_step prim_step sum_step term_step union_step
+  union = fold-RawUnion Judged Judged Judged Judged Judged Judged Judged Judged Judged Judged Judged Judged
+      expression_step primary_step reference_step conjunction_step comparison_step condition_step differ_step
+      mask_step prim_step sum_step term_step union_step

@@ -1,7 +1,8 @@
 //! Which parameters take which arguments.
 ghost use Rattle.std.specs.Prelude.{◌≡◌, map};
 ghost use Rattle.cw_scale.specs.Kinds.{kind_of, signature_of};
-ghost use Rattle.cw_scale.specs.Arguments.{takes_none, answers_alone, is_array, is_table, is_passed, takes_these, specified_so, name_is_value, kind_fits, takes_value, takes_name, takes_plain, is_passed_if, takes_procedure, takes};
+ghost use Rattle.cw_scale.specs.Arguments.{takes_none, answers_alone, is_array, is_table, is_passed, takes_these, specified_so, name_is_value};
+ghost use Rattle.cw_scale.specs.Arguments.{kind_fits, takes_value, takes_name, takes_plain, is_passed_if, takes_procedure, takes};
 ghost use Rattle.cw_scale.specs.TypeRules.{all_taken, expression};
 
 use crate::kinds::{fraction_of, kind_of, names_word, signature_of};

@@ -1,7 +1,8 @@
 //! The rules of types in expressions.
 ghost use Rattle.std.specs.Prelude.{◌≡◌, ◌≤◌, ◌<◌, ◌==◌, max, map};
 ghost use Rattle.cw_scale.specs.Kinds.{signature_of};
-ghost use Rattle.cw_scale.specs.TypeRules.{can_divide, factor_faults, scale_for, expression, conjunction, comparison, condition, sum, term, differ, union, mask, prim, primary, reference, argument_faults, arguments_faults, call_faults};
+ghost use Rattle.cw_scale.specs.TypeRules.{can_divide, factor_faults, scale_for, expression, conjunction, comparison, condition, sum, term};
+ghost use Rattle.cw_scale.specs.TypeRules.{differ, union, mask, prim, primary, reference, argument_faults, arguments_faults, call_faults};
 
 use crate::arguments::all_taken;
 use crate::fault::{Fault, Rule, keep, keep_unless};

@@ -1,6 +1,7 @@
 //! What the names of a resolved text name.
 ghost use Rattle.std.specs.Prelude.{◌≡◌, Some, option_copied};
-ghost use Rattle.cw_scale.specs.Kinds.{kind_of, signature_of, fraction_of_sint, fraction_of, element_fraction, answer_fraction, kind_fraction, fraction_of_kind};
+ghost use Rattle.cw_scale.specs.Kinds.{kind_of, signature_of, fraction_of_sint, fraction_of, element_fraction};
+ghost use Rattle.cw_scale.specs.Kinds.{answer_fraction, kind_fraction, fraction_of_kind};
 ghost use Rattle.cw_scale.specs.Arguments.{is_word_item, is_word_item_if, is_whole_if};
 
 use cw_amount::amount::{is_negative, place_amount};

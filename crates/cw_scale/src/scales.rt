@@ -1,6 +1,7 @@
 //! The scales of expressions.
 ghost use Rattle.std.specs.Prelude.{◌≡◌, ◌≤◌, ◌<◌, ◌==◌, max, length, map};
-ghost use Rattle.cw_scale.specs.TypeRules.{plain, number_shape, name_shape, place_shape, merged, logic_merged, fits_at, best_within, number_operand, expression, sum, term, differ, union, mask, prim, primary, reference};
+ghost use Rattle.cw_scale.specs.TypeRules.{plain, number_shape, name_shape, place_shape, merged, logic_merged, fits_at, best_within};
+ghost use Rattle.cw_scale.specs.TypeRules.{number_operand, expression, sum, term, differ, union, mask, prim, primary, reference};
 
 use crate::kinds::{fraction_of, name_fraction, names_whole, names_word};
 use cw_scope::resolve::Named;

@@ -1,6 +1,7 @@
 //! The rules of number types and of fields.
 ghost use Rattle.std.specs.Prelude.{◌≡◌, ◌<◌, ◌^◌, IfSome};
-ghost use Rattle.cw_scale.specs.Types.{int_judged, in_range, range_judged, scale_judged, type_judged, answer_judged, ends_within, is_field, bits_judged, each_bits_judged};
+ghost use Rattle.cw_scale.specs.Types.{int_judged, in_range, range_judged, scale_judged, type_judged, answer_judged};
+ghost use Rattle.cw_scale.specs.Types.{ends_within, is_field, bits_judged, each_bits_judged};
 
 use crate::fault::{Fault, Rule, keep_unless};
 use cw_amount::amount::{int_position, is_negative, number_position, place_amount};

@@ -89,7 +89,8 @@ size_tokens s = symbol symbols.OpenSquare ∷ (int_tokens s.first ++ symbol symb
 
 abbrev pub type_tokens : RawType → Tokens
 type_tokens (type_tree.Integer at) = word words.Integer ∷ []
-type_tokens (type_tree.Fixed at t f) = word words.Fixed ∷ symbol symbols.Open ∷ (int_tokens t ++ symbol symbols.Comma ∷ (sint_tokens f ++ symbol symbols.Close ∷ []))
+type_tokens (type_tree.Fixed at t f) = word words.Fixed ∷ symbol symbols.Open
+    ∷ (int_tokens t ++ symbol symbols.Comma ∷ (sint_tokens f ++ symbol symbols.Close ∷ []))
 
 -- ---- lists
 

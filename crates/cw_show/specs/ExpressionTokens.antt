@@ -6,7 +6,8 @@ use Rattle.cw_lex.specs.declared.token.Symbol.TheVariants as symbols
 use Rattle.cw_lex.specs.declared.token.Word.TheVariants as words
 use Rattle.cw_tree.specs.declared.expression.RawBits.{RawBits}
 use Rattle.cw_tree.specs.declared.expression.RawExpr.TheOpen as layer
-use Rattle.cw_tree.specs.declared.expression.RawExpr.TheOpen.{RawExpr-F, RawPrimary-F, RawRef-F, RawCand-F, RawCmp-F, RawCond-F, RawDiffer-F, RawMask-F, RawPrim-F, RawSum-F, RawTerm-F, RawUnion-F}
+use Rattle.cw_tree.specs.declared.expression.RawExpr.TheOpen.{RawExpr-F, RawPrimary-F, RawRef-F, RawCand-F, RawCmp-F, RawCond-F, RawDiffer-F}
+use Rattle.cw_tree.specs.declared.expression.RawExpr.TheOpen.{RawMask-F, RawPrim-F, RawSum-F, RawTerm-F, RawUnion-F}
 use Rattle.cw_tree.specs.declared.expression.RawExpr.{RawExpr, fold-RawExpr}
 use Rattle.cw_tree.specs.declared.expression.RawPrimary.{RawPrimary, fold-RawPrimary}
 use Rattle.cw_tree.specs.declared.expression.RawRef.{RawRef, fold-RawRef}
@@ -20,7 +21,8 @@ use Rattle.cw_tree.specs.declared.expression.RawSum.{RawSum, fold-RawSum}
 use Rattle.cw_tree.specs.declared.expression.RawTerm.{RawTerm, fold-RawTerm}
 use Rattle.cw_tree.specs.declared.expression.RawUnion.{RawUnion, fold-RawUnion}
 use Rattle.cw_show.specs.Spelling.{Spelling, word, symbol}
-use Rattle.cw_show.specs.Canonical.{Tokens, name, number, literal, string, octal_tokens, add_symbol, multiply_symbol, compare_symbol, sign_tokens, size_tokens, type_tokens, between, operation, joined, comma, bracketed, indexed}
+use Rattle.cw_show.specs.Canonical.{Tokens, name, number, literal, string, octal_tokens, add_symbol, multiply_symbol, compare_symbol}
+use Rattle.cw_show.specs.Canonical.{sign_tokens, size_tokens, type_tokens, between, operation, joined, comma, bracketed, indexed}
 
 abbrev pub bits_tokens : RawBits → Tokens
 bits_tokens b = word words.Bits ∷ size_tokens b.size

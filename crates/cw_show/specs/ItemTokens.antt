@@ -19,7 +19,8 @@ use Rattle.cw_tree.specs.declared.items.RawElem.TheVariants as elems
 use Rattle.cw_tree.specs.declared.items.RawData.TheVariants as datas
 use Rattle.cw_tree.specs.declared.items.RawBase.TheVariants as bases
 use Rattle.cw_show.specs.Spelling.{Spelling, word, symbol, text_of}
-use Rattle.cw_show.specs.Canonical.{Tokens, name, number, literal, octal_tokens, int_tokens, sign_tokens, sint_tokens, size_tokens, type_tokens, between, comma, semicolon, bracketed, indexed}
+use Rattle.cw_show.specs.Canonical.{Tokens, name, number, literal, octal_tokens, int_tokens, sign_tokens, sint_tokens}
+use Rattle.cw_show.specs.Canonical.{size_tokens, type_tokens, between, comma, semicolon, bracketed, indexed}
 
 abbrev pub name_tokens : RawName → Tokens
 name_tokens n = name n.name ∷ []

@@ -35,4 +35,5 @@ spelling t = record { kind = t.kind; text = t.text }
 
 -- A text written token by token has these tokens and no others.
 abbrev pub TokenizesAsWritten : Type 0
-TokenizesAsWritten = (ts : List Spelling) → All IsSpelled ts → NoComment false ts → (us : List Lexeme) × Tokenizes Source first_place (text_of ts) us × (map spelling us ≡ ts)
+TokenizesAsWritten = (ts : List Spelling) → All IsSpelled ts → NoComment false ts
+    → (us : List Lexeme) × Tokenizes Source first_place (text_of ts) us × (map spelling us ≡ ts)

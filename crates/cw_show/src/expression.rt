@@ -2,7 +2,8 @@
 ghost use Rattle.std.specs.Prelude.{◌≡◌, ◌∷◌, ◌++◌, [], map, drop, slice_get, OnOk};
 ghost use Rattle.cw_show.specs.Spelling.{with_token, with_tokens};
 ghost use Rattle.cw_show.specs.Canonical.{add_symbol, multiply_symbol, joined, bracketed, indexed, between, comma};
-ghost use Rattle.cw_show.specs.ExpressionTokens.{add_at, multiply_at, bits_tokens, expr_tokens, primary_tokens, ref_tokens, cand_tokens, cmp_tokens, cond_tokens, differ_tokens, mask_tokens, prim_tokens, sum_tokens, term_tokens, union_tokens};
+ghost use Rattle.cw_show.specs.ExpressionTokens.{add_at, multiply_at, bits_tokens, expr_tokens, primary_tokens, ref_tokens, cand_tokens, cmp_tokens};
+ghost use Rattle.cw_show.specs.ExpressionTokens.{cond_tokens, differ_tokens, mask_tokens, prim_tokens, sum_tokens, term_tokens, union_tokens};
 
 use crate::leaf::{
     put_add_op, put_compare_op, put_literal, put_mul_op, put_name, put_number, put_octal, put_sign,

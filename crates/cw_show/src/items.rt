@@ -2,7 +2,9 @@
 ghost use Rattle.std.specs.Prelude.{◌≡◌, ◌++◌, ◌∷◌, [], map, OnOk};
 ghost use Rattle.cw_show.specs.Spelling.{with_token, with_tokens};
 ghost use Rattle.cw_show.specs.Canonical.{comma};
-ghost use Rattle.cw_show.specs.ItemTokens.{name_tokens, names_tokens, place_tokens, places_tokens, assigned_tokens, preset_tokens, range_tokens, second_range_tokens, bounds_tokens, group_tokens, groups_tokens, unsigned_tokens, shape_tokens, two_ints, elem_tokens, elems_tokens, table_head, table_with, data_tokens, base_tokens, overlay_tokens};
+ghost use Rattle.cw_show.specs.ItemTokens.{name_tokens, names_tokens, place_tokens, places_tokens, assigned_tokens, preset_tokens, range_tokens};
+ghost use Rattle.cw_show.specs.ItemTokens.{second_range_tokens, bounds_tokens, group_tokens, groups_tokens, unsigned_tokens, shape_tokens, two_ints};
+ghost use Rattle.cw_show.specs.ItemTokens.{elem_tokens, elems_tokens, table_head, table_with, data_tokens, base_tokens, overlay_tokens};
 
 use crate::leaf::{
     put_int, put_literal, put_name, put_number, put_octal, put_sign, put_sint, put_size, put_type,

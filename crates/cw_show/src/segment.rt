@@ -2,7 +2,8 @@
 ghost use Rattle.std.specs.Prelude.{◌≡◌, ◌++◌, ◌∷◌, [], map, OnOk};
 ghost use Rattle.cw_show.specs.Spelling.{with_token, with_tokens};
 ghost use Rattle.cw_show.specs.Canonical.{comma, listed, semicolon};
-ghost use Rattle.cw_show.specs.SegmentTokens.{answer_tokens, tag as tag_token, ips_tokens, ps_tokens, spec_tokens, citem_tokens, address_tokens, aitem_tokens, comm_tokens};
+ghost use Rattle.cw_show.specs.SegmentTokens.{answer_tokens, tag as tag_token, ips_tokens, ps_tokens, spec_tokens};
+ghost use Rattle.cw_show.specs.SegmentTokens.{citem_tokens, address_tokens, aitem_tokens, comm_tokens};
 
 use crate::items::{put_bounds, put_data, put_names, put_overlay, put_table};
 use crate::leaf::{put_int, put_name, put_size, put_type};

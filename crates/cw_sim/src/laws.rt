@@ -33,7 +33,9 @@ pub fn preservation()
     ensures completes { (us : List SourceUnit) (m : Map) (limits : Limits) (input : List ℕ) (s : State) (steps : ℕ) →
         IsLoaded us m limits input s → Completes (program_at us m limits) input steps s }
     ensures statements { (us : List SourceUnit) (m : Map) (limits : Limits) (input : List ℕ) (s : State) (k : ℕ) (shown : Observed) (started : List Begun) →
-        IsLoaded us m limits input s → Shows s input k shown → Begins (image_places us m limits) limits.area s input k started → BeginsStatements (program_at us m limits) input k shown started }
+        IsLoaded us m limits input s → Shows s input k shown
+        → Begins (image_places us m limits) limits.area s input k started
+        → BeginsStatements (program_at us m limits) input k shown started }
 {
     one_observation();
     never_stuck();

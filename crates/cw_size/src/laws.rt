@@ -20,7 +20,9 @@ pub fn short_expressions()
 
 /// The orders of a statement, with the landings of the labels that it sets, have at most 32 bytes for each of its tokens.
 pub fn short_statements()
-    ensures { (s : Scope) (who : Option ℕ) (answer : ℕ) (t : Stmt) (place next : ℕ) → listed_sizes (statement_piece s who answer t place next).orders + 15 * set_labels t ≤ 32 * statement_tokens t }
+    ensures { (s : Scope) (who : Option ℕ) (answer : ℕ) (t : Stmt) (place next : ℕ)
+        → listed_sizes (statement_piece s who answer t place next).orders + 15 * set_labels t
+        ≤ 32 * statement_tokens t }
 {}
 
 /// The code of a unit whose labels stand in its bodies has at most 32 bytes for each token that a text of it has at least.

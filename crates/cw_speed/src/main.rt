@@ -21,7 +21,17 @@ const INSTRUCTIONS: u64 = 50_000_000;
 struct Closed;
 
 impl Ports for Closed {
-    ghost device = { λ _. record { left = None; at_end = None; is_used = true; is_cut = true; held = None; kind = 0; segment = 0; line_low = 0; line_high = 0 } };
+    ghost device = { λ _. record {
+      left = None;
+      at_end = None;
+      is_used = true;
+      is_cut = true;
+      held = None;
+      kind = 0;
+      segment = 0;
+      line_low = 0;
+      line_high = 0;
+    } };
 
     ghost faults = { λ _. 2 ^ 64 };
 

@@ -7,5 +7,6 @@ ghost use Rattle.cw_spelled.specs.Proper.{IsProperToken};
 
 /// Each token of what a text expands to is spelled as its kind asks.
 pub fn spelled()
-    ensures { (text : List ℕ) (tokens expanded : List Lexeme) → Tokenizes Source first_place text tokens → Expands tokens expanded → All IsProperToken expanded }
+    ensures { (text : List ℕ) (tokens expanded : List Lexeme) → Tokenizes Source first_place text tokens
+        → Expands tokens expanded → All IsProperToken expanded }
 {}

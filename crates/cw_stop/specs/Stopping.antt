@@ -1,7 +1,8 @@
 -- The stop word of a trace: SEGMENT:LINE, or SEGMENT:LINE: and 1 to 16 watched names with commas between them. A watched name is one or
 -- more letters, digits, points and commercial ats, behind which [k] tells the word of the item, which is 0 where it is left out. Letters
 -- are equal in both cases.
-use Rattle.std.specs.Prelude.{◌≡◌, ℕ, ◌+◌, ◌-◌, ◌*◌, ◌==◌, ◌&&◌, ◌||◌, not, nat_le, Bool, if◌then◌else◌, List, [], ◌∷◌, length, map, fold, Option, Some, None, Result, Ok, Err}
+use Rattle.std.specs.Prelude.{◌≡◌, ℕ, ◌+◌, ◌-◌, ◌*◌, ◌==◌, ◌&&◌, ◌||◌, not, nat_le, Bool, if◌then◌else◌}
+use Rattle.std.specs.Prelude.{List, [], ◌∷◌, length, map, fold, Option, Some, None, Result, Ok, Err}
 use Rattle.std.specs.List.{list_all}
 use Rattle.cw_fields.specs.Names.{is_letter, is_digit, is_empty, named}
 use Rattle.cw_stop.specs.declared.stopping.Stop.{Stop}

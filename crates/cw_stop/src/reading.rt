@@ -2,7 +2,8 @@
 ghost use Rattle.std.specs.Prelude.{◌≡◌, ◌<◌, ◌≤◌, min, IfOk, IfSome, option_map};
 ghost use Rattle.std.specs.List.{list_all};
 ghost use Rattle.cw_fields.specs.Names.{is_letter, is_digit, named};
-ghost use Rattle.cw_stop.specs.Stopping.{capital, capitals, value_of, number_in, cut, is_watched_character, word_number, watched_in, watched_list, watched_behind, stop_in, Answers};
+ghost use Rattle.cw_stop.specs.Stopping.{capital, capitals, value_of, number_in, cut, is_watched_character, word_number};
+ghost use Rattle.cw_stop.specs.Stopping.{watched_in, watched_list, watched_behind, stop_in, Answers};
 
 use crate::stopping::{Stop, StopFault, Watched};
 use cw_fields::named;

@@ -24,8 +24,11 @@ const TEXT_LIMIT: usize = 1_048_576;
 pub fn read_text<F: Store>(alloc: Global, files: &mut F, name: &str) -> Result<Vec<u8>, Status>
     ensures whole { IfOk result (λ bytes. Is (F.file files.old name.now) bytes.items) }
     ensures within { IfOk result (λ bytes. length bytes.items ≤ text_limit) }
-    ensures same { IfOk result (λ _. SameCounts (counts_at (F.faults files.old) (F.absences files.old)) (counts_at (F.faults files.new) (F.absences files.new))) }
-    ensures unread { IfErr result (λ status. IsUnread text_limit (F.file files.old name.now ∷ []) 0 (counts_at (F.faults files.old) (F.absences files.old)) (counts_at (F.faults files.new) (F.absences files.new)) status) }
+    ensures same { IfOk result (λ _. SameCounts (counts_at (F.faults files.old) (F.absences files.old))
+        (counts_at (F.faults files.new) (F.absences files.new))) }
+    ensures unread { IfErr result (λ status. IsUnread text_limit (F.file files.old name.now ∷ []) 0
+        (counts_at (F.faults files.old) (F.absences files.old))
+        (counts_at (F.faults files.new) (F.absences files.new)) status) }
     ensures stay { AllStay (F.file files.old) (F.file files.new) }
 {
     read_bytes(alloc, files, name, 0, TEXT_LIMIT)
@@ -47,7 +50,9 @@ fn compile_unit(alloc: Global, unit: Unit) -> Result<Segment, Status>
 pub fn compile_text(alloc: Global, text: &[u8], number: u16) -> Result<Segment, Status>
     requires { length text.now ≤ text_limit }
     ensures made { IfOk result (λ segment. HasUnit text.now segment.unit × IsMadeOf segment.unit segment.made) }
-    ensures stops { (told : Sequence Told) (texts : Sequence (Sequence ℕ)) (before after : Counts) → slice_get texts number ≡ Some text.now → IfErr result (λ status. StopsTexts told texts number before after status) }
+    ensures stops { (told : Sequence Told) (texts : Sequence (Sequence ℕ)) (before after : Counts)
+        → slice_get texts number ≡ Some text.now
+        → IfErr result (λ status. StopsTexts told texts number before after status) }
 {
     text_units();
     match unit(alloc, text) {
@@ -67,7 +72,10 @@ fn read_unit<F: Store>(
     name: &str,
     number: u16,
 ) -> Result<Segment, Status>
-    ensures taken { (told : Sequence Told) (us : Sequence SourceUnit) → Takes text_limit HasUnit told us → length us ≡ number → slice_get told number ≡ Some (F.file files.old name.now) → AnswersUnit told us (counts_at (F.faults files.old) (F.absences files.old)) (counts_at (F.faults files.new) (F.absences files.new)) result }
+    ensures taken { (told : Sequence Told) (us : Sequence SourceUnit) → Takes text_limit HasUnit told us
+        → length us ≡ number → slice_get told number ≡ Some (F.file files.old name.now)
+        → AnswersUnit told us (counts_at (F.faults files.old) (F.absences files.old))
+        (counts_at (F.faults files.new) (F.absences files.new)) result }
     ensures stay { AllStay (F.file files.old) (F.file files.new) }
 {
     match read_bytes(alloc, files, name, number, TEXT_LIMIT) {
@@ -83,7 +91,9 @@ pub fn read_units<F: Store>(
     names: &[&str],
 ) -> Result<Segments, Status>
     requires { length names.now ≤ 200 }
-    ensures taken { AnswersUnits (map (λ name. F.file files.old name.now) names.now) (counts_at (F.faults files.old) (F.absences files.old)) (counts_at (F.faults files.new) (F.absences files.new)) result }
+    ensures taken { AnswersUnits (map (λ name. F.file files.old name.now) names.now)
+        (counts_at (F.faults files.old) (F.absences files.old))
+        (counts_at (F.faults files.new) (F.absences files.new)) result }
     ensures stay { AllStay (F.file files.old) (F.file files.new) }
 {
     let mut segments = Segments::new(alloc);

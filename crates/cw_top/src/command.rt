@@ -40,7 +40,11 @@ pub(crate) fn perform<F: Store, I: Source, O: Sink, S: Sink>(
     say: &mut S,
 ) -> Status
     requires { InRange command.now }
-    ensures { IsCorrectRequest (Some (command_parts command.now)) (surroundings_of (F.file files.old) (F.faults files.old) (F.absences files.old) (I.left input.old) (I.faults input.old) (O.held out.old) (O.faults out.old) (S.held say.old) (S.faults say.old)) (surroundings_of (F.file files.new) (F.faults files.new) (F.absences files.new) (I.left input.new) (I.faults input.new) (O.held out.new) (O.faults out.new) (S.held say.new) (S.faults say.new)) result }
+    ensures { IsCorrectRequest (Some (command_parts command.now))
+        (surroundings_of (F.file files.old) (F.faults files.old) (F.absences files.old) (I.left input.old)
+        (I.faults input.old) (O.held out.old) (O.faults out.old) (S.held say.old) (S.faults say.old))
+        (surroundings_of (F.file files.new) (F.faults files.new) (F.absences files.new) (I.left input.new)
+        (I.faults input.new) (O.held out.new) (O.faults out.new) (S.held say.new) (S.faults say.new)) result }
 {
     let limits = Limits {
         area: command.area,

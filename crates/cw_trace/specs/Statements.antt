@@ -27,6 +27,7 @@ told_of watch segment begun = if begun.0 == segment && begun.1 == watch.line the
 
 -- What is told of a run is a line for each statement that it begins at the watched line, in order, which names the words as they are then.
 abbrev pub TellsOfBegun : Type 0
-TellsOfBegun = (watch : Watch) (segment : ℕ) (places : List StatementPlace) (area : ℕ) (s : State) (input : List ℕ) (n : ℕ) (events : List Event) (text : List ℕ) (begun : List (ℕ × ℕ × List ℤ))
+TellsOfBegun = (watch : Watch) (segment : ℕ) (places : List StatementPlace) (area : ℕ) (s : State) (input : List ℕ)
+    (n : ℕ) (events : List Event) (text : List ℕ) (begun : List (ℕ × ℕ × List ℤ))
     → Watches watch segment places area → s.code_segment ≡ 0x1000 → FitsInput input events → Reports watch s events n text → Begins places area s input n begun
     → text ≡ flat_map (told_of watch segment) begun

@@ -75,7 +75,8 @@ impl Line {
 
     /// Adds pieces one after the other.
     pub(crate) fn add_all<S: Sink>(&mut self, say: &mut S, pieces: &[&[u8]]) -> Result<(), Failed>
-        ensures { Adds (gathered (S.held say.old) self.old (S.faults say.old)) (gathered (S.held say.new) self.new (S.faults say.new)) (joined pieces.now) result }
+        ensures { Adds (gathered (S.held say.old) self.old (S.faults say.old))
+            (gathered (S.held say.new) self.new (S.faults say.new)) (joined pieces.now) result }
     {
         for piece in pieces {
             if let Err(failed) = self.add(say, piece) {

@@ -33,7 +33,8 @@ fn add_word<S: Sink>(
     word: &WatchedWord,
 ) -> Result<(), Failed>
     requires { word.now.address < 32768 }
-    ensures { Adds (gathered (S.held say.old) line.old (S.faults say.old)) (gathered (S.held say.new) line.new (S.faults say.new)) (word_text (word_of cpu.now) word.now) result }
+    ensures { Adds (gathered (S.held say.old) line.old (S.faults say.old))
+        (gathered (S.held say.new) line.new (S.faults say.new)) (word_text (word_of cpu.now) word.now) result }
 {
     let mut buffer = itoa::Buffer::new();
     let digits = buffer.format(word_at(cpu, word.address).cast_signed());
@@ -47,7 +48,9 @@ fn add_words<S: Sink>(
     words: &[WatchedWord],
 ) -> Result<(), Failed>
     requires { All (λ word. word.address < 32768) words.now }
-    ensures { Adds (gathered (S.held say.old) line.old (S.faults say.old)) (gathered (S.held say.new) line.new (S.faults say.new)) (flat_map (word_text (word_of cpu.now)) words.now) result }
+    ensures { Adds (gathered (S.held say.old) line.old (S.faults say.old))
+        (gathered (S.held say.new) line.new (S.faults say.new)) (flat_map (word_text (word_of cpu.now)) words.now)
+        result }
 {
     for word in words {
         if let Err(failed) = add_word(line, say, cpu, word) {
@@ -59,7 +62,8 @@ fn add_words<S: Sink>(
 
 #[tactic(auto, unfolding(crate::specs::Reports::head_text))]
 fn add_head<S: Sink>(line: &mut Line, say: &mut S, watch: &Watch) -> Result<(), Failed>
-    ensures { Adds (gathered (S.held say.old) line.old (S.faults say.old)) (gathered (S.held say.new) line.new (S.faults say.new)) (head_text watch.now) result }
+    ensures { Adds (gathered (S.held say.old) line.old (S.faults say.old))
+        (gathered (S.held say.new) line.new (S.faults say.new)) (head_text watch.now) result }
 {
     let mut buffer = itoa::Buffer::new();
     let digits = buffer.format(watch.line);
@@ -68,7 +72,8 @@ fn add_head<S: Sink>(line: &mut Line, say: &mut S, watch: &Watch) -> Result<(), 
 
 fn add_line<S: Sink>(line: &mut Line, say: &mut S, watch: &Watch, cpu: &Cpu) -> Result<(), Failed>
     requires { All (λ word. word.address < 32768) watch.now.words }
-    ensures { Adds (gathered (S.held say.old) line.old (S.faults say.old)) (gathered (S.held say.new) line.new (S.faults say.new)) (report_text watch.now cpu.now) result }
+    ensures { Adds (gathered (S.held say.old) line.old (S.faults say.old))
+        (gathered (S.held say.new) line.new (S.faults say.new)) (report_text watch.now cpu.now) result }
 {
     if let Err(failed) = add_head(line, say, watch) {
         return Err(failed);

@@ -1,5 +1,6 @@
 -- What the code keeps of the records so far.
-use Rattle.std.specs.Prelude.{◌≡◌, ◌≤◌, ◌<◌, ◌^◌, ℕ, ◌+◌, ◌*◌, ◌==◌, nat_lt, true, if◌then◌else◌, List, ◌++◌, length, take, drop, Option, Some, None, Result, Ok, Err}
+use Rattle.std.specs.Prelude.{◌≡◌, ◌≤◌, ◌<◌, ◌^◌, ℕ, ◌+◌, ◌*◌, ◌==◌, nat_lt, true, if◌then◌else◌, List}
+use Rattle.std.specs.Prelude.{◌++◌, length, take, drop, Option, Some, None, Result, Ok, Err}
 use Rattle.cw_unit.specs.declared.layout.Family.{Family}
 use Rattle.cw_view.specs.declared.front.Front.{Front}
 use Rattle.cw_fields.specs.Fields.{◌>>=◌, whole, text_in}
@@ -7,7 +8,8 @@ use Rattle.cw_fields.specs.Names.{named}
 use Rattle.cw_view.specs.Reading.{family_in}
 use Rattle.cw_view.specs.declared.view.View.{View}
 use Rattle.cw_view.specs.declared.fault.ObjFault.{ObjFault}
-use Rattle.cw_view.specs.ObjectFormat.{Record, Facts, number_of, can_follow, framed, last_kind, families_of, facts_of, header, front_bytes, IsVersion, IsFront, IsObjectOf, IsFirstObjectFault, FailsBehind, IsViewOf, payloads}
+use Rattle.cw_view.specs.ObjectFormat.{Record, Facts, number_of, can_follow, framed, last_kind, families_of, facts_of, header, front_bytes}
+use Rattle.cw_view.specs.ObjectFormat.{IsVersion, IsFront, IsObjectOf, IsFirstObjectFault, FailsBehind, IsViewOf, payloads}
 use Rattle.cw_view.specs.Splitting.{payloads_in}
 
 abbrev pub Bytes : Type 0
@@ -81,9 +83,11 @@ AnswersVersion bytes (Err fault) = IsFirstObjectFault bytes fault
 
 abbrev pub AnswersRecord : (version last : ℕ) → Bytes → (at : ℕ) → Result (ℕ × ℕ) ObjFault → Type 0
 AnswersRecord version last bytes at (Ok (kind, size)) = HasRecord version last bytes at kind size
-AnswersRecord version last bytes at (Err fault) = (before : List Record) → last_kind before ≡ last → FailsBehind version before at (length bytes) (drop at bytes) fault
+AnswersRecord version last bytes at (Err fault) = (before : List Record) → last_kind before ≡ last
+    → FailsBehind version before at (length bytes) (drop at bytes) fault
 
 -- what opening answers: the view of the one object that the bytes are, or the first fault
 abbrev pub AnswersOpen : Bytes → Result View ObjFault → Type 0
-AnswersOpen bytes (Ok view) = (v : ℕ) × (records : List Record) × IsObjectOf bytes v records × IsViewOf view bytes v records × ((kind : ℕ) → payloads_in kind (drop 6 view.bytes.now) ≡ payloads kind records)
+AnswersOpen bytes (Ok view) = (v : ℕ) × (records : List Record) × IsObjectOf bytes v records
+    × IsViewOf view bytes v records × ((kind : ℕ) → payloads_in kind (drop 6 view.bytes.now) ≡ payloads kind records)
 AnswersOpen bytes (Err fault) = IsFirstObjectFault bytes fault

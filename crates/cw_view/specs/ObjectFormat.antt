@@ -1,5 +1,6 @@
 -- The object file: a mark, a version, and records. Each record has a kind, the length of its payload, and the payload.
-use Rattle.std.specs.Prelude.{◌≡◌, ℕ, ◌+◌, ◌<◌, ◌≢◌, ◌⊎◌, ◌==◌, ◌||◌, ◌&&◌, not, nat_lt, nat_le, Bool, true, false, if◌then◌else◌, List, [], ◌∷◌, ◌++◌, length, take, drop, slice_get, slice_index, Option, Some, None, is_some}
+use Rattle.std.specs.Prelude.{◌≡◌, ℕ, ◌+◌, ◌<◌, ◌≢◌, ◌⊎◌, ◌==◌, ◌||◌, ◌&&◌, not, nat_lt, nat_le, Bool, true, false, if◌then◌else◌}
+use Rattle.std.specs.Prelude.{List, [], ◌∷◌, ◌++◌, length, take, drop, slice_get, slice_index, Option, Some, None, is_some}
 use Rattle.byteorder.specs.Endian.{little_number}
 use Rattle.cw_word.specs.Name.{IsName}
 use Rattle.cw_unit.specs.declared.descriptor.Desc.{Desc}
@@ -15,7 +16,8 @@ use Rattle.cw_view.specs.declared.view.View.{View}
 use Rattle.cw_view.specs.declared.fault.ObjFault.{ObjFault}
 use Rattle.cw_view.specs.declared.fault.ObjFault.TheVariants.{NotObject, BadVersion, Truncated, BadRecord, Trailing}
 use Rattle.cw_fields.specs.Fields.{◌>>=◌, text_bytes, whole, word_bytes, long_bytes, IsLong}
-use Rattle.cw_view.specs.Payloads.{ItemEntry, descriptor_bytes, FitsDescriptor, family_bytes, FitsFamily, item_bytes, FitsItem, preset_bytes, FitsPreset, relocation_bytes, FitsRelocation, definition_bytes, FitsDefinition, body_facts_bytes, FitsBodyFacts, statement_bytes, FitsStatement}
+use Rattle.cw_view.specs.Payloads.{ItemEntry, descriptor_bytes, FitsDescriptor, family_bytes, FitsFamily, item_bytes, FitsItem, preset_bytes, FitsPreset, relocation_bytes}
+use Rattle.cw_view.specs.Payloads.{FitsRelocation, definition_bytes, FitsDefinition, body_facts_bytes, FitsBodyFacts, statement_bytes, FitsStatement}
 use Rattle.cw_fields.specs.Names.{is_empty, name_in}
 use Rattle.cw_view.specs.Reading.{descriptor_in, family_in, item_in, preset_in, relocation_in, definition_in, body_facts_in, statement_in}
 
@@ -266,8 +268,10 @@ is_complete rest = nat_le 5 (length rest) && nat_le (5 + little_number 4 (drop 1
 -- what is wrong behind records that may stand so, at this place of bytes of this length
 pub data FailsBehind (v : ℕ) (before : List Record) (place len : ℕ) : List ℕ → ObjFault → Type 0 where
   no_end : last_kind before ≢ 255 → FailsBehind v before place len [] (Truncated len)
-  out_of_order : {kind : ℕ} {rest : List ℕ} → last_kind before ≢ 255 → can_follow v (last_kind before) kind ≡ false → FailsBehind v before place len (kind ∷ rest) (BadRecord place)
-  cut : {kind : ℕ} {rest : List ℕ} → can_follow v (last_kind before) kind ≡ true → is_complete (kind ∷ rest) ≡ false → FailsBehind v before place len (kind ∷ rest) (Truncated len)
+  out_of_order : {kind : ℕ} {rest : List ℕ} → last_kind before ≢ 255 → can_follow v (last_kind before) kind ≡ false
+      → FailsBehind v before place len (kind ∷ rest) (BadRecord place)
+  cut : {kind : ℕ} {rest : List ℕ} → can_follow v (last_kind before) kind ≡ true → is_complete (kind ∷ rest) ≡ false
+      → FailsBehind v before place len (kind ∷ rest) (Truncated len)
   not_allowed : (kind : ℕ) (payload rest : List ℕ) → can_follow v (last_kind before) kind ≡ true → IsLong (length payload)
       → ((r : Record) → kind_of r ≡ kind → payload_of r ≡ payload → FitsRecord r → is_allowed (facts_of before) r ≡ true → ⊥)
       → FailsBehind v before place len (framed kind payload ++ rest) (BadRecord place)
@@ -277,7 +281,9 @@ pub data IsFirstObjectFault (bytes : List ℕ) : ObjFault → Type 0 where
   not_object : take 4 bytes ≢ take (length bytes) mark → IsFirstObjectFault bytes NotObject
   no_version : take 4 bytes ≡ take (length bytes) mark → length bytes < 6 → IsFirstObjectFault bytes (Truncated (length bytes))
   other_version : {v : ℕ} {rest : List ℕ} → bytes ≡ header v ++ rest → v < 65536 → (IsVersion v → ⊥) → IsFirstObjectFault bytes BadVersion
-  behind : {v : ℕ} {before : List Record} {rest : List ℕ} {fault : ObjFault} → IsVersion v → IsFront v before → bytes ≡ front_bytes v before ++ rest → FailsBehind v before (length (front_bytes v before)) (length bytes) rest fault → IsFirstObjectFault bytes fault
+  behind : {v : ℕ} {before : List Record} {rest : List ℕ} {fault : ObjFault} → IsVersion v → IsFront v before
+      → bytes ≡ front_bytes v before ++ rest → FailsBehind v before (length (front_bytes v before)) (length bytes)
+      rest fault → IsFirstObjectFault bytes fault
 
 -- ---- the same as it is read
 

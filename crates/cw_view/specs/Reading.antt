@@ -69,7 +69,8 @@ abbrev pub dimensions_in : Reader (List (ℤ × ℤ))
 dimensions_in bytes = meaning few_dimensions byte_in bytes >>= λ count. counted count.0 bounds_in count.1
 
 abbrev pub element_of : List ℕ × (ℕ × (ℕ × (ℕ × (ℕ × ℕ)))) → Option ElemDesc
-element_of (name, (form, (t, (f, (word, bit))))) = if nat_le form 2 then Some (record { name = name; form = form; t = t; f = f; word = word; bit = bit }) else None
+element_of (name, (form, (t, (f, (word, bit))))) = if nat_le form 2
+    then Some (record { name = name; form = form; t = t; f = f; word = word; bit = bit }) else None
 
 abbrev pub element_in : Reader ElemDesc
 element_in bytes = meaning element_of (both name_in (both byte_in (both byte_in (both byte_in (both word_in byte_in))))) bytes
@@ -144,7 +145,17 @@ item_place_in bytes = both item_kind_in (both flag_in (both word_in (both word_i
 -- an item that has a name has the line 0
 abbrev pub item_of : List ℕ × (List ℕ × (ℕ × ItemPlace)) → Option ItemEntry
 item_of (owner, (name, (line, (kind, (common, (family, (offset, words))))))) =
-    if is_empty name || (line == 0) then Some (record { owner = owner; name = name; line = line; kind = kind; common = common; family = family; offset = offset; words = words }) else None
+    if is_empty name || (line == 0) then Some
+    (record {
+      owner = owner;
+      name = name;
+      line = line;
+      kind = kind;
+      common = common;
+      family = family;
+      offset = offset;
+      words = words;
+    }) else None
 
 abbrev pub item_in : Reader ItemEntry
 item_in bytes = meaning item_of (both name_or_empty_in (both name_or_empty_in (both word_in item_place_in))) bytes

@@ -11,7 +11,16 @@ use Rattle.cw_view.specs.Payloads.{ItemEntry}
 
 -- an item without where its names lie in memory
 abbrev pub entry_of : ItemView → ItemEntry
-entry_of i = record { owner = i.owner.now; name = i.name.now; line = i.line; kind = i.kind; common = i.common; family = i.family; offset = i.offset; words = i.words }
+entry_of i = record {
+  owner = i.owner.now;
+  name = i.name.now;
+  line = i.line;
+  kind = i.kind;
+  common = i.common;
+  family = i.family;
+  offset = i.offset;
+  words = i.words;
+}
 
 -- the overlay's base of a descriptor that was read
 abbrev pub base_of : Option Desc → Option (Option (ℕ × ℕ))

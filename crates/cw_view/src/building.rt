@@ -2,7 +2,8 @@
 ghost use Rattle.std.specs.Prelude.{◌≡◌};
 ghost use Rattle.cw_fields.specs.Fields.{Gives, counted, optional_in, whole};
 ghost use Rattle.cw_fields.specs.Names.{name_in};
-ghost use Rattle.cw_view.specs.Reading.{scale_in, plain_parameter_in, parameter_in, spec_in, bounds_in, dimensions_in, element_in, body_in, listed_in, descriptor_in};
+ghost use Rattle.cw_view.specs.Reading.{scale_in, plain_parameter_in, parameter_in, spec_in, bounds_in};
+ghost use Rattle.cw_view.specs.Reading.{dimensions_in, element_in, body_in, listed_in, descriptor_in};
 ghost use Rattle.cw_view.specs.Views.{proc_of, Builds};
 
 use crate::descriptor::overlay_in;

@@ -1,7 +1,8 @@
 //! The payloads of descriptors, passed over without memory.
 ghost use Rattle.std.specs.Prelude.{◌≡◌};
 ghost use Rattle.cw_fields.specs.Fields.{Gives, GivesRest, skipped, whole, counted, optional_in};
-ghost use Rattle.cw_view.specs.Reading.{scale_in, plain_parameter_of, plain_parameter_in, parameters_in, spec_in, parameter_of, parameter_in, bounds_in, dimensions_in, element_in, elements_in, body_in, overlay_in, descriptor_in};
+ghost use Rattle.cw_view.specs.Reading.{scale_in, plain_parameter_of, plain_parameter_in, parameters_in, spec_in, parameter_of, parameter_in};
+ghost use Rattle.cw_view.specs.Reading.{bounds_in, dimensions_in, element_in, elements_in, body_in, overlay_in, descriptor_in};
 ghost use Rattle.cw_view.specs.Views.{base_of};
 
 use cw_fields::{byte_in, flag_in, name_in, signed_in, word_in};

@@ -3,7 +3,8 @@ ghost use Rattle.std.specs.Prelude.{◌≡◌, ◌≤◌, ◌<◌, ◌+◌, ◌*
 ghost use Rattle.cw_fields.specs.Fields.{Gives, whole};
 ghost use Rattle.cw_fields.specs.Names.{name_in};
 ghost use Rattle.cw_view.specs.Views.{entry_of};
-ghost use Rattle.cw_view.specs.ObjectFormat.{can_follow, has_base, is_placed, is_named, has_words, has_preset, is_blank, has_index, rises, is_allowed, next_record};
+ghost use Rattle.cw_view.specs.ObjectFormat.{can_follow, has_base, is_placed, is_named, has_words, has_preset};
+ghost use Rattle.cw_view.specs.ObjectFormat.{is_blank, has_index, rises, is_allowed, next_record};
 ghost use Rattle.cw_view.specs.Fronts.{facts_at, no_front, numbered, front_with};
 ghost use Rattle.cw_view.specs.ObjectFormat.{Relocation, Definition, Statement};
 

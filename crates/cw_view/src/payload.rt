@@ -2,7 +2,8 @@
 ghost use Rattle.std.specs.Prelude.{◌≡◌, ◌||◌, ◌==◌};
 ghost use Rattle.cw_fields.specs.Fields.{Gives, whole};
 ghost use Rattle.cw_fields.specs.Names.{is_empty};
-ghost use Rattle.cw_view.specs.Reading.{family_in, sort_of, item_in, item_kind_of, item_kind_in, item_place_in, preset_in, relocation_in, definition_in, body_facts_in, statement_in};
+ghost use Rattle.cw_view.specs.Reading.{family_in, sort_of, item_in, item_kind_of, item_kind_in, item_place_in};
+ghost use Rattle.cw_view.specs.Reading.{preset_in, relocation_in, definition_in, body_facts_in, statement_in};
 ghost use Rattle.cw_view.specs.Views.{entry_of};
 
 use cw_fields::{byte_in, flag_in, long_in, name_or_empty_in, word_in};

@@ -1,5 +1,6 @@
 -- The watch that a stop means in objects that were linked.
-use Rattle.std.specs.Prelude.{◌≡◌, ◌≢◌, ◌≤◌, ℕ, min, nat_lt, IsSome, All, take, ◌+◌, ◌<◌, ◌==◌, ◌&&◌, if◌then◌else◌, List, [], ◌∷◌, ◌++◌, length, flat_map, Option, Some, None, slice_get, slice_index, slice_index_or, Result, Ok, Err, codes, decimal}
+use Rattle.std.specs.Prelude.{◌≡◌, ◌≢◌, ◌≤◌, ℕ, min, nat_lt, IsSome, All, take, ◌+◌, ◌<◌, ◌==◌, ◌&&◌, if◌then◌else◌, List, [], ◌∷◌, ◌++◌, length}
+use Rattle.std.specs.Prelude.{flat_map, Option, Some, None, slice_get, slice_index, slice_index_or, Result, Ok, Err, codes, decimal}
 use Rattle.std.specs.Str.{bytes_eq}
 use Rattle.cw_fields.specs.Names.{is_empty}
 use Rattle.cw_unit.specs.Allocation.{is_same_name}
@@ -116,7 +117,8 @@ abbrev pub MeanWords : List ItemLine → (area : ℕ) → List Watched → List 
 MeanWords lines area [] [] = Unit {0}
 MeanWords lines area [] (found ∷ more) = ⊥
 MeanWords lines area (watched ∷ others) [] = ⊥
-MeanWords lines area (watched ∷ others) (found ∷ more) = (found.text ≡ watched.text) × (watched_address lines area watched ≡ Some found.address) × MeanWords lines area others more
+MeanWords lines area (watched ∷ others) (found ∷ more) = (found.text ≡ watched.text)
+    × (watched_address lines area watched ≡ Some found.address) × MeanWords lines area others more
 
 -- The watched name of this number is the first that means no word.
 pub record IsFirstNone (lines : List ItemLine) (area : ℕ) (watched : List Watched) (number : ℕ) : Type 0 where
@@ -146,5 +148,7 @@ abbrev pub AnswersWatch : List Bytes → Map → Limits → Stop → Result Watc
 AnswersWatch objects homes limits stop (Ok watch) = IsWatch objects homes limits stop watch
 AnswersWatch objects homes limits stop (Err NoPlace) = stop_places stop objects ≡ []
 AnswersWatch objects homes limits stop (Err (NoItem index)) =
-    (0 < length (stop_places stop objects)) × ((number : ℕ) × IsFirstNone (lines_from 0 homes.homes objects) limits.area stop.watched number × (index ≡ min number 65535))
+    (0 < length (stop_places stop objects))
+    × ((number : ℕ) × IsFirstNone (lines_from 0 homes.homes objects) limits.area stop.watched number
+    × (index ≡ min number 65535))
 AnswersWatch objects homes limits stop (Err NoMemory) = Unit {0}

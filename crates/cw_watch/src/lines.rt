@@ -137,7 +137,9 @@ fn add_lines(
     view: &View,
     homes: &[u16],
 ) -> Result<(), NoMemory>
-    ensures { OnOk result (lines.new ≡ lines.old ++ flat_map (line_of view.now.name (records_of family_in 3 view.now) homes.now) (records_of item_in 4 view.now)) }
+    ensures { OnOk result (lines.new ≡ lines.old
+        ++ flat_map (line_of view.now.name (records_of family_in 3 view.now) homes.now)
+        (records_of item_in 4 view.now)) }
 {
     let families = families_of(alloc, view)?;
     let segment = view.name();

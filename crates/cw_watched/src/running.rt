@@ -29,7 +29,10 @@ fn run_with<I: Source, O: Sink, S: Sink>(
 ) -> WatchedEnd
     requires words { All (λ word. word.address < 32768) watch.now.words }
     requires fresh { IsFresh (device_of O.Sink ports.old) (input_of ports.old) (output_of O.Sink ports.old) }
-    ensures tells { WatchedTells watch.now result cpu.old steps (outside_of (input_of ports.old) (output_of O.Sink ports.old)) (outside_of (input_of ports.new) (output_of O.Sink ports.new)) (said_at (S.held say.old) (S.faults say.old)) (said_at (S.held say.new) (S.faults say.new)) }
+    ensures tells { WatchedTells watch.now result cpu.old steps
+        (outside_of (input_of ports.old) (output_of O.Sink ports.old))
+        (outside_of (input_of ports.new) (output_of O.Sink ports.new)) (said_at (S.held say.old) (S.faults say.old))
+        (said_at (S.held say.new) (S.faults say.new)) }
     ensures input { (input_of ports.new).name ≡ (input_of ports.old).name }
     ensures out { (output_of O.Sink ports.new).name ≡ (output_of O.Sink ports.old).name }
 {
@@ -54,7 +57,10 @@ pub fn run_watched_image<I: Source, O: Sink, S: Sink>(
     steps: u64,
 ) -> WatchedEnd
     requires { All (λ word. word.address < 32768) watch.now.words }
-    ensures { WatchedTells watch.now result cpu.old steps (outside (I.left input.old) (I.faults input.old) (O.held out.old) (O.faults out.old)) (outside (I.left input.new) (I.faults input.new) (O.held out.new) (O.faults out.new)) (said_at (S.held say.old) (S.faults say.old)) (said_at (S.held say.new) (S.faults say.new)) }
+    ensures { WatchedTells watch.now result cpu.old steps
+        (outside (I.left input.old) (I.faults input.old) (O.held out.old) (O.faults out.old))
+        (outside (I.left input.new) (I.faults input.new) (O.held out.new) (O.faults out.new))
+        (said_at (S.held say.old) (S.faults say.old)) (said_at (S.held say.new) (S.faults say.new)) }
 {
     let mut ports = ImagePorts::new(Inlet::new(input), Outlet::new(out));
     run_with(watch, cpu, &mut ports, say, steps)

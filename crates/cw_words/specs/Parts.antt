@@ -1,5 +1,6 @@
 -- What the words of the command line mean.
-use Rattle.std.specs.Prelude.{◌≡◌, ℕ, ◌≤◌, ◌==◌, ◌&&◌, not, Bool, List, [], map, length, nat_eq, slice_index, slice_index_or, Option, None, Some, codes, if◌then◌else◌, nat_le, option_map, option_and_then}
+use Rattle.std.specs.Prelude.{◌≡◌, ℕ, ◌≤◌, ◌==◌, ◌&&◌, not, Bool, List, [], map, length, nat_eq, slice_index, slice_index_or}
+use Rattle.std.specs.Prelude.{Option, None, Some, codes, if◌then◌else◌, nat_le, option_map, option_and_then}
 use Rattle.std.specs.Str.{bytes_eq}
 use Rattle.std.specs.Str.Parse.{digits_value, without_leading_plus}
 use Rattle.clap.specs.Walk.{Row, Text, first_of, all_of}
@@ -82,7 +83,8 @@ pub record Parts : Type 0 where
 
 -- frames aren't over data, and the action takes so many WORDs
 abbrev pub are_fit : Parts → Bool
-are_fit parts = nat_le parts.frames parts.area && nat_le (least_names parts.action) (length parts.names) && nat_le (length parts.names) (most_names parts.action)
+are_fit parts = nat_le parts.frames parts.area && nat_le (least_names parts.action) (length parts.names) && nat_le
+    (length parts.names) (most_names parts.action)
 
 abbrev pub fit_parts : Parts → Option Parts
 fit_parts parts = if are_fit parts then Some parts else None
@@ -90,7 +92,10 @@ fit_parts parts = if are_fit parts then Some parts else None
 -- what the rows that `clap` found mean
 abbrev pub parts_in : List Row → Option Parts
 parts_in rows =
-    option_and_then (λ action. option_and_then (λ area. option_and_then (λ frames. option_and_then (λ depth. option_and_then (λ steps. option_and_then (λ names. option_and_then (λ copies. option_and_then (λ stop.
+    option_and_then (λ action. option_and_then
+    (λ area. option_and_then (λ frames. option_and_then
+    (λ depth. option_and_then (λ steps. option_and_then
+    (λ names. option_and_then (λ copies. option_and_then (λ stop.
     fit_parts (record { action = action; area = area; frames = frames; depth = depth; steps = steps; names = names; copies = copies; stop = stop }))
     (stop_of action names)) (copies_of action names))
     (all_of (codes "WORD") rows))

@@ -65,7 +65,8 @@ pub(crate) fn matches_of<'a>(
     alloc: Global,
     words: &'a [String],
 ) -> Result<ArgMatches<'a>, WordsFault>
-    ensures ok { IfOk result (λ matches. (faults_of (map string_bytes words.entry.now) ≡ []) × (rows_of (found_of matches) ≡ rows_in (map string_bytes words.entry.now))) }
+    ensures ok { IfOk result (λ matches. (faults_of (map string_bytes words.entry.now) ≡ [])
+        × (rows_of (found_of matches) ≡ rows_in (map string_bytes words.entry.now))) }
     ensures usage { IsErrOf result WordsFault.Usage → faults_of (map string_bytes words.entry.now) ≡ [] → ⊥ }
 {
     let Ok(command) = command(alloc) else {

@@ -19,9 +19,14 @@ use Rattle.cw_tree.specs.declared.segment.RawPs.TheVariants as ps_tree
 use Rattle.cw_tree.specs.declared.segment.RawCitem.TheVariants as citem_tree
 use Rattle.cw_tree.specs.declared.segment.RawAitem.TheVariants as aitem_tree
 use Rattle.cw_grammar.specs.Tokens.{Item, position}
-use Rattle.cw_grammar.specs.Grammar.{a_pair, a_list, an_option, a_from, a_position, a_name, a_presets, an_int, a_place, an_elem, a_data, an_ips, a_ps, a_spec, a_citem, an_aitem, a_param, a_decl, a_stmt, a_form, a_simple, Grammar, one, none, ◌·◌, ◌∣◌, many, ◌⇒◌, opens, subscript, indexed, called, if_rest, for_rest, block_rest, proc_body}
-use Rattle.cw_grammar.specs.Rules.{word, symbol, ◌*>◌, ◌<*◌, optional, commas, name, number, octal, int, sign, sint, number_type, size, bits, reference, expr, raw_literal, indexed_name}
-use Rattle.cw_grammar.specs.Statements.{semicolons, separated, in_round, in_square, listed, bounds, group, table, table_body as read_body, preset, place, assigned, overlay, ptag, ips_list, ips as item_specification, elem as element, ps as parameter_specification, param as parameter, table_data, proc_tree, jump, block_tree, if_tree, for_tree, stmt_tree}
+use Rattle.cw_grammar.specs.Grammar.{a_pair, a_list, an_option, a_from, a_position, a_name, a_presets, an_int, a_place, an_elem, a_data, an_ips}
+use Rattle.cw_grammar.specs.Grammar.{a_ps, a_spec, a_citem, an_aitem, a_param, a_decl, a_stmt, a_form, a_simple, Grammar, one, none, ◌·◌, ◌∣◌}
+use Rattle.cw_grammar.specs.Grammar.{many, ◌⇒◌, opens, subscript, indexed, called, if_rest, for_rest, block_rest, proc_body}
+use Rattle.cw_grammar.specs.Rules.{word, symbol, ◌*>◌, ◌<*◌, optional, commas, name, number, octal, int, sign, sint}
+use Rattle.cw_grammar.specs.Rules.{number_type, size, bits, reference, expr, raw_literal, indexed_name}
+use Rattle.cw_grammar.specs.Statements.{semicolons, separated, in_round, in_square, listed, bounds, group, table, table_body as read_body, preset}
+use Rattle.cw_grammar.specs.Statements.{place, assigned, overlay, ptag, ips_list, ips as item_specification, elem as element, ps as parameter_specification}
+use Rattle.cw_grammar.specs.Statements.{param as parameter, table_data, proc_tree, jump, block_tree, if_tree, for_tree, stmt_tree}
 
 -- [ "+" | "-" ] number | [ "+" | "-" ] octal | [ "+" | "-" ] literal
 abbrev pub preset_value : Grammar a_place
@@ -66,7 +71,8 @@ ps =
 abbrev pub spec : Grammar a_spec
 spec =
     ptag · name · listed (in_round (separated parameter_specification)) ⇒ (λ x. record { answer = None; tag = x.0; name = x.1.0; params = x.1.1 })
-    ∣ number_type · ptag · name · listed (in_round (separated parameter_specification)) ⇒ (λ x. record { answer = Some x.0; tag = x.1.0; name = x.1.1.0; params = x.1.1.1 })
+    ∣ number_type · ptag · name · listed (in_round (separated parameter_specification)) ⇒
+    (λ x. record { answer = Some x.0; tag = x.1.0; name = x.1.1.0; params = x.1.1.1 })
 
 -- citem = data | OVERLAY base WITH data | LABEL name { "," name } | SWITCH name { "," name } | spec
 abbrev pub citem : Grammar a_citem
@@ -128,7 +134,8 @@ call n (Some x) = simple_tree.Call n x.1
 abbrev pub simple : Bool → Grammar a_simple
 simple p =
     name · (symbol symbols.Assign *> expr) ⇒ (λ x. simple_tree.Assign (ref_tree.Name x.0) x.1)
-    ∣ name · opens (kinds.Symbol symbols.OpenSquare) indexed · (symbol symbols.Assign *> expr) ⇒ (λ x. simple_tree.Assign (indexed_name x.0 x.1.0.1.0 x.1.0.1.1) x.1.1)
+    ∣ name · opens (kinds.Symbol symbols.OpenSquare) indexed · (symbol symbols.Assign *> expr) ⇒
+    (λ x. simple_tree.Assign (indexed_name x.0 x.1.0.1.0 x.1.0.1.1) x.1.1)
     ∣ opens (kinds.Symbol symbols.OpenSquare) subscript · (symbol symbols.Assign *> expr) ⇒ (λ x. simple_tree.Assign (ref_tree.Bare (position x.0.0) x.0.1) x.1)
     ∣ bits · reference · (symbol symbols.Assign *> expr) ⇒ (λ x. simple_tree.AssignBits x.0 x.1.0 x.1.1)
     ∣ word words.Goto · name · optional (opens (kinds.Symbol symbols.OpenSquare) subscript) ⇒ (λ x. jump x.0 x.1.0 x.1.1)

@@ -2,11 +2,14 @@
 ghost use Rattle.std.specs.Prelude.{◌≡◌, ℕ, Bool, List};
 ghost use Rattle.cw_tree.specs.declared.segment.Raw.{Raw};
 ghost use Rattle.cw_grammar.specs.Tokens.{Item};
-ghost use Rattle.cw_grammar.specs.Grammar.{a_pair, a_list, an_option, a_from, a_position, a_name, an_int, a_place, an_elem, a_presets, a_data, an_ips, a_ps, a_spec, a_citem, an_aitem, a_param, a_decl, a_stmt, a_simple, again, places, labelled, labelled_simple, a_raw};
+ghost use Rattle.cw_grammar.specs.Grammar.{a_pair, a_list, an_option, a_from, a_position, a_name, an_int, a_place, an_elem, a_presets, a_data, an_ips, a_ps};
+ghost use Rattle.cw_grammar.specs.Grammar.{a_spec, a_citem, an_aitem, a_param, a_decl, a_stmt, a_simple, again, places, labelled, labelled_simple, a_raw};
 ghost use Rattle.cw_grammar.specs.Statements.{preset_value, elem, table_body, item_data, ips, ps, spec, citem, unplaced_aitem, param, decl, text};
 ghost use Rattle.cw_grammar.specs.Derives.{Derives};
 ghost use Rattle.cw_written.specs.Alike.{IsAlike};
-ghost use Rattle.cw_written.specs.Written.{preset_value as written_preset_value, presets as written_presets, elem as written_elem, table_body as written_body, item_data as written_data, ips as written_ips, ps as written_ps, spec as written_spec, citem as written_citem, unplaced_aitem as written_aitem, param as written_param, decl as written_decl, stmt as written_stmt, labelled_simple as written_simple};
+ghost use Rattle.cw_written.specs.Written.{preset_value as written_preset_value, presets as written_presets, elem as written_elem, table_body as written_body, item_data as written_data};
+ghost use Rattle.cw_written.specs.Written.{ips as written_ips, ps as written_ps, spec as written_spec, citem as written_citem, unplaced_aitem as written_aitem, param as written_param};
+ghost use Rattle.cw_written.specs.Written.{decl as written_decl, stmt as written_stmt, labelled_simple as written_simple};
 
 /// Each rule derives the trees that its alternatives derive, written out, from the same tokens within the same levels, and has
 /// their fronts.

@@ -14,7 +14,8 @@ use Rattle.cw_say.specs.declared.status.Status.TheVariants.{Unlinked, NoMemory, 
 abbrev pub LinksObjects : (objects : List (List ℕ)) → Limits → (files files' : Files) → Status → Type 0
 LinksObjects objects limits files files' NoMemory = AllStay files.told files'.told
 LinksObjects objects limits files files' (Unlinked fault) = IsFault (all_contents objects) limits fault × AllStay files.told files'.told
-LinksObjects objects limits files files' status = AreLinked (all_contents objects) limits × GivesFile (codes "A.IMG") (image_file objects limits) files files' status
+LinksObjects objects limits files files' status = AreLinked (all_contents objects) limits
+    × GivesFile (codes "A.IMG") (image_file objects limits) files files' status
 
 -- a list of objects, or how many they are where they are too many
 abbrev pub LinksList : (list : List (List ℕ)) → Limits → (files files' : Files) → Status → Type 0

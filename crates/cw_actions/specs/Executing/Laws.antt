@@ -11,8 +11,11 @@ use Rattle.cw_say.specs.declared.status.Long.TheVariants as long
 abbrev pub IsRightIdle : Type 0
 IsRightIdle = (c : Call) (input : List ℕ) → Closes c.before c.after c.names [] NoMemory → ExecutesRight c input NoMemory
 
--- Two statuses never come of one call, where the store tells its files, no count rose, and memory was found; and where one is TooLong(Input), the source its input.
+-- Two statuses never come of one call, where the store tells its files, no count rose, and memory was found; and
+-- where one is TooLong(Input), the source its input.
 abbrev pub HasOneStatus : Type 0
 HasOneStatus =
-    (c : Call) (input : List ℕ) (a b : Status) (found : List (Option (List ℕ))) → told_files c ≡ map Some found → NoFault c.before c.after → a ≢ NoMemory → b ≢ NoMemory
-    → ((a ≡ TooLong long.Input) ⊎ (b ≡ TooLong long.Input) → (told : List ℕ) × (c.before.left ≡ Some told)) → ExecutesRight c input a → ExecutesRight c input b → a ≡ b
+    (c : Call) (input : List ℕ) (a b : Status) (found : List (Option (List ℕ))) → told_files c ≡ map Some found
+    → NoFault c.before c.after → a ≢ NoMemory → b ≢ NoMemory
+    → ((a ≡ TooLong long.Input) ⊎ (b ≡ TooLong long.Input) → (told : List ℕ) × (c.before.left ≡ Some told))
+    → ExecutesRight c input a → ExecutesRight c input b → a ≡ b

@@ -19,7 +19,8 @@ WroteImage c bytes = c.after.files (codes "A.IMG") ≡ as_file (c.before.files (
 -- Where the files of `link` are the objects that `compile` writes of units, the units link, and the image that it wrote is the one that `go` runs of them.
 abbrev pub LinksWhatRuns : Type 0
 LinksWhatRuns =
-    (c : Call) (us : List SourceUnit) → All IsCompilable us → TellBytes (told_files c) (map object_of us) → LinksRight c Ended → Links us c.limits × WroteImage c (image_bytes (image_of us c.limits))
+    (c : Call) (us : List SourceUnit) → All IsCompilable us → TellBytes (told_files c) (map object_of us)
+    → LinksRight c Ended → Links us c.limits × WroteImage c (image_bytes (image_of us c.limits))
 
 -- each of these objects is the migrated one of the other list
 abbrev pub AllMigrated : (objects migrated : List (List ℕ)) → Type 0
@@ -30,4 +31,5 @@ AllMigrated _ _ = ⊥
 -- `link` of a migrated list writes the image of the list.
 abbrev pub LinksAsMigrated : Type 0
 LinksAsMigrated =
-    (c : Call) (objects migrated : List (List ℕ)) → AllMigrated objects migrated → TellBytes (told_files c) migrated → LinksRight c Ended → WroteImage c (image_bytes (linked_image (all_contents objects) c.limits))
+    (c : Call) (objects migrated : List (List ℕ)) → AllMigrated objects migrated → TellBytes (told_files c) migrated
+    → LinksRight c Ended → WroteImage c (image_bytes (linked_image (all_contents objects) c.limits))

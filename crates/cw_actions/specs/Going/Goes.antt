@@ -1,4 +1,5 @@
--- How a call that runs texts goes up to its closing line: files are read, their units linked, and their image run. What it promises, cw_correct says, and nothing here.
+-- How a call that runs texts goes up to its closing line: files are read, their units linked, and their image run.
+-- What it promises, cw_correct says, and nothing here.
 use Rattle.std.specs.Prelude.{◌≡◌, ◌⊎◌, ℕ, List, Result, Ok, Err}
 use Rattle.cw_unit.specs.declared.unit.Unit.{Unit as SourceUnit}
 use Rattle.cw_unit.specs.declared.layout.Limits.{Limits}
@@ -61,4 +62,5 @@ pub record Takes (c : Call) (us : List SourceUnit) : Type 0 where
   pub counts : SameCounts (counts_before c) (counts_after c)
 
 abbrev pub Goes : Telling → Call → (segments : List (List ℕ)) → Status → Type 0
-Goes telling c segments status = StopsReading c status ⊎ ((us : List SourceUnit) × Takes c us × (StopsLinking c us status ⊎ RunsUnits telling c us segments status))
+Goes telling c segments status = StopsReading c status
+    ⊎ ((us : List SourceUnit) × Takes c us × (StopsLinking c us status ⊎ RunsUnits telling c us segments status))

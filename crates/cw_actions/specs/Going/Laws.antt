@@ -27,13 +27,19 @@ IsRight telling c status = (input : List ℕ) × IsInput c.before.left input × 
 -- A call that goes so up to its closing line, and is closed so, keeps its promise.
 abbrev pub KeepsPromise : Type 0
 KeepsPromise =
-    (telling : Telling) (action : Action) (limits : Limits) (steps : ℕ) (names segments : List (List ℕ)) (before between after : Surroundings) (status : Status) → IsLimits limits → 1 ≤ length names → length names ≤ 200
-    → AllStay before.files between.files → Goes telling (call_as action limits steps names before between) segments status → Closes between after names segments status → IsRight telling (call_as action limits steps names before after) status
+    (telling : Telling) (action : Action) (limits : Limits) (steps : ℕ) (names segments : List (List ℕ))
+    (before between after : Surroundings) (status : Status) → IsLimits limits → 1 ≤ length names
+    → length names ≤ 200
+    → AllStay before.files between.files → Goes telling (call_as action limits steps names before between) segments
+    status → Closes between after names segments status
+    → IsRight telling (call_as action limits steps names before after) status
 
 -- So does a call that did nothing but for its closing line, for want of memory.
 abbrev pub IsRightIdle : Type 0
 IsRightIdle =
-    (telling : Telling) (action : Action) (limits : Limits) (steps : ℕ) (names : List (List ℕ)) (before after : Surroundings) → Closes before after names [] NoMemory → IsRight telling (call_as action limits steps names before after) NoMemory
+    (telling : Telling) (action : Action) (limits : Limits) (steps : ℕ) (names : List (List ℕ))
+    (before after : Surroundings) → Closes before after names [] NoMemory
+    → IsRight telling (call_as action limits steps names before after) NoMemory
 
 -- It runs texts, of which these are the units, and tells of so many instructions and of what shows of them.
 pub record RunsAs (telling : Telling) (c : Call) (input : List ℕ) (status : Status) (us : List SourceUnit) (n : ℕ) (shown : run.Observed) : Type 0 where
@@ -45,20 +51,34 @@ pub record RunsAs (telling : Telling) (c : Call) (input : List ℕ) (status : St
 -- what was said of the units was written, and their image started and ran
 abbrev pub KeepsRun : Type 0
 KeepsRun =
-    (telling : Telling) (action : Action) (limits : Limits) (steps : ℕ) (names : List (List ℕ)) (before between after : Surroundings) (us : List SourceUnit) (input : List ℕ) (s : State) (end : ImageEnd) → IsLimits limits → 1 ≤ length names → length names ≤ 200
-    → AllStay before.files between.files → Takes (call_as action limits steps names before between) us → Links us limits → Lists (telling us) (streams_of before) (streams_of between) → run.IsStart (image_of us limits).code (image_of us limits).words s
-    → (shows : RunShows end s input steps (streams_of before).outside (streams_of between).outside) → Closes between after names (names_of us) (status_of steps end)
-    → RunsAs telling (call_as action limits steps names before after) input (status_of steps end) us (reached end s input steps (streams_of before).outside (streams_of between).outside shows) (shown_of end s input steps (streams_of before).outside (streams_of between).outside shows)
+    (telling : Telling) (action : Action) (limits : Limits) (steps : ℕ) (names : List (List ℕ))
+    (before between after : Surroundings) (us : List SourceUnit) (input : List ℕ) (s : State) (end : ImageEnd)
+    → IsLimits limits → 1 ≤ length names → length names ≤ 200
+    → AllStay before.files between.files → Takes (call_as action limits steps names before between) us
+    → Links us limits → Lists (telling us) (streams_of before) (streams_of between)
+    → run.IsStart (image_of us limits).code (image_of us limits).words s
+    → (shows : RunShows end s input steps (streams_of before).outside (streams_of between).outside)
+    → Closes between after names (names_of us) (status_of steps end)
+    → RunsAs telling (call_as action limits steps names before after) input (status_of steps end) us
+    (reached end s input steps (streams_of before).outside (streams_of between).outside shows)
+    (shown_of end s input steps (streams_of before).outside (streams_of between).outside shows)
 
 -- or it could not be written
 abbrev pub KeepsListing : Type 0
 KeepsListing =
-    (telling : Telling) (action : Action) (limits : Limits) (steps : ℕ) (names : List (List ℕ)) (before between after : Surroundings) (us : List SourceUnit) (input : List ℕ) → IsLimits limits → 1 ≤ length names → length names ≤ 200
-    → AllStay before.files between.files → Takes (call_as action limits steps names before between) us → Links us limits → ListsPart (telling us) (streams_of before) (streams_of between) → Closes between after names (names_of us) (Outside Say)
+    (telling : Telling) (action : Action) (limits : Limits) (steps : ℕ) (names : List (List ℕ))
+    (before between after : Surroundings) (us : List SourceUnit) (input : List ℕ) → IsLimits limits
+    → 1 ≤ length names → length names ≤ 200
+    → AllStay before.files between.files → Takes (call_as action limits steps names before between) us
+    → Links us limits → ListsPart (telling us) (streams_of before) (streams_of between)
+    → Closes between after names (names_of us) (Outside Say)
     → (shown : run.Observed) × RunsAs telling (call_as action limits steps names before after) input (Outside Say) us 0 shown
 
--- Two statuses never come of one call, where the store tells its files, no count rose, and memory was found; and where one is TooLong(Input), the source its input.
+-- Two statuses never come of one call, where the store tells its files, no count rose, and memory was found; and
+-- where one is TooLong(Input), the source its input.
 abbrev pub HasOneStatus : Type 0
 HasOneStatus =
-    (telling : Telling) (c : Call) (input : List ℕ) (a b : Status) (found : List (Option (List ℕ))) → told_files c ≡ map Some found → NoFault c.before c.after → a ≢ NoMemory → b ≢ NoMemory
-    → ((a ≡ TooLong long.Input) ⊎ (b ≡ TooLong long.Input) → (told : List ℕ) × (c.before.left ≡ Some told)) → RunsTexts telling c input a → RunsTexts telling c input b → a ≡ b
+    (telling : Telling) (c : Call) (input : List ℕ) (a b : Status) (found : List (Option (List ℕ)))
+    → told_files c ≡ map Some found → NoFault c.before c.after → a ≢ NoMemory → b ≢ NoMemory
+    → ((a ≡ TooLong long.Input) ⊎ (b ≡ TooLong long.Input) → (told : List ℕ) × (c.before.left ≡ Some told))
+    → RunsTexts telling c input a → RunsTexts telling c input b → a ≡ b

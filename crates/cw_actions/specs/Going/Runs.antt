@@ -20,7 +20,8 @@ pub record Streams : Type 0 where
   pub say : Option (List ℕ)
   pub say_faults : ℕ
 
-abbrev pub streams_at : (left : Option (List ℕ)) → (input_faults : ℕ) → (out : Option (List ℕ)) → (out_faults : ℕ) → (say : Option (List ℕ)) → (say_faults : ℕ) → Streams
+abbrev pub streams_at : (left : Option (List ℕ)) → (input_faults : ℕ) → (out : Option (List ℕ)) → (out_faults : ℕ)
+    → (say : Option (List ℕ)) → (say_faults : ℕ) → Streams
 streams_at left input_faults out out_faults say say_faults = record { outside = outside left input_faults out out_faults; say = say; say_faults = say_faults }
 
 -- the status of a run of so many steps that ends so

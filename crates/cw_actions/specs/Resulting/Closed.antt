@@ -32,9 +32,11 @@ abbrev pub out_at : (held : Option (List ℕ)) → (faults : ℕ) → Out
 out_at held faults = record { held = held; faults = faults }
 
 -- Whatever `say` and the input are, the call keeps its promise once it is closed.
-abbrev pub KeepsClosed : (Right : Call → Status → Type 0) → Action → Limits → (names : List (List ℕ)) → (files files' : Files) → (out out' : Out) → Status → Type 0
+abbrev pub KeepsClosed : (Right : Call → Status → Type 0) → Action → Limits → (names : List (List ℕ))
+    → (files files' : Files) → (out out' : Out) → Status → Type 0
 KeepsClosed Right action limits names files files' out out' status =
-    (steps : ℕ) (left : Option (List ℕ)) (input_faults : ℕ) (said said' : Option (List ℕ)) (faults faults' : ℕ) → IsClosed names status said said' faults faults'
+    (steps : ℕ) (left : Option (List ℕ)) (input_faults : ℕ) (said said' : Option (List ℕ)) (faults faults' : ℕ)
+    → IsClosed names status said said' faults faults'
     → Right
     (call_as action limits steps names (surroundings_of files.told files.counts.faults files.counts.absences left input_faults out.held out.faults said faults)
     (surroundings_of files'.told files'.counts.faults files'.counts.absences left input_faults out'.held out'.faults said' faults'))

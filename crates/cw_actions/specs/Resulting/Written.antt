@@ -12,13 +12,16 @@ use Rattle.cw_say.specs.declared.status.Which.TheVariants as which
 -- to `out`: the whole, or a proper part where its count rose, or nothing for want of memory
 abbrev pub GivesOut : (result : List ℕ) → (out out' : Out) → Status → Type 0
 GivesOut result out out' Ended = (out'.held ≡ after_told out.held result) × (out'.faults ≡ out.faults)
-GivesOut result out out' (Outside which.Out) = (count : ℕ) × (count < length result) × (out'.held ≡ after_told out.held (take count result)) × Rose out.faults out'.faults
+GivesOut result out out' (Outside which.Out) = (count : ℕ) × (count < length result)
+    × (out'.held ≡ after_told out.held (take count result)) × Rose out.faults out'.faults
 GivesOut result out out' NoMemory = out' ≡ out
 GivesOut result out out' status = ⊥
 
 -- to a file: it is the result and all others stay; or the writing failed, and it is as it was or the result; or all stay for want of memory
 abbrev pub GivesFile : (name result : List ℕ) → (files files' : Files) → Status → Type 0
-GivesFile name result files files' Ended = (files'.told name ≡ as_file (files.told name) result) × OthersStay files.told files'.told name × SameCounts files.counts files'.counts
-GivesFile name result files files' (Outside which.Store) = KeptOrWhole files.told files'.told name result × OthersStay files.told files'.told name × Rose files.counts.faults files'.counts.faults
+GivesFile name result files files' Ended = (files'.told name ≡ as_file (files.told name) result)
+    × OthersStay files.told files'.told name × SameCounts files.counts files'.counts
+GivesFile name result files files' (Outside which.Store) = KeptOrWhole files.told files'.told name result
+    × OthersStay files.told files'.told name × Rose files.counts.faults files'.counts.faults
 GivesFile name result files files' NoMemory = AllStay files.told files'.told
 GivesFile name result files files' status = ⊥

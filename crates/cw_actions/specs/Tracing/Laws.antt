@@ -29,32 +29,51 @@ IsTraced stop c status = (input : List ℕ) × IsInput c.before.left input × Tr
 -- A call keeps its promise, once it is closed, whose reading or linking stopped;
 abbrev pub KeepsStopped : Type 0
 KeepsStopped =
-    (stop : Stop) (action : Action) (limits : Limits) (steps : ℕ) (names : List (List ℕ)) (before between after : Surroundings) (status : Status) → IsLimits limits → 1 ≤ length names → length names ≤ 200
+    (stop : Stop) (action : Action) (limits : Limits) (steps : ℕ) (names : List (List ℕ))
+    (before between after : Surroundings) (status : Status) → IsLimits limits → 1 ≤ length names
+    → length names ≤ 200
     → AllStay before.files between.files
-    → StopsReading (call_as action limits steps names before between) status ⊎ ((us : List SourceUnit) × Takes (call_as action limits steps names before between) us × StopsLinking (call_as action limits steps names before between) us status)
+    → StopsReading (call_as action limits steps names before between) status
+    ⊎ ((us : List SourceUnit) × Takes (call_as action limits steps names before between) us
+    × StopsLinking (call_as action limits steps names before between) us status)
     → Closes between after names [] status → IsTraced stop (call_as action limits steps names before after) status
 
 -- whose stop means nothing, or where memory was wanted to find what it means;
 abbrev pub KeepsFault : Type 0
 KeepsFault =
-    (stop : Stop) (action : Action) (limits : Limits) (steps : ℕ) (names : List (List ℕ)) (before between after : Surroundings) (us : List SourceUnit) (fault : WatchFault) → IsLimits limits → 1 ≤ length names → length names ≤ 200
-    → AllStay before.files between.files → Takes (call_as action limits steps names before between) us → Links us limits → MeansInUnits us limits stop (Err fault) → streams_of between ≡ streams_of before
-    → Closes between after (named_by stop names (fault_status fault)) [] (fault_status fault) → IsTraced stop (call_as action limits steps names before after) (fault_status fault)
+    (stop : Stop) (action : Action) (limits : Limits) (steps : ℕ) (names : List (List ℕ))
+    (before between after : Surroundings) (us : List SourceUnit) (fault : WatchFault) → IsLimits limits
+    → 1 ≤ length names → length names ≤ 200
+    → AllStay before.files between.files → Takes (call_as action limits steps names before between) us
+    → Links us limits → MeansInUnits us limits stop (Err fault) → streams_of between ≡ streams_of before
+    → Closes between after (named_by stop names (fault_status fault)) [] (fault_status fault)
+    → IsTraced stop (call_as action limits steps names before after) (fault_status fault)
 
 -- and whose image was to run, watched.
 abbrev pub KeepsRun : Type 0
 KeepsRun =
-    (stop : Stop) (watch : Watch) (action : Action) (limits : Limits) (steps : ℕ) (names : List (List ℕ)) (before between after : Surroundings) (us : List SourceUnit) (status : Status) → IsLimits limits → 1 ≤ length names → length names ≤ 200
-    → AllStay before.files between.files → Takes (call_as action limits steps names before between) us → Links us limits → MeansInUnits us limits stop (Ok watch) → IsDistinct nat_eq watch.places → All (λ word. word.address < limits.area) watch.words
-    → WatchesRun (map_text us limits) (image_of us limits) watch steps (streams_of before) (streams_of between) status → Closes between after names (names_of us) status → IsTraced stop (call_as action limits steps names before after) status
+    (stop : Stop) (watch : Watch) (action : Action) (limits : Limits) (steps : ℕ) (names : List (List ℕ))
+    (before between after : Surroundings) (us : List SourceUnit) (status : Status) → IsLimits limits
+    → 1 ≤ length names → length names ≤ 200
+    → AllStay before.files between.files → Takes (call_as action limits steps names before between) us
+    → Links us limits → MeansInUnits us limits stop (Ok watch) → IsDistinct nat_eq watch.places
+    → All (λ word. word.address < limits.area) watch.words
+    → WatchesRun (map_text us limits) (image_of us limits) watch steps (streams_of before) (streams_of between)
+    status → Closes between after names (names_of us) status
+    → IsTraced stop (call_as action limits steps names before after) status
 
 -- So does a call that did nothing but for its closing line, for want of memory.
 abbrev pub IsRightIdle : Type 0
 IsRightIdle =
-    (stop : Stop) (action : Action) (limits : Limits) (steps : ℕ) (names : List (List ℕ)) (before after : Surroundings) → Closes before after names [] NoMemory → IsTraced stop (call_as action limits steps names before after) NoMemory
+    (stop : Stop) (action : Action) (limits : Limits) (steps : ℕ) (names : List (List ℕ))
+    (before after : Surroundings) → Closes before after names [] NoMemory
+    → IsTraced stop (call_as action limits steps names before after) NoMemory
 
--- Two statuses never come of one call, where the store tells its files, no count rose, and memory was found; and where one is TooLong(Input), the source its input.
+-- Two statuses never come of one call, where the store tells its files, no count rose, and memory was found; and
+-- where one is TooLong(Input), the source its input.
 abbrev pub HasOneStatus : Type 0
 HasOneStatus =
-    (stop : Stop) (c : Call) (input : List ℕ) (a b : Status) (found : List (Option (List ℕ))) → told_files c ≡ map Some found → NoFault c.before c.after → a ≢ NoMemory → b ≢ NoMemory
-    → ((a ≡ TooLong long.Input) ⊎ (b ≡ TooLong long.Input) → (told : List ℕ) × (c.before.left ≡ Some told)) → TracesRight stop c input a → TracesRight stop c input b → a ≡ b
+    (stop : Stop) (c : Call) (input : List ℕ) (a b : Status) (found : List (Option (List ℕ)))
+    → told_files c ≡ map Some found → NoFault c.before c.after → a ≢ NoMemory → b ≢ NoMemory
+    → ((a ≡ TooLong long.Input) ⊎ (b ≡ TooLong long.Input) → (told : List ℕ) × (c.before.left ≡ Some told))
+    → TracesRight stop c input a → TracesRight stop c input b → a ≡ b

@@ -64,7 +64,10 @@ fn run_program<I: Source, O: Sink, S: Sink>(
 ) -> Status
     requires linked { IsLinkedOf segments.now.units limits.now linked.now }
     requires limits { IsLimits limits.now }
-    ensures { Runs (program_line copies segments.now.units) (image_of segments.now.units limits.now) steps (streams_at (I.left input.old) (I.faults input.old) (O.held out.old) (O.faults out.old) (S.held say.old) (S.faults say.old)) (streams_at (I.left input.new) (I.faults input.new) (O.held out.new) (O.faults out.new) (S.held say.new) (S.faults say.new)) result }
+    ensures { Runs (program_line copies segments.now.units) (image_of segments.now.units limits.now) steps
+        (streams_at (I.left input.old) (I.faults input.old) (O.held out.old) (O.faults out.old) (S.held say.old)
+        (S.faults say.old)) (streams_at (I.left input.new) (I.faults input.new) (O.held out.new)
+        (O.faults out.new) (S.held say.new) (S.faults say.new)) result }
 {
     linked_units();
     match line_with(alloc, copies, linked.map.end) {
@@ -95,7 +98,13 @@ pub fn big<I: Source, O: Sink, S: Sink>(
     requires some { 1 ≤ copies }
     requires few { copies ≤ 100 }
     requires limits { IsLimits limits.now }
-    ensures { (names : List (List ℕ)) (files : List ℕ → Told) (store_faults absences : ℕ) → copies_in (slice_index_or names 0 []) ≡ Some copies → IsCorrectCall (call_as Big limits.now steps names (surroundings_of files store_faults absences (I.left input.old) (I.faults input.old) (O.held out.old) (O.faults out.old) (S.held say.old) (S.faults say.old)) (surroundings_of files store_faults absences (I.left input.new) (I.faults input.new) (O.held out.new) (O.faults out.new) (S.held say.new) (S.faults say.new))) result }
+    ensures { (names : List (List ℕ)) (files : List ℕ → Told) (store_faults absences : ℕ)
+        → copies_in (slice_index_or names 0 []) ≡ Some copies
+        → IsCorrectCall (call_as Big limits.now steps names
+        (surroundings_of files store_faults absences (I.left input.old) (I.faults input.old) (O.held out.old)
+        (O.faults out.old) (S.held say.old) (S.faults say.old))
+        (surroundings_of files store_faults absences (I.left input.new) (I.faults input.new) (O.held out.new)
+        (O.faults out.new) (S.held say.new) (S.faults say.new))) result }
 {
     promises();
     short_texts();

@@ -67,7 +67,9 @@ fn source_of(alloc: Global, text: Vec<u8>, number: u16) -> Result<Source, Status
     requires { length text.items ≤ text_limit }
     ensures kept { IfOk result (λ source. source.text ≡ text.items) }
     ensures made { IfOk result (λ source. HasUnit text.items source.segment.unit × IsMadeOf source.segment.unit source.segment.made) }
-    ensures stops { (told : Sequence Told) (texts : Sequence (Sequence ℕ)) (before after : Counts) → slice_get texts number ≡ Some text.items → IfErr result (λ status. StopsTexts told texts number before after status) }
+    ensures stops { (told : Sequence Told) (texts : Sequence (Sequence ℕ)) (before after : Counts)
+        → slice_get texts number ≡ Some text.items
+        → IfErr result (λ status. StopsTexts told texts number before after status) }
 {
     match compile_text(alloc, text.as_slice(), number) {
         Ok(segment) => Ok(Source {
@@ -88,8 +90,13 @@ fn read_source<F: Store>(
     ensures whole { IfOk result (λ source. Is (F.file files.old name.now) source.text) }
     ensures within { IfOk result (λ source. length source.text ≤ text_limit) }
     ensures made { IfOk result (λ source. HasUnit source.text source.segment.unit × IsMadeOf source.segment.unit source.segment.made) }
-    ensures same { IfOk result (λ _. SameCounts (counts_at (F.faults files.old) (F.absences files.old)) (counts_at (F.faults files.new) (F.absences files.new))) }
-    ensures stops { (told : Sequence Told) (us : Sequence SourceUnit) → Takes text_limit HasUnit told us → length us ≡ number → slice_get told number ≡ Some (F.file files.old name.now) → IfErr result (λ status. Stopped text_limit HasUnit (λ texts taken. StopsTexts told texts taken (counts_at (F.faults files.old) (F.absences files.old)) (counts_at (F.faults files.new) (F.absences files.new)) status) told) }
+    ensures same { IfOk result (λ _. SameCounts (counts_at (F.faults files.old) (F.absences files.old))
+        (counts_at (F.faults files.new) (F.absences files.new))) }
+    ensures stops { (told : Sequence Told) (us : Sequence SourceUnit) → Takes text_limit HasUnit told us
+        → length us ≡ number → slice_get told number ≡ Some (F.file files.old name.now)
+        → IfErr result (λ status. Stopped text_limit HasUnit
+        (λ texts taken. StopsTexts told texts taken (counts_at (F.faults files.old) (F.absences files.old))
+        (counts_at (F.faults files.new) (F.absences files.new)) status) told) }
     ensures stay { AllStay (F.file files.old) (F.file files.new) }
 {
     match read_bytes(alloc, files, name, number, TEXT_LIMIT) {
@@ -105,7 +112,9 @@ pub fn read_sources<F: Store>(
     names: &[&str],
 ) -> Result<Sources, Status>
     requires { length names.now ≤ 200 }
-    ensures taken { AnswersSources (map (λ name. F.file files.old name.now) names.now) (counts_at (F.faults files.old) (F.absences files.old)) (counts_at (F.faults files.new) (F.absences files.new)) result }
+    ensures taken { AnswersSources (map (λ name. F.file files.old name.now) names.now)
+        (counts_at (F.faults files.old) (F.absences files.old))
+        (counts_at (F.faults files.new) (F.absences files.new)) result }
     ensures stay { AllStay (F.file files.old) (F.file files.new) }
 {
     let mut sources = Sources::new(alloc);

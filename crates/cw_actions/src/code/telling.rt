@@ -30,7 +30,9 @@ fn write_listing<O: Sink>(alloc: Global, sources: &Sources, linked: &Linked, out
     requires segments { AreSegmentsOf sources.now.segments.units sources.now.segments }
     requires compiled { All IsCompilable sources.now.segments.units }
     requires few { length linked.now.image.code ≤ 65536 }
-    ensures { (limits : SourceLimits) → IsLinkedOf sources.now.segments.units limits linked.now → TellsUnits (IsCode sources.now.texts) sources.now.segments.units limits (out_at (O.held out.old) (O.faults out.old)) (out_at (O.held out.new) (O.faults out.new)) result }
+    ensures { (limits : SourceLimits) → IsLinkedOf sources.now.segments.units limits linked.now
+        → TellsUnits (IsCode sources.now.texts) sources.now.segments.units limits
+        (out_at (O.held out.old) (O.faults out.old)) (out_at (O.held out.new) (O.faults out.new)) result }
 {
     let units = sources.segments.units.as_slice();
     let layouts = sources.segments.layouts.as_slice();
@@ -52,7 +54,8 @@ fn code_units<O: Sink>(alloc: Global, sources: &Sources, limits: &Limits, out: &
     requires compiled { All IsCompilable us }
     requires few { length us ≤ 200 }
     requires limits { IsLimits limits.now }
-    ensures { TellsUnits (IsCode sources.now.texts) us limits.now (out_at (O.held out.old) (O.faults out.old)) (out_at (O.held out.new) (O.faults out.new)) result }
+    ensures { TellsUnits (IsCode sources.now.texts) us limits.now (out_at (O.held out.old) (O.faults out.old))
+        (out_at (O.held out.new) (O.faults out.new)) result }
 {
     linked_units();
     match link_units(alloc, sources.segments.objects.as_slice(), limits) {
@@ -71,7 +74,10 @@ fn code_all<F: Store, O: Sink>(
 ) -> Status
     requires few { length names.now ≤ 200 }
     requires limits { IsLimits limits.now }
-    ensures { KeepsClosed CodesRight Code limits.now (map (λ name. name.now) names.now) (files_at (F.file files.old) (F.faults files.old) (F.absences files.old)) (files_at (F.file files.new) (F.faults files.new) (F.absences files.new)) (out_at (O.held out.old) (O.faults out.old)) (out_at (O.held out.new) (O.faults out.new)) result }
+    ensures { KeepsClosed CodesRight Code limits.now (map (λ name. name.now) names.now)
+        (files_at (F.file files.old) (F.faults files.old) (F.absences files.old))
+        (files_at (F.file files.new) (F.faults files.new) (F.absences files.new))
+        (out_at (O.held out.old) (O.faults out.old)) (out_at (O.held out.new) (O.faults out.new)) result }
 {
     one_outcome();
     compiled_units();
@@ -95,7 +101,12 @@ pub fn code_files<F: Store, O: Sink, S: Sink>(
     requires few { length names.now ≤ 200 }
     requires some { 1 ≤ length names.now }
     requires limits { IsLimits limits.now }
-    ensures { (left : Option (Sequence ℕ)) (input_faults : ℕ) → CodesRight (call_as Code limits.now steps (map (λ name. name.now) names.now) (surroundings_of (F.file files.old) (F.faults files.old) (F.absences files.old) left input_faults (O.held out.old) (O.faults out.old) (S.held say.old) (S.faults say.old)) (surroundings_of (F.file files.new) (F.faults files.new) (F.absences files.new) left input_faults (O.held out.new) (O.faults out.new) (S.held say.new) (S.faults say.new))) result }
+    ensures { (left : Option (Sequence ℕ)) (input_faults : ℕ)
+        → CodesRight (call_as Code limits.now steps (map (λ name. name.now) names.now)
+        (surroundings_of (F.file files.old) (F.faults files.old) (F.absences files.old) left input_faults
+        (O.held out.old) (O.faults out.old) (S.held say.old) (S.faults say.old))
+        (surroundings_of (F.file files.new) (F.faults files.new) (F.absences files.new) left input_faults
+        (O.held out.new) (O.faults out.new) (S.held say.new) (S.faults say.new))) result }
 {
     let status = code_all(alloc, names, limits, files, out);
     close(say, names, &status);

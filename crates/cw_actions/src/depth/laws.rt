@@ -26,7 +26,8 @@ pub fn few_procedures()
 
 /// The depth report of the units of texts is a bound of their runs.
 pub fn report_bounds_runs()
-    ensures { (texts : List (List ℕ)) (units : List SourceUnit) (report : Report) → 0 < length units → HaveValues HasUnit texts units → IsReport units report → BoundsRuns units report }
+    ensures { (texts : List (List ℕ)) (units : List SourceUnit) (report : Report) → 0 < length units
+        → HaveValues HasUnit texts units → IsReport units report → BoundsRuns units report }
 {
     text_units();
     units_fit();

@@ -35,7 +35,9 @@ use std::alloc::Global;
 fn write_depth<O: Sink>(alloc: Global, units: &[Unit], out: &mut O) -> Status
     requires few { AreFew units.now }
     requires bounds { (report : DepthReport) → IsReport units.now report → BoundsRuns units.now report }
-    ensures { (limits : SourceLimits) → Links units.now limits → TellsUnits IsDepth units.now limits (out_at (O.held out.old) (O.faults out.old)) (out_at (O.held out.new) (O.faults out.new)) result }
+    ensures { (limits : SourceLimits) → Links units.now limits
+        → TellsUnits IsDepth units.now limits (out_at (O.held out.old) (O.faults out.old))
+        (out_at (O.held out.new) (O.faults out.new)) result }
 {
     match depth(alloc, units) {
         Ok(report) => match report_text(alloc, units, &report) {
@@ -89,7 +91,10 @@ fn depth_all<F: Store, O: Sink>(
     requires few { length names.now ≤ 200 }
     requires some { 1 ≤ length names.now }
     requires limits { IsLimits limits.now }
-    ensures { KeepsClosed DepthsRight Depth limits.now (map (λ name. name.now) names.now) (files_at (F.file files.old) (F.faults files.old) (F.absences files.old)) (files_at (F.file files.new) (F.faults files.new) (F.absences files.new)) (out_at (O.held out.old) (O.faults out.old)) (out_at (O.held out.new) (O.faults out.new)) result }
+    ensures { KeepsClosed DepthsRight Depth limits.now (map (λ name. name.now) names.now)
+        (files_at (F.file files.old) (F.faults files.old) (F.absences files.old))
+        (files_at (F.file files.new) (F.faults files.new) (F.absences files.new))
+        (out_at (O.held out.old) (O.faults out.old)) (out_at (O.held out.new) (O.faults out.new)) result }
 {
     one_outcome();
     compiled_units();
@@ -115,7 +120,12 @@ pub fn depth_files<F: Store, O: Sink, S: Sink>(
     requires few { length names.now ≤ 200 }
     requires some { 1 ≤ length names.now }
     requires limits { IsLimits limits.now }
-    ensures { (left : Option (Sequence ℕ)) (input_faults : ℕ) → DepthsRight (call_as Depth limits.now steps (map (λ name. name.now) names.now) (surroundings_of (F.file files.old) (F.faults files.old) (F.absences files.old) left input_faults (O.held out.old) (O.faults out.old) (S.held say.old) (S.faults say.old)) (surroundings_of (F.file files.new) (F.faults files.new) (F.absences files.new) left input_faults (O.held out.new) (O.faults out.new) (S.held say.new) (S.faults say.new))) result }
+    ensures { (left : Option (Sequence ℕ)) (input_faults : ℕ)
+        → DepthsRight (call_as Depth limits.now steps (map (λ name. name.now) names.now)
+        (surroundings_of (F.file files.old) (F.faults files.old) (F.absences files.old) left input_faults
+        (O.held out.old) (O.faults out.old) (S.held say.old) (S.faults say.old))
+        (surroundings_of (F.file files.new) (F.faults files.new) (F.absences files.new) left input_faults
+        (O.held out.new) (O.faults out.new) (S.held say.new) (S.faults say.new))) result }
 {
     let status = depth_all(alloc, names, limits, files, out);
     close(say, names, &status);

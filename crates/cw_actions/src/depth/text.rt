@@ -53,7 +53,9 @@ fn put_lines(out: &mut Vec<u8>, units: &[Unit], chain: &[(u8, u16)]) -> Result<(
 }
 
 fn put_bound(out: &mut Vec<u8>, units: &[Unit], chain: &[(u8, u16)]) -> Result<(), NoMemory>
-    ensures { OnOk result (out.new.items ≡ out.old.items ++ (codes "depth " ++ (decimal (length chain.now) ++ (codes "\n" ++ flat_map (place_line units.now) chain.now)))) }
+    ensures { OnOk result (out.new.items ≡ out.old.items
+        ++ (codes "depth " ++ (decimal (length chain.now)
+        ++ (codes "\n" ++ flat_map (place_line units.now) chain.now)))) }
 {
     put_bytes(out, b"depth ")?;
     put_number(out, chain.len())?;

@@ -41,7 +41,8 @@ fn status_of(end: ImageEnd, steps: u64) -> Status
 
 // Runs from where the processor begins.
 fn run<I: Source, O: Sink>(cpu: Cpu, steps: u64, input: &mut I, out: &mut O) -> Status
-    ensures { Runs cpu steps (outside (I.left input.old) (I.faults input.old) (O.held out.old) (O.faults out.old)) (outside (I.left input.new) (I.faults input.new) (O.held out.new) (O.faults out.new)) result }
+    ensures { Runs cpu steps (outside (I.left input.old) (I.faults input.old) (O.held out.old) (O.faults out.old))
+        (outside (I.left input.new) (I.faults input.new) (O.held out.new) (O.faults out.new)) result }
 {
     let mut cpu = cpu;
     status_of(run_image(&mut cpu, input, out, steps), steps)
@@ -60,7 +61,12 @@ fn exec_file<F: Store, I: Source, O: Sink, S: Sink>(
     say: &mut S,
 ) -> Status
     requires { map (λ name. name.now) names.now ≡ name.now ∷ [] }
-    ensures { IsCorrectCall (call_as Exec limits.now steps (map (λ name. name.now) names.now) (surroundings_of (F.file files.old) (F.faults files.old) (F.absences files.old) (I.left input.old) (I.faults input.old) (O.held out.old) (O.faults out.old) (S.held say.old) (S.faults say.old)) (surroundings_of (F.file files.new) (F.faults files.new) (F.absences files.new) (I.left input.new) (I.faults input.new) (O.held out.new) (O.faults out.new) (S.held say.new) (S.faults say.new))) result }
+    ensures { IsCorrectCall (call_as Exec limits.now steps (map (λ name. name.now) names.now)
+        (surroundings_of (F.file files.old) (F.faults files.old) (F.absences files.old) (I.left input.old)
+        (I.faults input.old) (O.held out.old) (O.faults out.old) (S.held say.old) (S.faults say.old))
+        (surroundings_of (F.file files.new) (F.faults files.new) (F.absences files.new) (I.left input.new)
+        (I.faults input.new) (O.held out.new) (O.faults out.new) (S.held say.new) (S.faults say.new)))
+        result }
 {
     match read_runnable(alloc, files, name) {
         Ok(runnable) => {
@@ -89,7 +95,12 @@ pub fn exec<F: Store, I: Source, O: Sink, S: Sink>(
     requires few { length names.now ≤ 1 }
     requires some { 1 ≤ length names.now }
     requires limits { IsLimits limits.now }
-    ensures { IsCorrectCall (call_as Exec limits.now steps (map (λ name. name.now) names.now) (surroundings_of (F.file files.old) (F.faults files.old) (F.absences files.old) (I.left input.old) (I.faults input.old) (O.held out.old) (O.faults out.old) (S.held say.old) (S.faults say.old)) (surroundings_of (F.file files.new) (F.faults files.new) (F.absences files.new) (I.left input.new) (I.faults input.new) (O.held out.new) (O.faults out.new) (S.held say.new) (S.faults say.new))) result }
+    ensures { IsCorrectCall (call_as Exec limits.now steps (map (λ name. name.now) names.now)
+        (surroundings_of (F.file files.old) (F.faults files.old) (F.absences files.old) (I.left input.old)
+        (I.faults input.old) (O.held out.old) (O.faults out.old) (S.held say.old) (S.faults say.old))
+        (surroundings_of (F.file files.new) (F.faults files.new) (F.absences files.new) (I.left input.new)
+        (I.faults input.new) (O.held out.new) (O.faults out.new) (S.held say.new) (S.faults say.new)))
+        result }
 {
     match names {
         [name] => exec_file(alloc, name, names, limits, steps, files, input, out, say),

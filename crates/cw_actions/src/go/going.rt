@@ -30,7 +30,12 @@ pub fn go<F: Store, I: Source, O: Sink, S: Sink>(
     requires few { length names.now ≤ 200 }
     requires some { 1 ≤ length names.now }
     requires limits { IsLimits limits.now }
-    ensures { IsCorrectCall (call_as Go limits.now steps (map (λ name. name.now) names.now) (surroundings_of (F.file files.old) (F.faults files.old) (F.absences files.old) (I.left input.old) (I.faults input.old) (O.held out.old) (O.faults out.old) (S.held say.old) (S.faults say.old)) (surroundings_of (F.file files.new) (F.faults files.new) (F.absences files.new) (I.left input.new) (I.faults input.new) (O.held out.new) (O.faults out.new) (S.held say.new) (S.faults say.new))) result }
+    ensures { IsCorrectCall (call_as Go limits.now steps (map (λ name. name.now) names.now)
+        (surroundings_of (F.file files.old) (F.faults files.old) (F.absences files.old) (I.left input.old)
+        (I.faults input.old) (O.held out.old) (O.faults out.old) (S.held say.old) (S.faults say.old))
+        (surroundings_of (F.file files.new) (F.faults files.new) (F.absences files.new) (I.left input.new)
+        (I.faults input.new) (O.held out.new) (O.faults out.new) (S.held say.new) (S.faults say.new)))
+        result }
 {
     promises();
     compiled_units();

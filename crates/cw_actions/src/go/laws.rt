@@ -11,7 +11,8 @@ use cw_sim::laws::preservation;
 use cw_texts::laws::compiled_units;
 use cw_unit::laws::configurations;
 
-/// A call that goes so up to its closing line, and is closed so, keeps its promise. So does one that did nothing else, for want of memory. Of one whose image ran
+/// A call that goes so up to its closing line, and is closed so, keeps its promise. So does one that did nothing
+/// else, for want of memory. Of one whose image ran
 /// it is told what the promise tells of.
 pub fn promises()
     ensures keeps { KeepsPromise }

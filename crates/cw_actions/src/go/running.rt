@@ -32,7 +32,11 @@ fn list_and_run<I: Source, O: Sink, S: Sink>(
     out: &mut O,
     say: &mut S,
 ) -> Status
-    ensures { (image : RunImage) → IsStart image.code image.words cpu.old → Runs listing.now image steps (streams_at (I.left input.old) (I.faults input.old) (O.held out.old) (O.faults out.old) (S.held say.old) (S.faults say.old)) (streams_at (I.left input.new) (I.faults input.new) (O.held out.new) (O.faults out.new) (S.held say.new) (S.faults say.new)) result }
+    ensures { (image : RunImage) → IsStart image.code image.words cpu.old
+        → Runs listing.now image steps (streams_at (I.left input.old) (I.faults input.old) (O.held out.old)
+        (O.faults out.old) (S.held say.old) (S.faults say.old))
+        (streams_at (I.left input.new) (I.faults input.new) (O.held out.new) (O.faults out.new) (S.held say.new)
+        (S.faults say.new)) result }
 {
     match write_piece(say, listing) {
         Ok(()) => status_of(run_image(cpu, input, out, steps), steps),
@@ -53,7 +57,10 @@ pub fn load_and_run<I: Source, O: Sink, S: Sink>(
     requires some { 0 < length image.now.code }
     requires code { length image.now.code ≤ 65536 }
     requires words { length image.now.words ≤ 32768 }
-    ensures { Runs listing.now image.now steps (streams_at (I.left input.old) (I.faults input.old) (O.held out.old) (O.faults out.old) (S.held say.old) (S.faults say.old)) (streams_at (I.left input.new) (I.faults input.new) (O.held out.new) (O.faults out.new) (S.held say.new) (S.faults say.new)) result }
+    ensures { Runs listing.now image.now steps
+        (streams_at (I.left input.old) (I.faults input.old) (O.held out.old) (O.faults out.old) (S.held say.old)
+        (S.faults say.old)) (streams_at (I.left input.new) (I.faults input.new) (O.held out.new)
+        (O.faults out.new) (S.held say.new) (S.faults say.new)) result }
 {
     let code = image.code.as_slice();
     let words = image.words.as_slice();
@@ -77,7 +84,10 @@ pub(crate) fn run_segments<I: Source, O: Sink, S: Sink>(
     requires segments { AreSegmentsOf segments.now.units segments.now }
     requires linked { IsLinkedOf segments.now.units limits.now linked.now }
     requires limits { IsLimits limits.now }
-    ensures { Runs (map_text segments.now.units limits.now) (image_of segments.now.units limits.now) steps (streams_at (I.left input.old) (I.faults input.old) (O.held out.old) (O.faults out.old) (S.held say.old) (S.faults say.old)) (streams_at (I.left input.new) (I.faults input.new) (O.held out.new) (O.faults out.new) (S.held say.new) (S.faults say.new)) result }
+    ensures { Runs (map_text segments.now.units limits.now) (image_of segments.now.units limits.now) steps
+        (streams_at (I.left input.old) (I.faults input.old) (O.held out.old) (O.faults out.old) (S.held say.old)
+        (S.faults say.old)) (streams_at (I.left input.new) (I.faults input.new) (O.held out.new)
+        (O.faults out.new) (S.held say.new) (S.faults say.new)) result }
 {
     linked_units();
     let units = segments.units.as_slice();

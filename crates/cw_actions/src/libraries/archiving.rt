@@ -24,7 +24,9 @@ fn save_library<F: Store>(alloc: Global, files: &mut F, name: &str, objects: &[L
     requires number { IsNumber (length objects.now) }
     requires objects { AllByRecursion IsObject objects.now }
     requires short { AllByRecursion (λ m. length m ≤ 16777216) objects.now }
-    ensures { GivesFile name.now (library_bytes objects.now) (files_at (F.file files.old) (F.faults files.old) (F.absences files.old)) (files_at (F.file files.new) (F.faults files.new) (F.absences files.new)) result }
+    ensures { GivesFile name.now (library_bytes objects.now)
+        (files_at (F.file files.old) (F.faults files.old) (F.absences files.old))
+        (files_at (F.file files.new) (F.faults files.new) (F.absences files.new)) result }
 {
     match write_lib(alloc, objects) {
         Ok(bytes) => save(files, name, bytes.as_slice()),
@@ -42,7 +44,9 @@ fn lib_files<F: Store>(
 ) -> Status
     requires few { length names.now ≤ 200 }
     requires some { 1 ≤ length names.now }
-    ensures { (out : Out) → KeepsClosed (MakesLibrary name.now) Lib limits.now (map (λ object. object.now) names.now) (files_at (F.file files.old) (F.faults files.old) (F.absences files.old)) (files_at (F.file files.new) (F.faults files.new) (F.absences files.new)) out out result }
+    ensures { (out : Out) → KeepsClosed (MakesLibrary name.now) Lib limits.now (map (λ object. object.now) names.now)
+        (files_at (F.file files.old) (F.faults files.old) (F.absences files.old))
+        (files_at (F.file files.new) (F.faults files.new) (F.absences files.new)) out out result }
 {
     match read_objects(alloc, files, names) {
         Ok(objects) => save_library(alloc, files, name, objects.as_slice()),
@@ -63,7 +67,12 @@ pub fn make_library<F: Store, S: Sink>(
     requires few { length names.now ≤ 201 }
     requires some { 2 ≤ length names.now }
     requires limits { IsLimits limits.now }
-    ensures { (left : Option (Sequence ℕ)) (input_faults : ℕ) (held : Option (Sequence ℕ)) (out_faults : ℕ) → LibsRight (call_as Lib limits.now steps (map (λ name. name.now) names.now) (surroundings_of (F.file files.old) (F.faults files.old) (F.absences files.old) left input_faults held out_faults (S.held say.old) (S.faults say.old)) (surroundings_of (F.file files.new) (F.faults files.new) (F.absences files.new) left input_faults held out_faults (S.held say.new) (S.faults say.new))) result }
+    ensures { (left : Option (Sequence ℕ)) (input_faults : ℕ) (held : Option (Sequence ℕ)) (out_faults : ℕ)
+        → LibsRight (call_as Lib limits.now steps (map (λ name. name.now) names.now)
+        (surroundings_of (F.file files.old) (F.faults files.old) (F.absences files.old) left input_faults held
+        out_faults (S.held say.old) (S.faults say.old))
+        (surroundings_of (F.file files.new) (F.faults files.new) (F.absences files.new) left input_faults held
+        out_faults (S.held say.new) (S.faults say.new))) result }
 {
     let objects = &names[1..];
     let status = lib_files(alloc, names[0], objects, limits, files);

@@ -28,7 +28,9 @@ const MOST: usize = 200;
 
 // Writes an image to its file.
 fn save_image<F: Store>(alloc: Global, image: &Image, files: &mut F) -> Status
-    ensures { GivesFile (codes "A.IMG") (image_bytes image.now) (files_at (F.file files.old) (F.faults files.old) (F.absences files.old)) (files_at (F.file files.new) (F.faults files.new) (F.absences files.new)) result }
+    ensures { GivesFile (codes "A.IMG") (image_bytes image.now)
+        (files_at (F.file files.old) (F.faults files.old) (F.absences files.old))
+        (files_at (F.file files.new) (F.faults files.new) (F.absences files.new)) result }
 {
     match write_image(alloc, image) {
         Ok(bytes) => save(files, "A.IMG", bytes.as_slice()),
@@ -41,7 +43,9 @@ fn link_all<F: Store>(alloc: Global, objects: &[List<u8>], limits: &Limits, file
     requires few { length objects.now ≤ 200 }
     requires opened { All IsObject objects.now }
     requires limits { IsLimits limits.now }
-    ensures { LinksObjects objects.now limits.now (files_at (F.file files.old) (F.faults files.old) (F.absences files.old)) (files_at (F.file files.new) (F.faults files.new) (F.absences files.new)) result }
+    ensures { LinksObjects objects.now limits.now
+        (files_at (F.file files.old) (F.faults files.old) (F.absences files.old))
+        (files_at (F.file files.new) (F.faults files.new) (F.absences files.new)) result }
 {
     match link_objects(alloc, objects, limits) {
         Ok(linked) => save_image(alloc, &linked.image, files),
@@ -54,7 +58,8 @@ fn link_listed<F: Store>(alloc: Global, list: &[List<u8>], limits: &Limits, file
     requires told { length list.now < 2 ^ 32 }
     requires opened { All IsObject list.now }
     requires limits { IsLimits limits.now }
-    ensures { LinksList list.now limits.now (files_at (F.file files.old) (F.faults files.old) (F.absences files.old)) (files_at (F.file files.new) (F.faults files.new) (F.absences files.new)) result }
+    ensures { LinksList list.now limits.now (files_at (F.file files.old) (F.faults files.old) (F.absences files.old))
+        (files_at (F.file files.new) (F.faults files.new) (F.absences files.new)) result }
 {
     if list.len() > MOST {
         return Status::TooMany {
@@ -68,7 +73,9 @@ fn link_listed<F: Store>(alloc: Global, list: &[List<u8>], limits: &Limits, file
 fn link_taken<F: Store>(alloc: Global, taken: LinkFiles, limits: &Limits, files: &mut F) -> Status
     requires taken { AreObjects taken }
     requires limits { IsLimits limits.now }
-    ensures { LinksTaken taken.objects taken.members limits.now (files_at (F.file files.old) (F.faults files.old) (F.absences files.old)) (files_at (F.file files.new) (F.faults files.new) (F.absences files.new)) result }
+    ensures { LinksTaken taken.objects taken.members limits.now
+        (files_at (F.file files.old) (F.faults files.old) (F.absences files.old))
+        (files_at (F.file files.new) (F.faults files.new) (F.absences files.new)) result }
 {
     match link_list(alloc, taken) {
         Ok(list) => link_listed(alloc, list.as_slice(), limits, files),
@@ -80,7 +87,9 @@ fn link_taken<F: Store>(alloc: Global, taken: LinkFiles, limits: &Limits, files:
 fn link_files<F: Store>(alloc: Global, names: &[&str], limits: &Limits, files: &mut F) -> Status
     requires few { length names.now ≤ 200 }
     requires limits { IsLimits limits.now }
-    ensures { (out : Out) → KeepsClosed LinksRight Link limits.now (map (λ name. name.now) names.now) (files_at (F.file files.old) (F.faults files.old) (F.absences files.old)) (files_at (F.file files.new) (F.faults files.new) (F.absences files.new)) out out result }
+    ensures { (out : Out) → KeepsClosed LinksRight Link limits.now (map (λ name. name.now) names.now)
+        (files_at (F.file files.old) (F.faults files.old) (F.absences files.old))
+        (files_at (F.file files.new) (F.faults files.new) (F.absences files.new)) out out result }
 {
     library_format();
     one_link_list();
@@ -103,7 +112,12 @@ pub fn link<F: Store, S: Sink>(
     requires few { length names.now ≤ 200 }
     requires some { 1 ≤ length names.now }
     requires limits { IsLimits limits.now }
-    ensures { (left : Option (Sequence ℕ)) (input_faults : ℕ) (held : Option (Sequence ℕ)) (out_faults : ℕ) → LinksRight (call_as Link limits.now steps (map (λ name. name.now) names.now) (surroundings_of (F.file files.old) (F.faults files.old) (F.absences files.old) left input_faults held out_faults (S.held say.old) (S.faults say.old)) (surroundings_of (F.file files.new) (F.faults files.new) (F.absences files.new) left input_faults held out_faults (S.held say.new) (S.faults say.new))) result }
+    ensures { (left : Option (Sequence ℕ)) (input_faults : ℕ) (held : Option (Sequence ℕ)) (out_faults : ℕ)
+        → LinksRight (call_as Link limits.now steps (map (λ name. name.now) names.now)
+        (surroundings_of (F.file files.old) (F.faults files.old) (F.absences files.old) left input_faults held
+        out_faults (S.held say.old) (S.faults say.old))
+        (surroundings_of (F.file files.new) (F.faults files.new) (F.absences files.new) left input_faults held
+        out_faults (S.held say.new) (S.faults say.new))) result }
 {
     let status = link_files(alloc, names, limits, files);
     close(say, names, &status);

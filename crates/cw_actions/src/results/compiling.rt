@@ -20,7 +20,9 @@ use std::alloc::Global;
 fn compile_file<F: Store>(alloc: Global, names: &[&str], limits: &Limits, files: &mut F) -> Status
     requires few { length names.now ≤ 1 }
     requires some { 1 ≤ length names.now }
-    ensures { (out : Out) → KeepsClosed CompilesRight Compile limits.now (map (λ name. name.now) names.now) (files_at (F.file files.old) (F.faults files.old) (F.absences files.old)) (files_at (F.file files.new) (F.faults files.new) (F.absences files.new)) out out result }
+    ensures { (out : Out) → KeepsClosed CompilesRight Compile limits.now (map (λ name. name.now) names.now)
+        (files_at (F.file files.old) (F.faults files.old) (F.absences files.old))
+        (files_at (F.file files.new) (F.faults files.new) (F.absences files.new)) out out result }
 {
     one_outcome();
     match read_units(alloc, files, names) {
@@ -44,7 +46,12 @@ pub fn compile<F: Store, S: Sink>(
     requires few { length names.now ≤ 1 }
     requires some { 1 ≤ length names.now }
     requires limits { IsLimits limits.now }
-    ensures { (left : Option (Sequence ℕ)) (input_faults : ℕ) (held : Option (Sequence ℕ)) (out_faults : ℕ) → CompilesRight (call_as Compile limits.now steps (map (λ name. name.now) names.now) (surroundings_of (F.file files.old) (F.faults files.old) (F.absences files.old) left input_faults held out_faults (S.held say.old) (S.faults say.old)) (surroundings_of (F.file files.new) (F.faults files.new) (F.absences files.new) left input_faults held out_faults (S.held say.new) (S.faults say.new))) result }
+    ensures { (left : Option (Sequence ℕ)) (input_faults : ℕ) (held : Option (Sequence ℕ)) (out_faults : ℕ)
+        → CompilesRight (call_as Compile limits.now steps (map (λ name. name.now) names.now)
+        (surroundings_of (F.file files.old) (F.faults files.old) (F.absences files.old) left input_faults held
+        out_faults (S.held say.old) (S.faults say.old))
+        (surroundings_of (F.file files.new) (F.faults files.new) (F.absences files.new) left input_faults held
+        out_faults (S.held say.new) (S.faults say.new))) result }
 {
     let status = compile_file(alloc, names, limits, files);
     close(say, names, &status);

@@ -23,7 +23,9 @@ use std::alloc::Global;
 // Writes the HEX text of an image beside the file of this name.
 fn hex_image<F: Store>(alloc: Global, files: &mut F, name: &str, image: &Image) -> Status
     requires { IsImage image.now }
-    ensures { GivesFile (name.now ++ codes ".HEX") (hex_text image.now.code image.now.words) (files_at (F.file files.old) (F.faults files.old) (F.absences files.old)) (files_at (F.file files.new) (F.faults files.new) (F.absences files.new)) result }
+    ensures { GivesFile (name.now ++ codes ".HEX") (hex_text image.now.code image.now.words)
+        (files_at (F.file files.old) (F.faults files.old) (F.absences files.old))
+        (files_at (F.file files.new) (F.faults files.new) (F.absences files.new)) result }
 {
     match write_hex(alloc, image) {
         Ok(text) => save_beside(alloc, files, name, ".HEX", text.as_slice()),
@@ -35,7 +37,9 @@ fn hex_image<F: Store>(alloc: Global, files: &mut F, name: &str, image: &Image) 
 fn hex_file<F: Store>(alloc: Global, names: &[&str], limits: &Limits, files: &mut F) -> Status
     requires few { length names.now ≤ 1 }
     requires some { 1 ≤ length names.now }
-    ensures { (out : Out) → KeepsClosed HexesRight Hex limits.now (map (λ name. name.now) names.now) (files_at (F.file files.old) (F.faults files.old) (F.absences files.old)) (files_at (F.file files.new) (F.faults files.new) (F.absences files.new)) out out result }
+    ensures { (out : Out) → KeepsClosed HexesRight Hex limits.now (map (λ name. name.now) names.now)
+        (files_at (F.file files.old) (F.faults files.old) (F.absences files.old))
+        (files_at (F.file files.new) (F.faults files.new) (F.absences files.new)) out out result }
 {
     let name = first_name(names);
     match read_image_file(alloc, files, name) {
@@ -56,7 +60,12 @@ pub fn hex<F: Store, S: Sink>(
     requires few { length names.now ≤ 1 }
     requires some { 1 ≤ length names.now }
     requires limits { IsLimits limits.now }
-    ensures { (left : Option (Sequence ℕ)) (input_faults : ℕ) (held : Option (Sequence ℕ)) (out_faults : ℕ) → HexesRight (call_as Hex limits.now steps (map (λ name. name.now) names.now) (surroundings_of (F.file files.old) (F.faults files.old) (F.absences files.old) left input_faults held out_faults (S.held say.old) (S.faults say.old)) (surroundings_of (F.file files.new) (F.faults files.new) (F.absences files.new) left input_faults held out_faults (S.held say.new) (S.faults say.new))) result }
+    ensures { (left : Option (Sequence ℕ)) (input_faults : ℕ) (held : Option (Sequence ℕ)) (out_faults : ℕ)
+        → HexesRight (call_as Hex limits.now steps (map (λ name. name.now) names.now)
+        (surroundings_of (F.file files.old) (F.faults files.old) (F.absences files.old) left input_faults held
+        out_faults (S.held say.old) (S.faults say.old))
+        (surroundings_of (F.file files.new) (F.faults files.new) (F.absences files.new) left input_faults held
+        out_faults (S.held say.new) (S.faults say.new))) result }
 {
     let status = hex_file(alloc, names, limits, files);
     close(say, names, &status);

@@ -41,7 +41,8 @@ fn write_map<O: Sink>(
     requires layouts { segments.now.layouts ≡ layouts_of segments.now.units }
     requires map { linked.now.map ≡ storage_map segments.now.units }
     requires limits { IsLimits limits.now }
-    ensures { GivesOut (map_text_of segments.now.units limits.now) (out_at (O.held out.old) (O.faults out.old)) (out_at (O.held out.new) (O.faults out.new)) result }
+    ensures { GivesOut (map_text_of segments.now.units limits.now) (out_at (O.held out.old) (O.faults out.old))
+        (out_at (O.held out.new) (O.faults out.new)) result }
 {
     let units = segments.units.as_slice();
     let layouts = segments.layouts.as_slice();
@@ -76,7 +77,10 @@ fn map_all<F: Store, O: Sink>(
 ) -> Status
     requires few { length names.now ≤ 200 }
     requires limits { IsLimits limits.now }
-    ensures { KeepsClosed MapsRight Map limits.now (map (λ name. name.now) names.now) (files_at (F.file files.old) (F.faults files.old) (F.absences files.old)) (files_at (F.file files.new) (F.faults files.new) (F.absences files.new)) (out_at (O.held out.old) (O.faults out.old)) (out_at (O.held out.new) (O.faults out.new)) result }
+    ensures { KeepsClosed MapsRight Map limits.now (map (λ name. name.now) names.now)
+        (files_at (F.file files.old) (F.faults files.old) (F.absences files.old))
+        (files_at (F.file files.new) (F.faults files.new) (F.absences files.new))
+        (out_at (O.held out.old) (O.faults out.old)) (out_at (O.held out.new) (O.faults out.new)) result }
 {
     one_outcome();
     compiled_units();
@@ -100,7 +104,12 @@ pub fn map_files<F: Store, O: Sink, S: Sink>(
     requires few { length names.now ≤ 200 }
     requires some { 1 ≤ length names.now }
     requires limits { IsLimits limits.now }
-    ensures { (left : Option (Sequence ℕ)) (input_faults : ℕ) → MapsRight (call_as Map limits.now steps (map (λ name. name.now) names.now) (surroundings_of (F.file files.old) (F.faults files.old) (F.absences files.old) left input_faults (O.held out.old) (O.faults out.old) (S.held say.old) (S.faults say.old)) (surroundings_of (F.file files.new) (F.faults files.new) (F.absences files.new) left input_faults (O.held out.new) (O.faults out.new) (S.held say.new) (S.faults say.new))) result }
+    ensures { (left : Option (Sequence ℕ)) (input_faults : ℕ)
+        → MapsRight (call_as Map limits.now steps (map (λ name. name.now) names.now)
+        (surroundings_of (F.file files.old) (F.faults files.old) (F.absences files.old) left input_faults
+        (O.held out.old) (O.faults out.old) (S.held say.old) (S.faults say.old))
+        (surroundings_of (F.file files.new) (F.faults files.new) (F.absences files.new) left input_faults
+        (O.held out.new) (O.faults out.new) (S.held say.new) (S.faults say.new))) result }
 {
     let status = map_all(alloc, names, limits, files, out);
     close(say, names, &status);

@@ -22,7 +22,9 @@ use std::alloc::Global;
 #[tactic(auto, using(cw_view::proofs::NoFault::not_both))]
 fn migrate_object<F: Store>(alloc: Global, files: &mut F, name: &str, object: &[u8]) -> Status
     requires { IsObject object.now }
-    ensures { MigratesObject name.now object.now (files_at (F.file files.old) (F.faults files.old) (F.absences files.old)) (files_at (F.file files.new) (F.faults files.new) (F.absences files.new)) result }
+    ensures { MigratesObject name.now object.now
+        (files_at (F.file files.old) (F.faults files.old) (F.absences files.old))
+        (files_at (F.file files.new) (F.faults files.new) (F.absences files.new)) result }
 {
     match migrated(alloc, object) {
         Ok(bytes) => save_beside(alloc, files, name, ".SG2", bytes.as_slice()),
@@ -35,7 +37,9 @@ fn migrate_object<F: Store>(alloc: Global, files: &mut F, name: &str, object: &[
 fn migrate_file<F: Store>(alloc: Global, names: &[&str], limits: &Limits, files: &mut F) -> Status
     requires few { length names.now ≤ 1 }
     requires some { 1 ≤ length names.now }
-    ensures { (out : Out) → KeepsClosed MigratesRight Migrate limits.now (map (λ name. name.now) names.now) (files_at (F.file files.old) (F.faults files.old) (F.absences files.old)) (files_at (F.file files.new) (F.faults files.new) (F.absences files.new)) out out result }
+    ensures { (out : Out) → KeepsClosed MigratesRight Migrate limits.now (map (λ name. name.now) names.now)
+        (files_at (F.file files.old) (F.faults files.old) (F.absences files.old))
+        (files_at (F.file files.new) (F.faults files.new) (F.absences files.new)) out out result }
 {
     match read_objects(alloc, files, names) {
         Ok(objects) => {
@@ -58,7 +62,12 @@ pub fn migrate<F: Store, S: Sink>(
     requires few { length names.now ≤ 1 }
     requires some { 1 ≤ length names.now }
     requires limits { IsLimits limits.now }
-    ensures { (left : Option (Sequence ℕ)) (input_faults : ℕ) (held : Option (Sequence ℕ)) (out_faults : ℕ) → MigratesRight (call_as Migrate limits.now steps (map (λ name. name.now) names.now) (surroundings_of (F.file files.old) (F.faults files.old) (F.absences files.old) left input_faults held out_faults (S.held say.old) (S.faults say.old)) (surroundings_of (F.file files.new) (F.faults files.new) (F.absences files.new) left input_faults held out_faults (S.held say.new) (S.faults say.new))) result }
+    ensures { (left : Option (Sequence ℕ)) (input_faults : ℕ) (held : Option (Sequence ℕ)) (out_faults : ℕ)
+        → MigratesRight (call_as Migrate limits.now steps (map (λ name. name.now) names.now)
+        (surroundings_of (F.file files.old) (F.faults files.old) (F.absences files.old) left input_faults held
+        out_faults (S.held say.old) (S.faults say.old))
+        (surroundings_of (F.file files.new) (F.faults files.new) (F.absences files.new) left input_faults held
+        out_faults (S.held say.new) (S.faults say.new))) result }
 {
     let status = migrate_file(alloc, names, limits, files);
     close(say, names, &status);

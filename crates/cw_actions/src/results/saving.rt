@@ -10,7 +10,8 @@ use std::alloc::Global;
 
 /// Writes a file, and answers what the call comes to.
 pub fn save<F: Store>(files: &mut F, name: &str, bytes: &[u8]) -> Status
-    ensures { GivesFile name.now bytes.now (files_at (F.file files.old) (F.faults files.old) (F.absences files.old)) (files_at (F.file files.new) (F.faults files.new) (F.absences files.new)) result }
+    ensures { GivesFile name.now bytes.now (files_at (F.file files.old) (F.faults files.old) (F.absences files.old))
+        (files_at (F.file files.new) (F.faults files.new) (F.absences files.new)) result }
 {
     match files.write_all(name, bytes) {
         Ok(()) => Status::Ended,
@@ -35,7 +36,9 @@ pub(crate) fn save_beside<F: Store>(
     ending: &str,
     bytes: &[u8],
 ) -> Status
-    ensures { GivesFile (name.now ++ ending.now) bytes.now (files_at (F.file files.old) (F.faults files.old) (F.absences files.old)) (files_at (F.file files.new) (F.faults files.new) (F.absences files.new)) result }
+    ensures { GivesFile (name.now ++ ending.now) bytes.now
+        (files_at (F.file files.old) (F.faults files.old) (F.absences files.old))
+        (files_at (F.file files.new) (F.faults files.new) (F.absences files.new)) result }
 {
     match joined(alloc, name, ending) {
         Ok(whole) => save(files, whole.as_str(), bytes),

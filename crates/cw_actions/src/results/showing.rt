@@ -50,7 +50,10 @@ fn show_file<F: Store, O: Sink>(
 ) -> Status
     requires few { length names.now ≤ 1 }
     requires some { 1 ≤ length names.now }
-    ensures { KeepsClosed ShowsRight Show limits.now (map (λ name. name.now) names.now) (files_at (F.file files.old) (F.faults files.old) (F.absences files.old)) (files_at (F.file files.new) (F.faults files.new) (F.absences files.new)) (out_at (O.held out.old) (O.faults out.old)) (out_at (O.held out.new) (O.faults out.new)) result }
+    ensures { KeepsClosed ShowsRight Show limits.now (map (λ name. name.now) names.now)
+        (files_at (F.file files.old) (F.faults files.old) (F.absences files.old))
+        (files_at (F.file files.new) (F.faults files.new) (F.absences files.new))
+        (out_at (O.held out.old) (O.faults out.old)) (out_at (O.held out.new) (O.faults out.new)) result }
 {
     one_outcome();
     match read_text(alloc, files, first_name(names)) {
@@ -72,7 +75,12 @@ pub fn show<F: Store, O: Sink, S: Sink>(
     requires few { length names.now ≤ 1 }
     requires some { 1 ≤ length names.now }
     requires limits { IsLimits limits.now }
-    ensures { (left : Option (Sequence ℕ)) (input_faults : ℕ) → ShowsRight (call_as Show limits.now steps (map (λ name. name.now) names.now) (surroundings_of (F.file files.old) (F.faults files.old) (F.absences files.old) left input_faults (O.held out.old) (O.faults out.old) (S.held say.old) (S.faults say.old)) (surroundings_of (F.file files.new) (F.faults files.new) (F.absences files.new) left input_faults (O.held out.new) (O.faults out.new) (S.held say.new) (S.faults say.new))) result }
+    ensures { (left : Option (Sequence ℕ)) (input_faults : ℕ)
+        → ShowsRight (call_as Show limits.now steps (map (λ name. name.now) names.now)
+        (surroundings_of (F.file files.old) (F.faults files.old) (F.absences files.old) left input_faults
+        (O.held out.old) (O.faults out.old) (S.held say.old) (S.faults say.old))
+        (surroundings_of (F.file files.new) (F.faults files.new) (F.absences files.new) left input_faults
+        (O.held out.new) (O.faults out.new) (S.held say.new) (S.faults say.new))) result }
 {
     let status = show_file(alloc, names, limits, files, out);
     close(say, names, &status);

@@ -22,7 +22,8 @@ fn watched_text(stop: &Stop, index: u16) -> &[u8]
 /// Writes the line of a stop at which no statement begins, and answers with its status.
 pub(crate) fn close_no_place<S: Sink>(say: &mut S, stop: &Stop) -> Status
     ensures same { result ≡ Status.NoPlace }
-    ensures line { Says (S.held say.old) (S.held say.new) (S.faults say.old) (S.faults say.new) (closing_line (named_by stop.now [] Status.NoPlace) [] Status.NoPlace) }
+    ensures line { Says (S.held say.old) (S.held say.new) (S.faults say.old) (S.faults say.new)
+        (closing_line (named_by stop.now [] Status.NoPlace) [] Status.NoPlace) }
 {
     let mut digits = itoa::Buffer::new();
     let line = digits.format(stop.line);
@@ -42,7 +43,8 @@ pub(crate) fn close_no_place<S: Sink>(say: &mut S, stop: &Stop) -> Status
 /// Writes the line of a stop of which this watched name means no word, and answers with its status.
 pub(crate) fn close_no_item<S: Sink>(say: &mut S, stop: &Stop, index: u16) -> Status
     ensures same { result ≡ Status.NoItem index }
-    ensures line { Says (S.held say.old) (S.held say.new) (S.faults say.old) (S.faults say.new) (closing_line (named_by stop.now [] (Status.NoItem index)) [] (Status.NoItem index)) }
+    ensures line { Says (S.held say.old) (S.held say.new) (S.faults say.old) (S.faults say.new)
+        (closing_line (named_by stop.now [] (Status.NoItem index)) [] (Status.NoItem index)) }
 {
     let _ = write_name(say, b"no item: ", watched_text(stop, index));
     Status::NoItem { index }

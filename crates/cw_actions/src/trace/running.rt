@@ -44,7 +44,11 @@ fn list_and_watch<I: Source, O: Sink, S: Sink>(
     say: &mut S,
 ) -> Status
     requires { All (λ word. word.address < 32768) watch.now.words }
-    ensures { (image : RunImage) → IsStart image.code image.words cpu.old → WatchesRun listing.now image watch.now steps (streams_at (I.left input.old) (I.faults input.old) (O.held out.old) (O.faults out.old) (S.held say.old) (S.faults say.old)) (streams_at (I.left input.new) (I.faults input.new) (O.held out.new) (O.faults out.new) (S.held say.new) (S.faults say.new)) result }
+    ensures { (image : RunImage) → IsStart image.code image.words cpu.old
+        → WatchesRun listing.now image watch.now steps
+        (streams_at (I.left input.old) (I.faults input.old) (O.held out.old) (O.faults out.old) (S.held say.old)
+        (S.faults say.old)) (streams_at (I.left input.new) (I.faults input.new) (O.held out.new)
+        (O.faults out.new) (S.held say.new) (S.faults say.new)) result }
 {
     match write_piece(say, listing) {
         Ok(()) => {
@@ -71,7 +75,10 @@ pub(crate) fn watch_segments<I: Source, O: Sink, S: Sink>(
     requires segments { AreSegmentsOf segments.now.units segments.now }
     requires linked { IsLinkedOf segments.now.units limits.now linked.now }
     requires limits { IsLimits limits.now }
-    ensures { WatchesRun (map_text segments.now.units limits.now) (image_of segments.now.units limits.now) watch.now steps (streams_at (I.left input.old) (I.faults input.old) (O.held out.old) (O.faults out.old) (S.held say.old) (S.faults say.old)) (streams_at (I.left input.new) (I.faults input.new) (O.held out.new) (O.faults out.new) (S.held say.new) (S.faults say.new)) result }
+    ensures { WatchesRun (map_text segments.now.units limits.now) (image_of segments.now.units limits.now) watch.now
+        steps (streams_at (I.left input.old) (I.faults input.old) (O.held out.old) (O.faults out.old)
+        (S.held say.old) (S.faults say.old)) (streams_at (I.left input.new) (I.faults input.new) (O.held out.new)
+        (O.faults out.new) (S.held say.new) (S.faults say.new)) result }
 {
     linked_units();
     let units = segments.units.as_slice();

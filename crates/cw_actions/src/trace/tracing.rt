@@ -34,7 +34,12 @@ fn trace_texts<F: Store, I: Source, O: Sink, S: Sink>(
     requires few { length names.now ≤ 200 }
     requires some { 1 ≤ length names.now }
     requires limits { IsLimits limits.now }
-    ensures { IsTraced stop.now (call_as Trace limits.now steps (map (λ name. name.now) names.now) (surroundings_of (F.file files.old) (F.faults files.old) (F.absences files.old) (I.left input.old) (I.faults input.old) (O.held out.old) (O.faults out.old) (S.held say.old) (S.faults say.old)) (surroundings_of (F.file files.new) (F.faults files.new) (F.absences files.new) (I.left input.new) (I.faults input.new) (O.held out.new) (O.faults out.new) (S.held say.new) (S.faults say.new))) result }
+    ensures { IsTraced stop.now (call_as Trace limits.now steps (map (λ name. name.now) names.now)
+        (surroundings_of (F.file files.old) (F.faults files.old) (F.absences files.old) (I.left input.old)
+        (I.faults input.old) (O.held out.old) (O.faults out.old) (S.held say.old) (S.faults say.old))
+        (surroundings_of (F.file files.new) (F.faults files.new) (F.absences files.new) (I.left input.new)
+        (I.faults input.new) (O.held out.new) (O.faults out.new) (S.held say.new) (S.faults say.new)))
+        result }
 {
     traces();
     compiled_units();
@@ -66,7 +71,8 @@ fn trace_texts<F: Store, I: Source, O: Sink, S: Sink>(
     }
 }
 
-/// Reads and compiles the files in order, whose names stand behind the stop word, links their objects, finds what the stop means in them, writes the storage map
+/// Reads and compiles the files in order, whose names stand behind the stop word, links their objects, finds what the
+/// stop means in them, writes the storage map
 /// to `say`, and runs the image; before each statement that begins at the stop it writes a report to `say`. It closes with the line of the status.
 pub fn trace<F: Store, I: Source, O: Sink, S: Sink>(
     alloc: Global,
@@ -83,7 +89,12 @@ pub fn trace<F: Store, I: Source, O: Sink, S: Sink>(
     requires some { 2 ≤ length names.now }
     requires limits { IsLimits limits.now }
     requires stop { stop_in (slice_index_or (map (λ name. name.now) names.now) 0 []) ≡ Some stop.now }
-    ensures { IsCorrectCall (call_as Trace limits.now steps (map (λ name. name.now) names.now) (surroundings_of (F.file files.old) (F.faults files.old) (F.absences files.old) (I.left input.old) (I.faults input.old) (O.held out.old) (O.faults out.old) (S.held say.old) (S.faults say.old)) (surroundings_of (F.file files.new) (F.faults files.new) (F.absences files.new) (I.left input.new) (I.faults input.new) (O.held out.new) (O.faults out.new) (S.held say.new) (S.faults say.new))) result }
+    ensures { IsCorrectCall (call_as Trace limits.now steps (map (λ name. name.now) names.now)
+        (surroundings_of (F.file files.old) (F.faults files.old) (F.absences files.old) (I.left input.old)
+        (I.faults input.old) (O.held out.old) (O.faults out.old) (S.held say.old) (S.faults say.old))
+        (surroundings_of (F.file files.new) (F.faults files.new) (F.absences files.new) (I.left input.new)
+        (I.faults input.new) (O.held out.new) (O.faults out.new) (S.held say.new) (S.faults say.new)))
+        result }
 {
     let texts = &names[1..];
     trace_texts(alloc, texts, limits, steps, stop, files, input, out, say)

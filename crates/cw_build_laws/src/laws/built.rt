@@ -22,7 +22,8 @@ use cw_carry::laws::runs::{order_beginnings, order_spans, order_words, tested};
 /// Units that are built and agree are well formed together at every storage map and limits, and have orders that do what they mean. Each of them
 /// has a layout, and what it defines in common with others is there.
 pub fn built_units()
-    ensures well_formed { (us : List SourceUnit) (m : Map) (limits : Limits) → us ≢ [] → All (λ u. IsTrue (is_built u)) us → Agree (faces_of us) → WellFormed (program_at us m limits) }
+    ensures well_formed { (us : List SourceUnit) (m : Map) (limits : Limits) → us ≢ []
+        → All (λ u. IsTrue (is_built u)) us → Agree (faces_of us) → WellFormed (program_at us m limits) }
     ensures built { (us : List SourceUnit) → All (λ u. IsTrue (is_built u)) us → AllBuilt us }
     ensures layout { (u : SourceUnit) → IsTrue (is_built u) → HasLayout u }
     ensures defined { (u : SourceUnit) (k d : ℕ) (def : Def) → IsTrue (is_built u) → slice_get u.defined k ≡ Some (d, def) → Defines u d def }
@@ -40,7 +41,10 @@ pub fn coded()
 /// The program of the orders of such units, where these have code, is one that code can carry out, at a storage map, limits and room
 /// that suit the units and are as a run has them.
 pub fn codable()
-    ensures { (us : List SourceUnit) (m : Map) (limits : Limits) (room : ℕ) → All (λ u. IsTrue (is_built u)) us → All (λ u. IsTrue (have_code (unit_orders u))) us → Agree (faces_of us) → Suits us m limits room → limits.frames ≤ limits.area → limits.depth < 65536 → room ≤ 32000 → Codable (orders_program us m limits room) }
+    ensures { (us : List SourceUnit) (m : Map) (limits : Limits) (room : ℕ) → All (λ u. IsTrue (is_built u)) us
+        → All (λ u. IsTrue (have_code (unit_orders u))) us → Agree (faces_of us) → Suits us m limits room
+        → limits.frames ≤ limits.area → limits.depth < 65536 → room ≤ 32000
+        → Codable (orders_program us m limits room) }
 {
     order_words();
     order_spans();

@@ -25,7 +25,8 @@ use cw_tmpl::laws::filling;
 /// with them, at every input of bytes.
 pub fn loaded()
     ensures valid_storage { (us : List SourceUnit) (limits : Limits) → All IsCompilable us → Links us limits → ValidStorageMap us limits (storage_map us) }
-    ensures started { (us : List SourceUnit) (limits : Limits) (input : List ℕ) (s : State) → us ≢ [] → length us ≤ 200 → All IsCompilable us → IsLimits limits → Links us limits → All (λ b. b < 256) input →
+    ensures started { (us : List SourceUnit) (limits : Limits) (input : List ℕ) (s : State) → us ≢ []
+        → length us ≤ 200 → All IsCompilable us → IsLimits limits → Links us limits → All (λ b. b < 256) input →
         IsStart (image_of us limits).code (image_of us limits).words s → IsLoaded us (storage_map us) limits input s }
 {
     built_units();
@@ -42,7 +43,8 @@ pub fn loaded()
 pub fn separate_objects()
     ensures opened { (us : List SourceUnit) → All IsCompilable us → All IsObject (map object_of us) }
     ensures linked { (us : List SourceUnit) (limits : Limits) → All IsCompilable us → AreLinked (map contents_in (map object_of us)) limits ↔ Links us limits }
-    ensures image { (us : List SourceUnit) (limits : Limits) → All IsCompilable us → linked_image (map contents_in (map object_of us)) limits ≡ image_of us limits }
+    ensures image { (us : List SourceUnit) (limits : Limits) → All IsCompilable us
+        → linked_image (map contents_in (map object_of us)) limits ≡ image_of us limits }
     ensures migrated { (object migrated : List ℕ) → IsMigrated object migrated → contents_in migrated ≡ contents_in object }
 {
     object_of_unit();

@@ -26,7 +26,8 @@ use cw_unit::laws::configurations;
 /// is shown stand the statements that have begun so far: the same ones begin, in the same order, and each at the same words of memory.
 /// At every input of bytes.
 pub fn orders_follow_meaning()
-    ensures { (us : List SourceUnit) (m : Map) (limits : Limits) (room : ℕ) (input : List ℕ) → WellFormed (program_at us m limits) → AllBuilt us → Suits us m limits room → All (λ b. b < 256) input →
+    ensures { (us : List SourceUnit) (m : Map) (limits : Limits) (room : ℕ) (input : List ℕ)
+        → WellFormed (program_at us m limits) → AllBuilt us → Suits us m limits room → All (λ b. b < 256) input →
         Tracks (λ o. is_running o.0) (watched (meaning (program_at us m limits)) begins) (initial_configuration (program_at us m limits) input, [])
         (watched (order_machine (orders_program us m limits room)) (starts (orders_program us m limits room))) (first_order us m limits room input, []) }
 {

@@ -36,4 +36,5 @@ calls_in u (Some q) = calls_of_procedure (slice_get u.procs q)
 pub record UnitFits (u : SourceUnit) : Type 0 where
   pub calls : (who : Option ℕ) → All (Fits (scope_in u who)) (calls_in u who)
   pub numbered : (q : ℕ) (x : Proc) → slice_get u.procs q ≡ Some x → AreNumbered 0 x.params
-  pub defined : (d q : ℕ) (s : Spec) (x : Proc) → body_at u d ≡ Some (bodies.Proc s) → definition_in u (name_of u d) u.defined ≡ Some (def.Proc q) → slice_get u.procs q ≡ Some x → spec_of x ≡ s
+  pub defined : (d q : ℕ) (s : Spec) (x : Proc) → body_at u d ≡ Some (bodies.Proc s)
+      → definition_in u (name_of u d) u.defined ≡ Some (def.Proc q) → slice_get u.procs q ≡ Some x → spec_of x ≡ s

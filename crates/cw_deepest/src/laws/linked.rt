@@ -15,6 +15,8 @@ ghost use Rattle.cw_deepest.specs.Linked.UnitFits.{UnitFits};
 /// Where units are built and agree, and the calls of each fit by what its descriptors say: if their depth report tells a longest chain, no run at a
 /// limit of that many calls or more is stopped by the depth of its calls.
 pub fn no_depth_stop()
-    ensures { (units : List SourceUnit) (limits : Limits) (chain : List (ℕ × ℕ)) (input : List ℕ) (m segment line : ℕ) → units ≢ [] → All (λ u. IsTrue (is_built u)) units → Agree (faces_of units) → All UnitFits units → IsReport units (Bound chain) → length chain ≤ limits.depth →
+    ensures { (units : List SourceUnit) (limits : Limits) (chain : List (ℕ × ℕ)) (input : List ℕ)
+        (m segment line : ℕ) → units ≢ [] → All (λ u. IsTrue (is_built u)) units → Agree (faces_of units)
+        → All UnitFits units → IsReport units (Bound chain) → length chain ≤ limits.depth →
         (observed (program_of units limits) input m).end ≢ Stopped DepthReached segment line }
 {}

@@ -13,6 +13,8 @@ ghost use Rattle.cw_deepest.specs.Programs.Fitting.{CallsFit};
 /// Where the depth report of well-formed units whose calls fit tells a longest chain, no run at a limit of that many calls or more is stopped by
 /// the depth of its calls.
 pub fn no_depth_stop()
-    ensures { (units : List SourceUnit) (limits : Limits) (chain : List (ℕ × ℕ)) (input : List ℕ) (m segment line : ℕ) → WellFormed (program_of units limits) → CallsFit units → IsReport units (Bound chain) → length chain ≤ limits.depth →
+    ensures { (units : List SourceUnit) (limits : Limits) (chain : List (ℕ × ℕ)) (input : List ℕ)
+        (m segment line : ℕ) → WellFormed (program_of units limits) → CallsFit units → IsReport units (Bound chain)
+        → length chain ≤ limits.depth →
         (observed (program_of units limits) input m).end ≢ Stopped DepthReached segment line }
 {}

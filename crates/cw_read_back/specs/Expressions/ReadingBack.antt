@@ -13,4 +13,5 @@ spell t = record { kind = t.kind; text = t.text }
 
 -- Each tree of the sort in normal form is the same, but for positions, as one that the rule derives of any tokens spelled as its canonical ones.
 abbrev pub ReadsBack : Bool → (s : Sort) → Grammar s → (Value s → Tokens) → (Value s → Value s) → Type 0
-ReadsBack p s g tokens bare = (n : ℕ) (x : Value s) (marks : List ℕ) → IsNormal n p s x marks → (ts : List Item) → map spell ts ≡ tokens x → (d : Value s) × Derives n s g ts d × (bare d ≡ bare x)
+ReadsBack p s g tokens bare = (n : ℕ) (x : Value s) (marks : List ℕ) → IsNormal n p s x marks → (ts : List Item)
+    → map spell ts ≡ tokens x → (d : Value s) × Derives n s g ts d × (bare d ≡ bare x)

@@ -16,7 +16,8 @@ use Rattle.cw_tree.specs.declared.leaf.RawFactorSign.{RawFactorSign}
 use Rattle.cw_tree.specs.declared.leaf.RawCompareSign.{RawCompareSign}
 use Rattle.cw_tree.specs.declared.expression.RawBits.{RawBits}
 use Rattle.cw_tree.specs.declared.expression.RawExpr.TheOpen as layer
-use Rattle.cw_tree.specs.declared.expression.RawExpr.TheOpen.{RawExpr-F, RawPrimary-F, RawRef-F, RawCand-F, RawCmp-F, RawCond-F, RawDiffer-F, RawMask-F, RawPrim-F, RawSum-F, RawTerm-F, RawUnion-F}
+use Rattle.cw_tree.specs.declared.expression.RawExpr.TheOpen.{RawExpr-F, RawPrimary-F, RawRef-F, RawCand-F, RawCmp-F, RawCond-F, RawDiffer-F}
+use Rattle.cw_tree.specs.declared.expression.RawExpr.TheOpen.{RawMask-F, RawPrim-F, RawSum-F, RawTerm-F, RawUnion-F}
 use Rattle.cw_tree.specs.declared.expression.RawExpr.{RawExpr, roll-RawExpr, fold-RawExpr}
 use Rattle.cw_tree.specs.declared.expression.RawPrimary.{RawPrimary, roll-RawPrimary, fold-RawPrimary}
 use Rattle.cw_tree.specs.declared.expression.RawRef.{RawRef, roll-RawRef, fold-RawRef}
@@ -126,48 +127,72 @@ unplaced_term_step x = roll-RawTerm (record { operands = x.operands; operators =
 -- the tree with all positions as one
 abbrev pub unplaced_expr : RawExpr → RawExpr
 unplaced_expr = fold-RawExpr RawExpr RawPrimary RawRef RawCand RawCmp RawCond RawDiffer RawMask RawPrim RawSum RawTerm RawUnion
-    unplaced_expr_step unplaced_primary_step unplaced_ref_step unplaced_cand_step unplaced_cmp_step unplaced_cond_step unplaced_differ_step unplaced_mask_step unplaced_prim_step unplaced_sum_step unplaced_term_step unplaced_union_step
+    unplaced_expr_step unplaced_primary_step unplaced_ref_step unplaced_cand_step unplaced_cmp_step
+    unplaced_cond_step unplaced_differ_step unplaced_mask_step unplaced_prim_step unplaced_sum_step
+    unplaced_term_step unplaced_union_step
 
 abbrev pub unplaced_primary : RawPrimary → RawPrimary
 unplaced_primary = fold-RawPrimary RawExpr RawPrimary RawRef RawCand RawCmp RawCond RawDiffer RawMask RawPrim RawSum RawTerm RawUnion
-    unplaced_expr_step unplaced_primary_step unplaced_ref_step unplaced_cand_step unplaced_cmp_step unplaced_cond_step unplaced_differ_step unplaced_mask_step unplaced_prim_step unplaced_sum_step unplaced_term_step unplaced_union_step
+    unplaced_expr_step unplaced_primary_step unplaced_ref_step unplaced_cand_step unplaced_cmp_step
+    unplaced_cond_step unplaced_differ_step unplaced_mask_step unplaced_prim_step unplaced_sum_step
+    unplaced_term_step unplaced_union_step
 
 abbrev pub unplaced_ref : RawRef → RawRef
 unplaced_ref = fold-RawRef RawExpr RawPrimary RawRef RawCand RawCmp RawCond RawDiffer RawMask RawPrim RawSum RawTerm RawUnion
-    unplaced_expr_step unplaced_primary_step unplaced_ref_step unplaced_cand_step unplaced_cmp_step unplaced_cond_step unplaced_differ_step unplaced_mask_step unplaced_prim_step unplaced_sum_step unplaced_term_step unplaced_union_step
+    unplaced_expr_step unplaced_primary_step unplaced_ref_step unplaced_cand_step unplaced_cmp_step
+    unplaced_cond_step unplaced_differ_step unplaced_mask_step unplaced_prim_step unplaced_sum_step
+    unplaced_term_step unplaced_union_step
 
 abbrev pub unplaced_cand : RawCand → RawCand
 unplaced_cand = fold-RawCand RawExpr RawPrimary RawRef RawCand RawCmp RawCond RawDiffer RawMask RawPrim RawSum RawTerm RawUnion
-    unplaced_expr_step unplaced_primary_step unplaced_ref_step unplaced_cand_step unplaced_cmp_step unplaced_cond_step unplaced_differ_step unplaced_mask_step unplaced_prim_step unplaced_sum_step unplaced_term_step unplaced_union_step
+    unplaced_expr_step unplaced_primary_step unplaced_ref_step unplaced_cand_step unplaced_cmp_step
+    unplaced_cond_step unplaced_differ_step unplaced_mask_step unplaced_prim_step unplaced_sum_step
+    unplaced_term_step unplaced_union_step
 
 abbrev pub unplaced_cmp : RawCmp → RawCmp
 unplaced_cmp = fold-RawCmp RawExpr RawPrimary RawRef RawCand RawCmp RawCond RawDiffer RawMask RawPrim RawSum RawTerm RawUnion
-    unplaced_expr_step unplaced_primary_step unplaced_ref_step unplaced_cand_step unplaced_cmp_step unplaced_cond_step unplaced_differ_step unplaced_mask_step unplaced_prim_step unplaced_sum_step unplaced_term_step unplaced_union_step
+    unplaced_expr_step unplaced_primary_step unplaced_ref_step unplaced_cand_step unplaced_cmp_step
+    unplaced_cond_step unplaced_differ_step unplaced_mask_step unplaced_prim_step unplaced_sum_step
+    unplaced_term_step unplaced_union_step
 
 abbrev pub unplaced_cond : RawCond → RawCond
 unplaced_cond = fold-RawCond RawExpr RawPrimary RawRef RawCand RawCmp RawCond RawDiffer RawMask RawPrim RawSum RawTerm RawUnion
-    unplaced_expr_step unplaced_primary_step unplaced_ref_step unplaced_cand_step unplaced_cmp_step unplaced_cond_step unplaced_differ_step unplaced_mask_step unplaced_prim_step unplaced_sum_step unplaced_term_step unplaced_union_step
+    unplaced_expr_step unplaced_primary_step unplaced_ref_step unplaced_cand_step unplaced_cmp_step
+    unplaced_cond_step unplaced_differ_step unplaced_mask_step unplaced_prim_step unplaced_sum_step
+    unplaced_term_step unplaced_union_step
 
 abbrev pub unplaced_differ : RawDiffer → RawDiffer
 unplaced_differ = fold-RawDiffer RawExpr RawPrimary RawRef RawCand RawCmp RawCond RawDiffer RawMask RawPrim RawSum RawTerm RawUnion
-    unplaced_expr_step unplaced_primary_step unplaced_ref_step unplaced_cand_step unplaced_cmp_step unplaced_cond_step unplaced_differ_step unplaced_mask_step unplaced_prim_step unplaced_sum_step unplaced_term_step unplaced_union_step
+    unplaced_expr_step unplaced_primary_step unplaced_ref_step unplaced_cand_step unplaced_cmp_step
+    unplaced_cond_step unplaced_differ_step unplaced_mask_step unplaced_prim_step unplaced_sum_step
+    unplaced_term_step unplaced_union_step
 
 abbrev pub unplaced_mask : RawMask → RawMask
 unplaced_mask = fold-RawMask RawExpr RawPrimary RawRef RawCand RawCmp RawCond RawDiffer RawMask RawPrim RawSum RawTerm RawUnion
-    unplaced_expr_step unplaced_primary_step unplaced_ref_step unplaced_cand_step unplaced_cmp_step unplaced_cond_step unplaced_differ_step unplaced_mask_step unplaced_prim_step unplaced_sum_step unplaced_term_step unplaced_union_step
+    unplaced_expr_step unplaced_primary_step unplaced_ref_step unplaced_cand_step unplaced_cmp_step
+    unplaced_cond_step unplaced_differ_step unplaced_mask_step unplaced_prim_step unplaced_sum_step
+    unplaced_term_step unplaced_union_step
 
 abbrev pub unplaced_prim : RawPrim → RawPrim
 unplaced_prim = fold-RawPrim RawExpr RawPrimary RawRef RawCand RawCmp RawCond RawDiffer RawMask RawPrim RawSum RawTerm RawUnion
-    unplaced_expr_step unplaced_primary_step unplaced_ref_step unplaced_cand_step unplaced_cmp_step unplaced_cond_step unplaced_differ_step unplaced_mask_step unplaced_prim_step unplaced_sum_step unplaced_term_step unplaced_union_step
+    unplaced_expr_step unplaced_primary_step unplaced_ref_step unplaced_cand_step unplaced_cmp_step
+    unplaced_cond_step unplaced_differ_step unplaced_mask_step unplaced_prim_step unplaced_sum_step
+    unplaced_term_step unplaced_union_step
 
 abbrev pub unplaced_sum : RawSum → RawSum
 unplaced_sum = fold-RawSum RawExpr RawPrimary RawRef RawCand RawCmp RawCond RawDiffer RawMask RawPrim RawSum RawTerm RawUnion
-    unplaced_expr_step unplaced_primary_step unplaced_ref_step unplaced_cand_step unplaced_cmp_step unplaced_cond_step unplaced_differ_step unplaced_mask_step unplaced_prim_step unplaced_sum_step unplaced_term_step unplaced_union_step
+    unplaced_expr_step unplaced_primary_step unplaced_ref_step unplaced_cand_step unplaced_cmp_step
+    unplaced_cond_step unplaced_differ_step unplaced_mask_step unplaced_prim_step unplaced_sum_step
+    unplaced_term_step unplaced_union_step
 
 abbrev pub unplaced_term : RawTerm → RawTerm
 unplaced_term = fold-RawTerm RawExpr RawPrimary RawRef RawCand RawCmp RawCond RawDiffer RawMask RawPrim RawSum RawTerm RawUnion
-    unplaced_expr_step unplaced_primary_step unplaced_ref_step unplaced_cand_step unplaced_cmp_step unplaced_cond_step unplaced_differ_step unplaced_mask_step unplaced_prim_step unplaced_sum_step unplaced_term_step unplaced_union_step
+    unplaced_expr_step unplaced_primary_step unplaced_ref_step unplaced_cand_step unplaced_cmp_step
+    unplaced_cond_step unplaced_differ_step unplaced_mask_step unplaced_prim_step unplaced_sum_step
+    unplaced_term_step unplaced_union_step
 
 abbrev pub unplaced_union : RawUnion → RawUnion
 unplaced_union = fold-RawUnion RawExpr RawPrimary RawRef RawCand RawCmp RawCond RawDiffer RawMask RawPrim RawSum RawTerm RawUnion
-    unplaced_expr_step unplaced_primary_step unplaced_ref_step unplaced_cand_step unplaced_cmp_step unplaced_cond_step unplaced_differ_step unplaced_mask_step unplaced_prim_step unplaced_sum_step unplaced_term_step unplaced_union_step
+    unplaced_expr_step unplaced_primary_step unplaced_ref_step unplaced_cand_step unplaced_cmp_step
+    unplaced_cond_step unplaced_differ_step unplaced_mask_step unplaced_prim_step unplaced_sum_step
+    unplaced_term_step unplaced_union_step

@@ -12,7 +12,8 @@ use Rattle.cw_show.specs.Lexing.{spelling}
 use Rattle.cw_show.specs.StatementTokens.{canonical_tokens, canonical_text}
 use Rattle.cw_read_back.specs.Trees.UnplacedStatements.{unplaced}
 
--- The canonical text has the canonical tokens of the tree, which expand to themselves, unless they are too many, and derive, with n levels at most, a tree that is the same but for positions.
+-- The canonical text has the canonical tokens of the tree, which expand to themselves, unless they are too many, and
+-- derive, with n levels at most, a tree that is the same but for positions.
 pub record IsReadBack (n : ℕ) (x : Raw) : Type 0 where
   pub tokens : List Lexeme
   pub tree : Raw

@@ -26,7 +26,8 @@ use Rattle.cw_tree.specs.declared.segment.RawAitem.{RawAitem}
 use Rattle.cw_tree.specs.declared.segment.RawAitem.TheVariants as aitem_tree
 use Rattle.cw_tree.specs.declared.segment.RawComm.{RawComm}
 use Rattle.cw_tree.specs.declared.segment.RawComm.TheVariants as comm_tree
-use Rattle.cw_read_back.specs.Expressions.Unplaced.{nowhere, unplaced_name, unplaced_number, unplaced_octal, unplaced_literal, unplaced_int, unplaced_sign, unplaced_sint, unplaced_size, unplaced_type}
+use Rattle.cw_read_back.specs.Expressions.Unplaced.{nowhere, unplaced_name, unplaced_number, unplaced_octal, unplaced_literal, unplaced_int}
+use Rattle.cw_read_back.specs.Expressions.Unplaced.{unplaced_sign, unplaced_sint, unplaced_size, unplaced_type}
 
 -- ---- data
 
@@ -84,7 +85,12 @@ unplaced_ps (ps_tree.Plain i) = ps_tree.Plain (unplaced_ips i)
 unplaced_ps (ps_tree.Proc answer at is) = ps_tree.Proc (option_map unplaced_type answer) nowhere (map unplaced_ips is)
 
 abbrev pub unplaced_spec : RawSpec → RawSpec
-unplaced_spec s = record { answer = option_map unplaced_type s.answer; tag = unplaced_ptag s.tag; name = unplaced_name s.name; params = map unplaced_ps s.params }
+unplaced_spec s = record {
+  answer = option_map unplaced_type s.answer;
+  tag = unplaced_ptag s.tag;
+  name = unplaced_name s.name;
+  params = map unplaced_ps s.params;
+}
 
 -- ---- communicators
 

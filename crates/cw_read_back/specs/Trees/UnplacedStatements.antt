@@ -55,7 +55,13 @@ abbrev pub unplaced_block_step : RawBlock-F RawDecl RawForm RawSimple RawBlock R
 unplaced_block_step b = roll-RawBlock (record { at = nowhere; decls = b.decls; stmts = b.stmts })
 
 abbrev pub unplaced_proc_step : RawProc-F RawDecl RawForm RawSimple RawBlock RawProc RawStmt → RawProc
-unplaced_proc_step p = roll-RawProc (record { answer = option_map unplaced_type p.answer; tag = unplaced_ptag p.tag; name = unplaced_name p.name; params = map unplaced_param p.params; body = p.body })
+unplaced_proc_step p = roll-RawProc (record {
+  answer = option_map unplaced_type p.answer;
+  tag = unplaced_ptag p.tag;
+  name = unplaced_name p.name;
+  params = map unplaced_param p.params;
+  body = p.body;
+})
 
 abbrev pub unplaced_stmt_step : RawStmt-F RawDecl RawForm RawSimple RawBlock RawProc RawStmt → RawStmt
 unplaced_stmt_step s = roll-RawStmt (record { labels = map unplaced_name s.labels; form = s.form })

@@ -20,7 +20,8 @@ use cw_spelled::laws::spelled;
 
 /// Names, strings and literals of a tree whose tokens are spelled right can be written again.
 pub fn leaves_spelled()
-    ensures { (n : ℕ) (ts : List Lexeme) (raw : Raw) → All IsProperToken ts → Derives n a_raw text (numbered 1 ts) raw → HasSpelledLeaves (canonical_tokens raw) }
+    ensures { (n : ℕ) (ts : List Lexeme) (raw : Raw) → All IsProperToken ts
+        → Derives n a_raw text (numbered 1 ts) raw → HasSpelledLeaves (canonical_tokens raw) }
 {}
 
 /// The canonical text of a text's tree has that tree again, but for its positions, and its tokens expand to themselves.

@@ -3,7 +3,8 @@ ghost use Rattle.std.specs.Prelude.{◌≡◌, ℕ, Bool, false, List, [], map};
 ghost use Rattle.cw_lex.specs.Lexical.{Lexeme};
 ghost use Rattle.cw_tree.specs.declared.segment.Raw.{Raw};
 ghost use Rattle.cw_grammar.specs.Tokens.{numbered};
-ghost use Rattle.cw_grammar.specs.Grammar.{a_bounds, a_table, a_data, a_base, a_ptag, an_ips, a_ps, a_spec, a_citem, an_aitem, a_comm, a_felem, a_param, a_decl, a_stmt, a_raw, again, labelled};
+ghost use Rattle.cw_grammar.specs.Grammar.{a_bounds, a_table, a_data, a_base, a_ptag, an_ips, a_ps, a_spec, a_citem, an_aitem};
+ghost use Rattle.cw_grammar.specs.Grammar.{a_comm, a_felem, a_param, a_decl, a_stmt, a_raw, again, labelled};
 ghost use Rattle.cw_grammar.specs.Statements.{in_square, bounds, table, item_data, base, ips, ps, spec, citem, aitem, comm, felem, param, decl, text};
 ghost use Rattle.cw_grammar.specs.Derives.{Derives};
 ghost use Rattle.cw_derived.specs.NormalForm.{IsNormal};
@@ -14,7 +15,8 @@ ghost use Rattle.cw_show.specs.Lexing.{spelling};
 ghost use Rattle.cw_read_back.specs.Expressions.Leaves.{HasSpelledLeaves};
 ghost use Rattle.cw_read_back.specs.Expressions.ReadingBack.{ReadsBack};
 ghost use Rattle.cw_read_back.specs.Trees.ReadBack.{IsReadBack};
-ghost use Rattle.cw_read_back.specs.Trees.UnplacedItems.{unplaced_bounds, unplaced_table, unplaced_data, unplaced_base, unplaced_ips, unplaced_ps, unplaced_spec, unplaced_citem, unplaced_aitem, unplaced_comm};
+ghost use Rattle.cw_read_back.specs.Trees.UnplacedItems.{unplaced_bounds, unplaced_table, unplaced_data, unplaced_base, unplaced_ips};
+ghost use Rattle.cw_read_back.specs.Trees.UnplacedItems.{unplaced_ps, unplaced_spec, unplaced_citem, unplaced_aitem, unplaced_comm};
 ghost use Rattle.cw_read_back.specs.Trees.UnplacedStatements.{unplaced_felem, unplaced_param, unplaced_decl, unplaced_stmt, unplaced};
 
 /// The canonical tokens of data, specifications and communicators derive them again, but for positions.
@@ -41,10 +43,13 @@ pub fn statements()
 
 /// The tokens of a text that are spelled as the canonical ones of a tree derive it again, but for positions.
 pub fn text()
-    ensures { (n : ℕ) (x : Raw) (marks : List ℕ) → IsNormal n false a_raw x marks → (ts : List Lexeme) → map spelling ts ≡ canonical_tokens x → (d : Raw) × Derives n a_raw text (numbered 1 ts) d × (unplaced d ≡ unplaced x) }
+    ensures { (n : ℕ) (x : Raw) (marks : List ℕ) → IsNormal n false a_raw x marks → (ts : List Lexeme)
+        → map spelling ts ≡ canonical_tokens x → (d : Raw) × Derives n a_raw text (numbered 1 ts) d
+        × (unplaced d ≡ unplaced x) }
 {}
 
-/// The canonical text of a tree in normal form has tokens that expand to themselves and derive the tree again, but for positions, where its names, strings and literals are spelled as they must be.
+/// The canonical text of a tree in normal form has tokens that expand to themselves and derive the tree again, but
+/// for positions, where its names, strings and literals are spelled as they must be.
 pub fn read_back()
     ensures { (n : ℕ) (x : Raw) (marks : List ℕ) → IsNormal n false a_raw x marks → HasSpelledLeaves (canonical_tokens x) → IsReadBack n x }
 {}

@@ -2,7 +2,8 @@
 use Rattle.std.specs.Prelude.{ℕ, suc, max, List, [], ◌∷◌}
 use Rattle.cw_tree.specs.declared.expression.RawExpr.{RawExpr, RawExpr-F, fold-RawExpr}
 use Rattle.cw_tree.specs.declared.expression.RawExpr.TheOpen as layer
-use Rattle.cw_tree.specs.declared.expression.RawExpr.TheOpen.{RawPrimary-F, RawRef-F, RawCand-F, RawCmp-F, RawCond-F, RawDiffer-F, RawMask-F, RawPrim-F, RawSum-F, RawTerm-F, RawUnion-F}
+use Rattle.cw_tree.specs.declared.expression.RawExpr.TheOpen.{RawPrimary-F, RawRef-F, RawCand-F, RawCmp-F, RawCond-F, RawDiffer-F}
+use Rattle.cw_tree.specs.declared.expression.RawExpr.TheOpen.{RawMask-F, RawPrim-F, RawSum-F, RawTerm-F, RawUnion-F}
 use Rattle.cw_tree.specs.declared.expression.RawPrimary.{RawPrimary, fold-RawPrimary}
 use Rattle.cw_tree.specs.declared.expression.RawRef.{RawRef, fold-RawRef}
 use Rattle.cw_tree.specs.declared.expression.RawCand.{RawCand, fold-RawCand}
@@ -68,37 +69,49 @@ abbrev pub union_step : RawUnion-F ℕ ℕ ℕ ℕ ℕ ℕ ℕ ℕ ℕ ℕ ℕ �
 union_step e = largest e.operands
 
 abbrev pub then_levels : RawExpr → ℕ
-then_levels = fold-RawExpr ℕ ℕ ℕ ℕ ℕ ℕ ℕ ℕ ℕ ℕ ℕ ℕ expression_step primary_step reference_step conjunction_step comparison_step condition_step differ_step mask_step prim_step sum_step term_step union_step
+then_levels = fold-RawExpr ℕ ℕ ℕ ℕ ℕ ℕ ℕ ℕ ℕ ℕ ℕ ℕ expression_step primary_step reference_step conjunction_step
+    comparison_step condition_step differ_step mask_step prim_step sum_step term_step union_step
 
 abbrev pub primary_levels : RawPrimary → ℕ
-primary_levels = fold-RawPrimary ℕ ℕ ℕ ℕ ℕ ℕ ℕ ℕ ℕ ℕ ℕ ℕ expression_step primary_step reference_step conjunction_step comparison_step condition_step differ_step mask_step prim_step sum_step term_step union_step
+primary_levels = fold-RawPrimary ℕ ℕ ℕ ℕ ℕ ℕ ℕ ℕ ℕ ℕ ℕ ℕ expression_step primary_step reference_step conjunction_step
+    comparison_step condition_step differ_step mask_step prim_step sum_step term_step union_step
 
 abbrev pub reference_levels : RawRef → ℕ
-reference_levels = fold-RawRef ℕ ℕ ℕ ℕ ℕ ℕ ℕ ℕ ℕ ℕ ℕ ℕ expression_step primary_step reference_step conjunction_step comparison_step condition_step differ_step mask_step prim_step sum_step term_step union_step
+reference_levels = fold-RawRef ℕ ℕ ℕ ℕ ℕ ℕ ℕ ℕ ℕ ℕ ℕ ℕ expression_step primary_step reference_step conjunction_step
+    comparison_step condition_step differ_step mask_step prim_step sum_step term_step union_step
 
 abbrev pub conjunction_levels : RawCand → ℕ
-conjunction_levels = fold-RawCand ℕ ℕ ℕ ℕ ℕ ℕ ℕ ℕ ℕ ℕ ℕ ℕ expression_step primary_step reference_step conjunction_step comparison_step condition_step differ_step mask_step prim_step sum_step term_step union_step
+conjunction_levels = fold-RawCand ℕ ℕ ℕ ℕ ℕ ℕ ℕ ℕ ℕ ℕ ℕ ℕ expression_step primary_step reference_step
+    conjunction_step comparison_step condition_step differ_step mask_step prim_step sum_step term_step union_step
 
 abbrev pub comparison_levels : RawCmp → ℕ
-comparison_levels = fold-RawCmp ℕ ℕ ℕ ℕ ℕ ℕ ℕ ℕ ℕ ℕ ℕ ℕ expression_step primary_step reference_step conjunction_step comparison_step condition_step differ_step mask_step prim_step sum_step term_step union_step
+comparison_levels = fold-RawCmp ℕ ℕ ℕ ℕ ℕ ℕ ℕ ℕ ℕ ℕ ℕ ℕ expression_step primary_step reference_step conjunction_step
+    comparison_step condition_step differ_step mask_step prim_step sum_step term_step union_step
 
 abbrev pub condition_levels : RawCond → ℕ
-condition_levels = fold-RawCond ℕ ℕ ℕ ℕ ℕ ℕ ℕ ℕ ℕ ℕ ℕ ℕ expression_step primary_step reference_step conjunction_step comparison_step condition_step differ_step mask_step prim_step sum_step term_step union_step
+condition_levels = fold-RawCond ℕ ℕ ℕ ℕ ℕ ℕ ℕ ℕ ℕ ℕ ℕ ℕ expression_step primary_step reference_step conjunction_step
+    comparison_step condition_step differ_step mask_step prim_step sum_step term_step union_step
 
 abbrev pub differ_levels : RawDiffer → ℕ
-differ_levels = fold-RawDiffer ℕ ℕ ℕ ℕ ℕ ℕ ℕ ℕ ℕ ℕ ℕ ℕ expression_step primary_step reference_step conjunction_step comparison_step condition_step differ_step mask_step prim_step sum_step term_step union_step
+differ_levels = fold-RawDiffer ℕ ℕ ℕ ℕ ℕ ℕ ℕ ℕ ℕ ℕ ℕ ℕ expression_step primary_step reference_step conjunction_step
+    comparison_step condition_step differ_step mask_step prim_step sum_step term_step union_step
 
 abbrev pub mask_levels : RawMask → ℕ
-mask_levels = fold-RawMask ℕ ℕ ℕ ℕ ℕ ℕ ℕ ℕ ℕ ℕ ℕ ℕ expression_step primary_step reference_step conjunction_step comparison_step condition_step differ_step mask_step prim_step sum_step term_step union_step
+mask_levels = fold-RawMask ℕ ℕ ℕ ℕ ℕ ℕ ℕ ℕ ℕ ℕ ℕ ℕ expression_step primary_step reference_step conjunction_step
+    comparison_step condition_step differ_step mask_step prim_step sum_step term_step union_step
 
 abbrev pub prim_levels : RawPrim → ℕ
-prim_levels = fold-RawPrim ℕ ℕ ℕ ℕ ℕ ℕ ℕ ℕ ℕ ℕ ℕ ℕ expression_step primary_step reference_step conjunction_step comparison_step condition_step differ_step mask_step prim_step sum_step term_step union_step
+prim_levels = fold-RawPrim ℕ ℕ ℕ ℕ ℕ ℕ ℕ ℕ ℕ ℕ ℕ ℕ expression_step primary_step reference_step conjunction_step
+    comparison_step condition_step differ_step mask_step prim_step sum_step term_step union_step
 
 abbrev pub sum_levels : RawSum → ℕ
-sum_levels = fold-RawSum ℕ ℕ ℕ ℕ ℕ ℕ ℕ ℕ ℕ ℕ ℕ ℕ expression_step primary_step reference_step conjunction_step comparison_step condition_step differ_step mask_step prim_step sum_step term_step union_step
+sum_levels = fold-RawSum ℕ ℕ ℕ ℕ ℕ ℕ ℕ ℕ ℕ ℕ ℕ ℕ expression_step primary_step reference_step conjunction_step
+    comparison_step condition_step differ_step mask_step prim_step sum_step term_step union_step
 
 abbrev pub term_levels : RawTerm → ℕ
-term_levels = fold-RawTerm ℕ ℕ ℕ ℕ ℕ ℕ ℕ ℕ ℕ ℕ ℕ ℕ expression_step primary_step reference_step conjunction_step comparison_step condition_step differ_step mask_step prim_step sum_step term_step union_step
+term_levels = fold-RawTerm ℕ ℕ ℕ ℕ ℕ ℕ ℕ ℕ ℕ ℕ ℕ ℕ expression_step primary_step reference_step conjunction_step
+    comparison_step condition_step differ_step mask_step prim_step sum_step term_step union_step
 
 abbrev pub union_levels : RawUnion → ℕ
-union_levels = fold-RawUnion ℕ ℕ ℕ ℕ ℕ ℕ ℕ ℕ ℕ ℕ ℕ ℕ expression_step primary_step reference_step conjunction_step comparison_step condition_step differ_step mask_step prim_step sum_step term_step union_step
+union_levels = fold-RawUnion ℕ ℕ ℕ ℕ ℕ ℕ ℕ ℕ ℕ ℕ ℕ ℕ expression_step primary_step reference_step conjunction_step
+    comparison_step condition_step differ_step mask_step prim_step sum_step term_step union_step

@@ -2,7 +2,8 @@
 use Rattle.std.specs.Prelude.{suc, nat_le, nat_lt, List, [], ◌∷◌, length, Bool, true, ◌&&◌}
 use Rattle.cw_tree.specs.declared.expression.RawExpr.{RawExpr, RawExpr-F, fold-RawExpr}
 use Rattle.cw_tree.specs.declared.expression.RawExpr.TheOpen as layer
-use Rattle.cw_tree.specs.declared.expression.RawExpr.TheOpen.{RawPrimary-F, RawRef-F, RawCand-F, RawCmp-F, RawCond-F, RawDiffer-F, RawMask-F, RawPrim-F, RawSum-F, RawTerm-F, RawUnion-F}
+use Rattle.cw_tree.specs.declared.expression.RawExpr.TheOpen.{RawPrimary-F, RawRef-F, RawCand-F, RawCmp-F, RawCond-F, RawDiffer-F}
+use Rattle.cw_tree.specs.declared.expression.RawExpr.TheOpen.{RawMask-F, RawPrim-F, RawSum-F, RawTerm-F, RawUnion-F}
 use Rattle.cw_tree.specs.declared.expression.RawPrimary.{RawPrimary, fold-RawPrimary}
 use Rattle.cw_tree.specs.declared.expression.RawRef.{RawRef, fold-RawRef}
 use Rattle.cw_tree.specs.declared.expression.RawCand.{RawCand, fold-RawCand}
@@ -68,37 +69,61 @@ abbrev pub union_step : RawUnion-F Bool Bool Bool Bool Bool Bool Bool Bool Bool 
 union_step e = all e.operands
 
 abbrev pub is_regular : RawExpr → Bool
-is_regular = fold-RawExpr Bool Bool Bool Bool Bool Bool Bool Bool Bool Bool Bool Bool expression_step primary_step reference_step conjunction_step comparison_step condition_step differ_step mask_step prim_step sum_step term_step union_step
+is_regular = fold-RawExpr Bool Bool Bool Bool Bool Bool Bool Bool Bool Bool Bool Bool expression_step primary_step
+    reference_step conjunction_step comparison_step condition_step differ_step mask_step prim_step sum_step term_step
+    union_step
 
 abbrev pub is_regular_primary : RawPrimary → Bool
-is_regular_primary = fold-RawPrimary Bool Bool Bool Bool Bool Bool Bool Bool Bool Bool Bool Bool expression_step primary_step reference_step conjunction_step comparison_step condition_step differ_step mask_step prim_step sum_step term_step union_step
+is_regular_primary = fold-RawPrimary Bool Bool Bool Bool Bool Bool Bool Bool Bool Bool Bool Bool expression_step
+    primary_step reference_step conjunction_step comparison_step condition_step differ_step mask_step prim_step
+    sum_step term_step union_step
 
 abbrev pub is_regular_reference : RawRef → Bool
-is_regular_reference = fold-RawRef Bool Bool Bool Bool Bool Bool Bool Bool Bool Bool Bool Bool expression_step primary_step reference_step conjunction_step comparison_step condition_step differ_step mask_step prim_step sum_step term_step union_step
+is_regular_reference = fold-RawRef Bool Bool Bool Bool Bool Bool Bool Bool Bool Bool Bool Bool expression_step
+    primary_step reference_step conjunction_step comparison_step condition_step differ_step mask_step prim_step
+    sum_step term_step union_step
 
 abbrev pub is_regular_conjunction : RawCand → Bool
-is_regular_conjunction = fold-RawCand Bool Bool Bool Bool Bool Bool Bool Bool Bool Bool Bool Bool expression_step primary_step reference_step conjunction_step comparison_step condition_step differ_step mask_step prim_step sum_step term_step union_step
+is_regular_conjunction = fold-RawCand Bool Bool Bool Bool Bool Bool Bool Bool Bool Bool Bool Bool expression_step
+    primary_step reference_step conjunction_step comparison_step condition_step differ_step mask_step prim_step
+    sum_step term_step union_step
 
 abbrev pub is_regular_comparison : RawCmp → Bool
-is_regular_comparison = fold-RawCmp Bool Bool Bool Bool Bool Bool Bool Bool Bool Bool Bool Bool expression_step primary_step reference_step conjunction_step comparison_step condition_step differ_step mask_step prim_step sum_step term_step union_step
+is_regular_comparison = fold-RawCmp Bool Bool Bool Bool Bool Bool Bool Bool Bool Bool Bool Bool expression_step
+    primary_step reference_step conjunction_step comparison_step condition_step differ_step mask_step prim_step
+    sum_step term_step union_step
 
 abbrev pub is_regular_condition : RawCond → Bool
-is_regular_condition = fold-RawCond Bool Bool Bool Bool Bool Bool Bool Bool Bool Bool Bool Bool expression_step primary_step reference_step conjunction_step comparison_step condition_step differ_step mask_step prim_step sum_step term_step union_step
+is_regular_condition = fold-RawCond Bool Bool Bool Bool Bool Bool Bool Bool Bool Bool Bool Bool expression_step
+    primary_step reference_step conjunction_step comparison_step condition_step differ_step mask_step prim_step
+    sum_step term_step union_step
 
 abbrev pub is_regular_differ : RawDiffer → Bool
-is_regular_differ = fold-RawDiffer Bool Bool Bool Bool Bool Bool Bool Bool Bool Bool Bool Bool expression_step primary_step reference_step conjunction_step comparison_step condition_step differ_step mask_step prim_step sum_step term_step union_step
+is_regular_differ = fold-RawDiffer Bool Bool Bool Bool Bool Bool Bool Bool Bool Bool Bool Bool expression_step
+    primary_step reference_step conjunction_step comparison_step condition_step differ_step mask_step prim_step
+    sum_step term_step union_step
 
 abbrev pub is_regular_mask : RawMask → Bool
-is_regular_mask = fold-RawMask Bool Bool Bool Bool Bool Bool Bool Bool Bool Bool Bool Bool expression_step primary_step reference_step conjunction_step comparison_step condition_step differ_step mask_step prim_step sum_step term_step union_step
+is_regular_mask = fold-RawMask Bool Bool Bool Bool Bool Bool Bool Bool Bool Bool Bool Bool expression_step
+    primary_step reference_step conjunction_step comparison_step condition_step differ_step mask_step prim_step
+    sum_step term_step union_step
 
 abbrev pub is_regular_prim : RawPrim → Bool
-is_regular_prim = fold-RawPrim Bool Bool Bool Bool Bool Bool Bool Bool Bool Bool Bool Bool expression_step primary_step reference_step conjunction_step comparison_step condition_step differ_step mask_step prim_step sum_step term_step union_step
+is_regular_prim = fold-RawPrim Bool Bool Bool Bool Bool Bool Bool Bool Bool Bool Bool Bool expression_step
+    primary_step reference_step conjunction_step comparison_step condition_step differ_step mask_step prim_step
+    sum_step term_step union_step
 
 abbrev pub is_regular_sum : RawSum → Bool
-is_regular_sum = fold-RawSum Bool Bool Bool Bool Bool Bool Bool Bool Bool Bool Bool Bool expression_step primary_step reference_step conjunction_step comparison_step condition_step differ_step mask_step prim_step sum_step term_step union_step
+is_regular_sum = fold-RawSum Bool Bool Bool Bool Bool Bool Bool Bool Bool Bool Bool Bool expression_step primary_step
+    reference_step conjunction_step comparison_step condition_step differ_step mask_step prim_step sum_step term_step
+    union_step
 
 abbrev pub is_regular_term : RawTerm → Bool
-is_regular_term = fold-RawTerm Bool Bool Bool Bool Bool Bool Bool Bool Bool Bool Bool Bool expression_step primary_step reference_step conjunction_step comparison_step condition_step differ_step mask_step prim_step sum_step term_step union_step
+is_regular_term = fold-RawTerm Bool Bool Bool Bool Bool Bool Bool Bool Bool Bool Bool Bool expression_step
+    primary_step reference_step conjunction_step comparison_step condition_step differ_step mask_step prim_step
+    sum_step term_step union_step
 
 abbrev pub is_regular_union : RawUnion → Bool
-is_regular_union = fold-RawUnion Bool Bool Bool Bool Bool Bool Bool Bool Bool Bool Bool Bool expression_step primary_step reference_step conjunction_step comparison_step condition_step differ_step mask_step prim_step sum_step term_step union_step
+is_regular_union = fold-RawUnion Bool Bool Bool Bool Bool Bool Bool Bool Bool Bool Bool Bool expression_step
+    primary_step reference_step conjunction_step comparison_step condition_step differ_step mask_step prim_step
+    sum_step term_step union_step

@@ -36,7 +36,8 @@ item_made named = item_of named.declarations (numbers_of named) (listed_of named
 pub record IsStored (named : Named) (i : ℕ) (t : Thing) : Type 0 where
   pub item : slice_get (unit_of named).items i ≡ Some (item_made named t)
   pub number : item_at (numbers_of named) t.at.token ≡ Some (numbered.Item i)
-  pub has : (who : Option ℕ) (words : ℕ) → MayName (numbers_of named) who (frame_of t.sort t.owner) → words ≤ t.words → IsTrue (has_words (unit_of named) who i words)
+  pub has : (who : Option ℕ) (words : ℕ) → MayName (numbers_of named) who (frame_of t.sort t.owner) → words ≤ t.words
+      → IsTrue (has_words (unit_of named) who i words)
   pub has_word : 1 ≤ t.words
   pub has_four : t.sort ≡ sort.Loop → t.words ≡ 4
 

@@ -108,9 +108,15 @@ module _ (named : Named) (numbers : Numbers) (u : SourceUnit) where
 
   -- What has words in the text is an item that its body may name, and no other declaration is an item.
   pub record ItemsStand : Type 0 where
-    pub declared : (owner : Option ℕ) (d : Declaration) → IsTrue (is_item d.kind) → In (here owner (declares d)) (text_mentions numbers named.raw.now) → IsItemFrom owner (item_at numbers d.name.at.token)
-    pub unnamed : (who : Option ℕ) (token words : ℕ) → In (here who (stores token words)) (text_mentions numbers named.raw.now) → IsItem named numbers u who words (item_at numbers token)
-    pub others : (owner : Option ℕ) (d : Declaration) → IsTrue (is_other d.kind) → In (here owner (declares d)) (text_mentions numbers named.raw.now) → item_at (item_rows 0 (text_things named named.raw.now)) d.name.at.token ≡ None
+    pub declared : (owner : Option ℕ) (d : Declaration) → IsTrue (is_item d.kind)
+        → In (here owner (declares d)) (text_mentions numbers named.raw.now)
+        → IsItemFrom owner (item_at numbers d.name.at.token)
+    pub unnamed : (who : Option ℕ) (token words : ℕ)
+        → In (here who (stores token words)) (text_mentions numbers named.raw.now)
+        → IsItem named numbers u who words (item_at numbers token)
+    pub others : (owner : Option ℕ) (d : Declaration) → IsTrue (is_other d.kind)
+        → In (here owner (declares d)) (text_mentions numbers named.raw.now)
+        → item_at (item_rows 0 (text_things named named.raw.now)) d.name.at.token ≡ None
 
 -- each procedure that is specified has at most 32 parameters
 abbrev pub FewParameters : Named → Type 0
@@ -118,7 +124,9 @@ FewParameters named = (r : Row Signature) → In r named.signatures → length r
 
 -- what answers by itself, with no arguments, is a procedure that may be called
 abbrev pub AnswersAreCalled : Named → Numbers → Type 0
-AnswersAreCalled named numbers = (owner : Option ℕ) (d : Declaration) → In (here owner (declares d)) (text_mentions numbers named.raw.now) → IsTrue (answers_alone (item_at named.signatures d.name.at.token)) → IsTrue (is_procedure d.kind)
+AnswersAreCalled named numbers = (owner : Option ℕ) (d : Declaration)
+    → In (here owner (declares d)) (text_mentions numbers named.raw.now)
+    → IsTrue (answers_alone (item_at named.signatures d.name.at.token)) → IsTrue (is_procedure d.kind)
 
 -- ANSWER stands in the body of a procedure of the unit whose answer has its scale
 abbrev pub AnswersFit : Named → Numbers → SourceUnit → Type 0

@@ -25,7 +25,8 @@ abbrev pub bodies_if : {X : Type 0} → Option (X × Bodies) → Bodies
 bodies_if None = []
 bodies_if (Some p) = p.1
 
-abbrev pub declaration_step : RawDecl-F (RawDecl × Bodies) (RawForm × Bodies) (RawSimple × Bodies) (RawBlock × Bodies) (RawProc × Bodies) (RawStmt × Bodies) → Bodies
+abbrev pub declaration_step : RawDecl-F (RawDecl × Bodies) (RawForm × Bodies) (RawSimple × Bodies)
+    (RawBlock × Bodies) (RawProc × Bodies) (RawStmt × Bodies) → Bodies
 declaration_step (layer.Data d) = []
 declaration_step (layer.Overlay at b d) = []
 declaration_step (layer.Switch at n labels) = []
@@ -36,7 +37,8 @@ form_step (layer.Simple s) = s.1
 form_step (layer.If at test labels first second) = first.1 ++ bodies_if second
 form_step (layer.For at variable elems body) = body.1
 
-abbrev pub simple_step : RawSimple-F (RawDecl × Bodies) (RawForm × Bodies) (RawSimple × Bodies) (RawBlock × Bodies) (RawProc × Bodies) (RawStmt × Bodies) → Bodies
+abbrev pub simple_step : RawSimple-F (RawDecl × Bodies) (RawForm × Bodies) (RawSimple × Bodies) (RawBlock × Bodies)
+    (RawProc × Bodies) (RawStmt × Bodies) → Bodies
 simple_step layer.Empty = []
 simple_step (layer.Assign r e) = []
 simple_step (layer.AssignBits bits r e) = []
@@ -49,10 +51,12 @@ simple_step (layer.Block b) = b.1
 abbrev pub block_step : RawBlock-F (RawDecl × Bodies) (RawForm × Bodies) (RawSimple × Bodies) (RawBlock × Bodies) (RawProc × Bodies) (RawStmt × Bodies) → Bodies
 block_step b = joined b.decls ++ joined b.stmts
 
-abbrev pub procedure_step : RawProc-F (RawDecl × Bodies) (RawForm × Bodies) (RawSimple × Bodies) (RawBlock × Bodies) (RawProc × Bodies) (RawStmt × Bodies) → Bodies
+abbrev pub procedure_step : RawProc-F (RawDecl × Bodies) (RawForm × Bodies) (RawSimple × Bodies) (RawBlock × Bodies)
+    (RawProc × Bodies) (RawStmt × Bodies) → Bodies
 procedure_step p = record { token = p.name.at.token; statement = p.body.0 } ∷ p.body.1
 
-abbrev pub statement_step : RawStmt-F (RawDecl × Bodies) (RawForm × Bodies) (RawSimple × Bodies) (RawBlock × Bodies) (RawProc × Bodies) (RawStmt × Bodies) → Bodies
+abbrev pub statement_step : RawStmt-F (RawDecl × Bodies) (RawForm × Bodies) (RawSimple × Bodies) (RawBlock × Bodies)
+    (RawProc × Bodies) (RawStmt × Bodies) → Bodies
 statement_step s = s.form.1
 
 abbrev pub declaration_bodies : RawDecl → Bodies

@@ -66,7 +66,8 @@ module _ (named : Named) (numbers : Numbers) (u : SourceUnit) (who : Option ℕ)
 
   -- the table of an element, by the token of the table's declaration
   abbrev pub IsTable : (token : ℕ) → Type 0
-  IsTable token = (s : RawSize) × ((kind_here named token ≡ Some (kind.Table s)) ⊎ (kind_here named token ≡ Some (kind.TableParam s))) × IsItem 1 (item_at numbers token)
+  IsTable token = (s : RawSize) × ((kind_here named token ≡ Some (kind.Table s))
+      ⊎ (kind_here named token ≡ Some (kind.TableParam s))) × IsItem 1 (item_at numbers token)
 
   abbrev pub IsLabel : Option Numbered → Type 0
   IsLabel (Some (numbered.Label l)) = IsTrue (reaches (alone u) (at_work who) (Some (0, l)))

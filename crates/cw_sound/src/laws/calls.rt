@@ -22,7 +22,9 @@ use crate::laws::units::{bodies_counted, items_declared};
 
 /// The unit of what is named fits, where it has no fault, its items stand, and its bodies are those of the procedures from 0 on.
 pub fn named_units_fit()
-    ensures { (named : Named) → Resolves named.raw.now (Ok named) → first_type_fault named ≡ None → Placed named.raw.now → ItemsStand named (numbers_of named) (unit_of named) → Counted (numbers_of named) 0 (block_bodies named.raw.now.block) → UnitFits (unit_of named) }
+    ensures { (named : Named) → Resolves named.raw.now (Ok named) → first_type_fault named ≡ None
+        → Placed named.raw.now → ItemsStand named (numbers_of named) (unit_of named)
+        → Counted (numbers_of named) 0 (block_bodies named.raw.now.block) → UnitFits (unit_of named) }
 {
     all_stand();
     bodies();

@@ -26,17 +26,53 @@ ghost use Rattle.cw_sound.specs.Expressions.Regular.{all, is_regular, is_regular
 
 /// The trees have orders that do what they mean: each with no more conditional expressions in one another's THEN parts than there are levels.
 pub fn built()
-    ensures expression { (named : Named) (numbers : Numbers) (u : SourceUnit) (who : Option ℕ) (r : Reading) (e : RawExpr) (f levels : ℕ) → IsTrue (is_regular e) → IsTrue (is_evaluated r) → FactsStand named numbers u (expression_uses e r) who → (expression named e).faults f None ≡ None → f ≤ 15 → then_levels e ≤ levels → levels ≤ most_levels → IsTrue (is_expression u (has_words u who) (expression_of named numbers e) f levels) }
-    ensures condition { (named : Named) (numbers : Numbers) (u : SourceUnit) (who : Option ℕ) (r : Reading) (c : RawCond) (f : ℕ) → IsTrue (is_regular_condition c) → FactsStand named numbers u (condition_uses c r) who → (condition named c).faults f None ≡ None → condition_levels c ≤ most_levels → IsTrue (is_condition u (has_words u who) (condition_of named numbers c)) }
-    ensures reference { (named : Named) (numbers : Numbers) (u : SourceUnit) (who : Option ℕ) (r : Reading) (x : RawRef) (f : ℕ) → IsTrue (is_regular_reference x) → IsTrue (is_placed r) → FactsStand named numbers u (reference_uses x r) who → (reference named x).faults f None ≡ None → reference_levels x ≤ most_levels → IsTrue (built_reference u (has_words u who) (reference_of named numbers x)).good }
-    ensures scale { (named : Named) (numbers : Numbers) (u : SourceUnit) (who : Option ℕ) (x : RawRef) → IsTrue (is_regular_reference x) → (built_reference u (has_words u who) (reference_of named numbers x)).scale ≡ (reference named x).shape.natural }
-    ensures call { (named : Named) (numbers : Numbers) (u : SourceUnit) (who : Option ℕ) (n : RawName) (es : List RawExpr) → IsTrue (all (map is_regular es)) → FactsStand named numbers u (uses_of n form.Call ++ argument_uses es) who → call_faults named (signature_of named n) n (map (expression named) es) None ≡ None → largest (map then_levels es) ≤ most_levels → IsTrue (all_built (map (is_argument u (has_words u who)) (call_of named numbers n es).1)) }
+    ensures expression { (named : Named) (numbers : Numbers) (u : SourceUnit) (who : Option ℕ) (r : Reading)
+        (e : RawExpr) (f levels : ℕ) → IsTrue (is_regular e) → IsTrue (is_evaluated r)
+        → FactsStand named numbers u (expression_uses e r) who → (expression named e).faults f None ≡ None → f ≤ 15
+        → then_levels e ≤ levels → levels ≤ most_levels
+        → IsTrue (is_expression u (has_words u who) (expression_of named numbers e) f levels) }
+    ensures condition { (named : Named) (numbers : Numbers) (u : SourceUnit) (who : Option ℕ) (r : Reading)
+        (c : RawCond) (f : ℕ) → IsTrue (is_regular_condition c) → FactsStand named numbers u (condition_uses c r) who
+        → (condition named c).faults f None ≡ None → condition_levels c ≤ most_levels
+        → IsTrue (is_condition u (has_words u who) (condition_of named numbers c)) }
+    ensures reference { (named : Named) (numbers : Numbers) (u : SourceUnit) (who : Option ℕ) (r : Reading)
+        (x : RawRef) (f : ℕ) → IsTrue (is_regular_reference x) → IsTrue (is_placed r)
+        → FactsStand named numbers u (reference_uses x r) who → (reference named x).faults f None ≡ None
+        → reference_levels x ≤ most_levels → IsTrue
+        (built_reference u (has_words u who) (reference_of named numbers x)).good }
+    ensures scale { (named : Named) (numbers : Numbers) (u : SourceUnit) (who : Option ℕ) (x : RawRef)
+        → IsTrue (is_regular_reference x)
+        → (built_reference u (has_words u who) (reference_of named numbers x)).scale
+        ≡ (reference named x).shape.natural }
+    ensures call { (named : Named) (numbers : Numbers) (u : SourceUnit) (who : Option ℕ) (n : RawName)
+        (es : List RawExpr) → IsTrue (all (map is_regular es))
+        → FactsStand named numbers u (uses_of n form.Call ++ argument_uses es) who
+        → call_faults named (signature_of named n) n (map (expression named) es) None ≡ None
+        → largest (map then_levels es) ≤ most_levels
+        → IsTrue (all_built (map (is_argument u (has_words u who)) (call_of named numbers n es).1)) }
 {}
 
 /// The trees are well formed.
 pub fn well_formed()
-    ensures expression { (named : Named) (numbers : Numbers) (u : SourceUnit) (who : Option ℕ) (r : Reading) (e : RawExpr) (f : ℕ) → IsTrue (is_regular e) → IsTrue (is_evaluated r) → FactsStand named numbers u (expression_uses e r) who → (expression named e).faults f None ≡ None → f ≤ 15 → then_levels e ≤ most_levels → IsTrue (formed.is_expression (alone u) 0 (at_work who) (expression_of named numbers e)) }
-    ensures condition { (named : Named) (numbers : Numbers) (u : SourceUnit) (who : Option ℕ) (r : Reading) (c : RawCond) (f : ℕ) → IsTrue (is_regular_condition c) → FactsStand named numbers u (condition_uses c r) who → (condition named c).faults f None ≡ None → condition_levels c ≤ most_levels → IsTrue (formed.is_condition (alone u) 0 (at_work who) (condition_of named numbers c)) }
-    ensures reference { (named : Named) (numbers : Numbers) (u : SourceUnit) (who : Option ℕ) (r : Reading) (x : RawRef) (f : ℕ) → IsTrue (is_regular_reference x) → IsTrue (is_placed r) → FactsStand named numbers u (reference_uses x r) who → (reference named x).faults f None ≡ None → reference_levels x ≤ most_levels → IsTrue (formed.is_reference (alone u) 0 (at_work who) (reference_of named numbers x)) }
-    ensures call { (named : Named) (numbers : Numbers) (u : SourceUnit) (who : Option ℕ) (n : RawName) (es : List RawExpr) → IsTrue (all (map is_regular es)) → FactsStand named numbers u (uses_of n form.Call ++ argument_uses es) who → call_faults named (signature_of named n) n (map (expression named) es) None ≡ None → largest (map then_levels es) ≤ most_levels → IsTrue (formed.is_call (alone u) 0 (at_work who) false (call_of named numbers n es).0 (formed.kinds_of (map (formed.kind_of (alone u) 0 (at_work who)) (call_of named numbers n es).1))) }
+    ensures expression { (named : Named) (numbers : Numbers) (u : SourceUnit) (who : Option ℕ) (r : Reading)
+        (e : RawExpr) (f : ℕ) → IsTrue (is_regular e) → IsTrue (is_evaluated r)
+        → FactsStand named numbers u (expression_uses e r) who → (expression named e).faults f None ≡ None → f ≤ 15
+        → then_levels e ≤ most_levels
+        → IsTrue (formed.is_expression (alone u) 0 (at_work who) (expression_of named numbers e)) }
+    ensures condition { (named : Named) (numbers : Numbers) (u : SourceUnit) (who : Option ℕ) (r : Reading)
+        (c : RawCond) (f : ℕ) → IsTrue (is_regular_condition c) → FactsStand named numbers u (condition_uses c r) who
+        → (condition named c).faults f None ≡ None → condition_levels c ≤ most_levels
+        → IsTrue (formed.is_condition (alone u) 0 (at_work who) (condition_of named numbers c)) }
+    ensures reference { (named : Named) (numbers : Numbers) (u : SourceUnit) (who : Option ℕ) (r : Reading)
+        (x : RawRef) (f : ℕ) → IsTrue (is_regular_reference x) → IsTrue (is_placed r)
+        → FactsStand named numbers u (reference_uses x r) who → (reference named x).faults f None ≡ None
+        → reference_levels x ≤ most_levels → IsTrue
+        (formed.is_reference (alone u) 0 (at_work who) (reference_of named numbers x)) }
+    ensures call { (named : Named) (numbers : Numbers) (u : SourceUnit) (who : Option ℕ) (n : RawName)
+        (es : List RawExpr) → IsTrue (all (map is_regular es))
+        → FactsStand named numbers u (uses_of n form.Call ++ argument_uses es) who
+        → call_faults named (signature_of named n) n (map (expression named) es) None ≡ None
+        → largest (map then_levels es) ≤ most_levels
+        → IsTrue (formed.is_call (alone u) 0 (at_work who) false (call_of named numbers n es).0
+        (formed.kinds_of (map (formed.kind_of (alone u) 0 (at_work who)) (call_of named numbers n es).1))) }
 {}

@@ -20,7 +20,9 @@ ghost use Rattle.cw_sound.specs.Written.Identified.{HasIdentifiers};
 
 /// What the communicators of a text without faults list has few enough parts for the format: parameters, and elements of tables.
 pub fn counts_fit()
-    ensures { (n : ℕ) (ts : List Lexeme) (raw : Raw) (named : Named) → length ts ≤ 65535 → Derives n a_raw text (numbered 1 ts) raw → Resolves raw (results.Ok named) → first_type_fault named ≡ None → CountsFit raw.comms }
+    ensures { (n : ℕ) (ts : List Lexeme) (raw : Raw) (named : Named) → length ts ≤ 65535
+        → Derives n a_raw text (numbered 1 ts) raw → Resolves raw (results.Ok named) → first_type_fault named ≡ None
+        → CountsFit raw.comms }
 {
     crate::laws::trees::placed();
     crate::laws::items::parts_free();
@@ -33,7 +35,9 @@ pub fn names_identified()
 
 /// Each item of a text's unit has a name, but for its strings and the words of its FORs, which no COMMON list has.
 pub fn items_called()
-    ensures { (n : ℕ) (ts : List Lexeme) (raw : Raw) (named : Named) → length ts ≤ 65535 → Derives n a_raw text (numbered 1 ts) raw → Resolves raw (results.Ok named) → (i : ℕ) (x : Item) → slice_get (unit_of named).items i ≡ Some x → IsTrue (is_named (entry_of (unit_of named) (0, 0) x)) }
+    ensures { (n : ℕ) (ts : List Lexeme) (raw : Raw) (named : Named) → length ts ≤ 65535
+        → Derives n a_raw text (numbered 1 ts) raw → Resolves raw (results.Ok named) → (i : ℕ) (x : Item)
+        → slice_get (unit_of named).items i ≡ Some x → IsTrue (is_named (entry_of (unit_of named) (0, 0) x)) }
 {
     names_identified();
     crate::laws::trees::items_derived();
@@ -41,7 +45,9 @@ pub fn items_called()
 
 /// The descriptors of the unit of a text without faults are in the format, and each that is overlaid has its base before it.
 pub fn bases_listed()
-    ensures { (n : ℕ) (ts : List Lexeme) (raw : Raw) (named : Named) → length ts ≤ 65535 → Derives n a_raw text (numbered 1 ts) raw → Resolves raw (results.Ok named) → first_type_fault named ≡ None → IsTrue (are_listed 0 (unit_of named).descs) }
+    ensures { (n : ℕ) (ts : List Lexeme) (raw : Raw) (named : Named) → length ts ≤ 65535
+        → Derives n a_raw text (numbered 1 ts) raw → Resolves raw (results.Ok named) → first_type_fault named ≡ None
+        → IsTrue (are_listed 0 (unit_of named).descs) }
 {
     counts_fit();
     crate::laws::written::descriptors_fit();

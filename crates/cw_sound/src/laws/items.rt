@@ -21,12 +21,15 @@ pub fn parts_free()
 
 /// What is overlaid stands on a thing before it, which the same bodies may name.
 pub fn bases_stand()
-    ensures { (raw : Raw) (named : Named) → Resolves raw (Ok named) → first_type_fault named ≡ None → HasRisingTokens raw → HasPlainProcedures raw → BasesStand (numbers_of named) (listed_of named.raw.now) (things_of named) }
+    ensures { (raw : Raw) (named : Named) → Resolves raw (Ok named) → first_type_fault named ≡ None
+        → HasRisingTokens raw → HasPlainProcedures raw
+        → BasesStand (numbers_of named) (listed_of named.raw.now) (things_of named) }
 {}
 
 /// Each thing that a text stores is an item of its unit with its words, which the bodies that see it may name.
 pub fn items_stand()
-    ensures { (raw : Raw) (named : Named) → Resolves raw (Ok named) → first_type_fault named ≡ None → HasRisingTokens raw → HasPlainProcedures raw → ItemsStand named }
+    ensures { (raw : Raw) (named : Named) → Resolves raw (Ok named) → first_type_fault named ≡ None
+        → HasRisingTokens raw → HasPlainProcedures raw → ItemsStand named }
 {
     bases_stand();
 }
@@ -39,7 +42,8 @@ pub fn descriptors_named()
 /// Of the storage of a unit: its items are few, bases stand before what is overlaid on them, items of frames have owners, each item ends within
 /// the words that an area may have and holds its presets, and what COMMON lists is overlaid on what a list has.
 pub fn unit_storable()
-    ensures { (raw : Raw) (named : Named) → Resolves raw (Ok named) → first_type_fault named ≡ None → HasRisingTokens raw → HasPlainProcedures raw → StorageStands (unit_of named) }
+    ensures { (raw : Raw) (named : Named) → Resolves raw (Ok named) → first_type_fault named ≡ None
+        → HasRisingTokens raw → HasPlainProcedures raw → StorageStands (unit_of named) }
 {
     bases_stand();
 }

@@ -13,7 +13,8 @@ ghost use Rattle.cw_sound.specs.Uses.Stands.{FactsStand};
 ghost use Rattle.cw_sound.specs.Uses.Mentions.{listed_mentions, block_mentions, text_mentions};
 ghost use Rattle.cw_sound.specs.Names.Placed.{Placed};
 ghost use Rattle.cw_sound.specs.Names.Found.{UsesFound};
-ghost use Rattle.cw_sound.specs.Names.Standing.{AnswersAreCalled, AnswersFit, CountsOwn, FewParameters, Stand, ItemsStand, is_element, is_own_procedure, is_control, is_built_in, is_common};
+ghost use Rattle.cw_sound.specs.Names.Standing.{AnswersAreCalled, AnswersFit, CountsOwn, FewParameters, Stand, ItemsStand};
+ghost use Rattle.cw_sound.specs.Names.Standing.{is_element, is_own_procedure, is_control, is_built_in, is_common};
 
 /// Each use of a name of a text without faults refers to a declaration that allows it, of the same body or of none.
 pub fn uses_found()
@@ -22,12 +23,15 @@ pub fn uses_found()
 
 /// What the outermost block declares has the next number of its sort.
 pub fn counts()
-    ensures { (named : Named) → Resolves named.raw.now (results.Ok named) → Placed named.raw.now → ItemsStand named (numbers_of named) (unit_of named) → CountsOwn named (numbers_of named) }
+    ensures { (named : Named) → Resolves named.raw.now (results.Ok named) → Placed named.raw.now
+        → ItemsStand named (numbers_of named) (unit_of named) → CountsOwn named (numbers_of named) }
 {}
 
 /// Each element stands for one of a table that its body may name.
 pub fn elements()
-    ensures { (named : Named) → Resolves named.raw.now (results.Ok named) → Placed named.raw.now → ItemsStand named (numbers_of named) (unit_of named) → Stand named (numbers_of named) (unit_of named) is_element (text_mentions (numbers_of named) named.raw.now) }
+    ensures { (named : Named) → Resolves named.raw.now (results.Ok named) → Placed named.raw.now
+        → ItemsStand named (numbers_of named) (unit_of named)
+        → Stand named (numbers_of named) (unit_of named) is_element (text_mentions (numbers_of named) named.raw.now) }
 {}
 
 /// Each procedure that is specified has at most 32 parameters.
@@ -37,14 +41,20 @@ pub fn few_parameters()
 
 /// The number of each procedure is that of the unit's procedure with parameters as they are specified.
 pub fn procedures()
-    ensures { (named : Named) → Resolves named.raw.now (results.Ok named) → Placed named.raw.now → ItemsStand named (numbers_of named) (unit_of named) → Stand named (numbers_of named) (unit_of named) is_own_procedure (block_mentions (numbers_of named) named.raw.now) }
+    ensures { (named : Named) → Resolves named.raw.now (results.Ok named) → Placed named.raw.now
+        → ItemsStand named (numbers_of named) (unit_of named)
+        → Stand named (numbers_of named) (unit_of named) is_own_procedure
+        (block_mentions (numbers_of named) named.raw.now) }
 {
     counts();
 }
 
 /// The number of each label, switch or procedure that is a parameter is that of its procedure's control parameter of this kind.
 pub fn parameters()
-    ensures { (named : Named) → Resolves named.raw.now (results.Ok named) → first_type_fault named ≡ None → Placed named.raw.now → ItemsStand named (numbers_of named) (unit_of named) → Stand named (numbers_of named) (unit_of named) is_control (block_mentions (numbers_of named) named.raw.now) }
+    ensures { (named : Named) → Resolves named.raw.now (results.Ok named) → first_type_fault named ≡ None
+        → Placed named.raw.now → ItemsStand named (numbers_of named) (unit_of named)
+        → Stand named (numbers_of named) (unit_of named) is_control
+        (block_mentions (numbers_of named) named.raw.now) }
 {
     counts();
     few_parameters();
@@ -52,14 +62,20 @@ pub fn parameters()
 
 /// The number of each label is that of one that its body sets.
 pub fn labels()
-    ensures { (named : Named) → Resolves named.raw.now (results.Ok named) → Placed named.raw.now → ItemsStand named (numbers_of named) (unit_of named) → Stand named (numbers_of named) (unit_of named) is_own_label (block_mentions (numbers_of named) named.raw.now) }
+    ensures { (named : Named) → Resolves named.raw.now (results.Ok named) → Placed named.raw.now
+        → ItemsStand named (numbers_of named) (unit_of named)
+        → Stand named (numbers_of named) (unit_of named) is_own_label
+        (block_mentions (numbers_of named) named.raw.now) }
 {
     counts();
 }
 
 /// The number of each switch is that of one whose labels its body reaches.
 pub fn switches()
-    ensures { (named : Named) → Resolves named.raw.now (results.Ok named) → Placed named.raw.now → ItemsStand named (numbers_of named) (unit_of named) → Stand named (numbers_of named) (unit_of named) is_own_switch (block_mentions (numbers_of named) named.raw.now) }
+    ensures { (named : Named) → Resolves named.raw.now (results.Ok named) → Placed named.raw.now
+        → ItemsStand named (numbers_of named) (unit_of named)
+        → Stand named (numbers_of named) (unit_of named) is_own_switch
+        (block_mentions (numbers_of named) named.raw.now) }
 {
     counts();
     uses_found();
@@ -74,14 +90,20 @@ pub fn descriptors_named()
 
 /// The number of each label, switch and procedure that the communicators list is that of a descriptor that says so.
 pub fn listed()
-    ensures { (named : Named) → Resolves named.raw.now (results.Ok named) → Placed named.raw.now → ItemsStand named (numbers_of named) (unit_of named) → Stand named (numbers_of named) (unit_of named) is_common (listed_mentions (numbers_of named) named.raw.now) }
+    ensures { (named : Named) → Resolves named.raw.now (results.Ok named) → Placed named.raw.now
+        → ItemsStand named (numbers_of named) (unit_of named)
+        → Stand named (numbers_of named) (unit_of named) is_common
+        (listed_mentions (numbers_of named) named.raw.now) }
 {
     descriptors_named();
 }
 
 /// READBYTE and WRITEBYTE are what they are.
 pub fn built_ins()
-    ensures { (named : Named) → Resolves named.raw.now (results.Ok named) → Placed named.raw.now → ItemsStand named (numbers_of named) (unit_of named) → Stand named (numbers_of named) (unit_of named) is_built_in (text_mentions (numbers_of named) named.raw.now) }
+    ensures { (named : Named) → Resolves named.raw.now (results.Ok named) → Placed named.raw.now
+        → ItemsStand named (numbers_of named) (unit_of named)
+        → Stand named (numbers_of named) (unit_of named) is_built_in
+        (text_mentions (numbers_of named) named.raw.now) }
 {}
 
 /// What answers by itself is a procedure.
@@ -91,7 +113,8 @@ pub fn answers_are_called()
 
 /// ANSWER is that of the procedure in whose body it stands.
 pub fn answers_fit()
-    ensures { (named : Named) → Resolves named.raw.now (results.Ok named) → Placed named.raw.now → ItemsStand named (numbers_of named) (unit_of named) → AnswersFit named (numbers_of named) (unit_of named) }
+    ensures { (named : Named) → Resolves named.raw.now (results.Ok named) → Placed named.raw.now
+        → ItemsStand named (numbers_of named) (unit_of named) → AnswersFit named (numbers_of named) (unit_of named) }
 {
     counts();
     uses_found();
@@ -99,7 +122,9 @@ pub fn answers_fit()
 
 /// All that the outermost block of a text without faults mentions stands for a right thing of its unit.
 pub fn all_stand()
-    ensures { (named : Named) → Resolves named.raw.now (results.Ok named) → first_type_fault named ≡ None → Placed named.raw.now → ItemsStand named (numbers_of named) (unit_of named) → FactsStand named (numbers_of named) (unit_of named) (block_facts named.raw.now.block true) None }
+    ensures { (named : Named) → Resolves named.raw.now (results.Ok named) → first_type_fault named ≡ None
+        → Placed named.raw.now → ItemsStand named (numbers_of named) (unit_of named)
+        → FactsStand named (numbers_of named) (unit_of named) (block_facts named.raw.now.block true) None }
 {
     uses_found();
     elements();

@@ -24,13 +24,19 @@ use crate::laws::statements::bodies;
 
 /// The bodies of a text have at most 72 words in hand for each level that its tokens open, and 7, where its procedures have at most 32 parameters.
 pub fn words_in_hand()
-    ensures block { (n : ℕ) (ts : List Lexeme) (raw : Raw) (named : Named) (numbers : Numbers) → Derives n a_raw text (numbered 1 ts) raw → FewParameters named → body_depth (block_of named numbers raw.block) ≤ 72 * n + 7 }
-    ensures procedures { (n : ℕ) (ts : List Lexeme) (raw : Raw) (named : Named) (numbers : Numbers) (x : Body) → Derives n a_raw text (numbered 1 ts) raw → FewParameters named → In x (block_bodies raw.block) → body_depth (statement_of named numbers x.statement) ≤ 72 * n + 7 }
+    ensures block { (n : ℕ) (ts : List Lexeme) (raw : Raw) (named : Named) (numbers : Numbers)
+        → Derives n a_raw text (numbered 1 ts) raw → FewParameters named
+        → body_depth (block_of named numbers raw.block) ≤ 72 * n + 7 }
+    ensures procedures { (n : ℕ) (ts : List Lexeme) (raw : Raw) (named : Named) (numbers : Numbers) (x : Body)
+        → Derives n a_raw text (numbered 1 ts) raw → FewParameters named → In x (block_bodies raw.block)
+        → body_depth (statement_of named numbers x.statement) ≤ 72 * n + 7 }
 {}
 
 /// The records of a text's bodies on the control stack have fewer than 65,536 words, where its tokens open at most 64 levels inside one another.
 pub fn need_fits()
-    ensures { (n : ℕ) (ts : List Lexeme) (raw : Raw) (named : Named) → n ≤ 64 → Derives n a_raw text (numbered 1 ts) raw → Resolves raw (Ok named) → first_type_fault named ≡ None → TreeFits raw → unit_need (unit_of named) < 65536 }
+    ensures { (n : ℕ) (ts : List Lexeme) (raw : Raw) (named : Named) → n ≤ 64
+        → Derives n a_raw text (numbered 1 ts) raw → Resolves raw (Ok named) → first_type_fault named ≡ None
+        → TreeFits raw → unit_need (unit_of named) < 65536 }
 {
     words_in_hand();
     few_parameters();

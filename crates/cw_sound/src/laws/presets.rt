@@ -20,7 +20,9 @@ use crate::laws::items::{bases_stand, parts_free, unit_storable};
 
 /// The items of a text's unit hold words at offsets of their own words, and what stands in a frame holds none, where the text is of bytes.
 pub fn presets_fit()
-    ensures { (n : ℕ) (ts : List Lexeme) (named : Named) → Derives n a_raw text (numbered 1 ts) named.raw.now → All HasBytes ts → Resolves named.raw.now (results.Ok named) → first_type_fault named ≡ None → HasRisingTokens named.raw.now → HasPlainProcedures named.raw.now → PresetsFit (unit_of named) }
+    ensures { (n : ℕ) (ts : List Lexeme) (named : Named) → Derives n a_raw text (numbered 1 ts) named.raw.now
+        → All HasBytes ts → Resolves named.raw.now (results.Ok named) → first_type_fault named ≡ None
+        → HasRisingTokens named.raw.now → HasPlainProcedures named.raw.now → PresetsFit (unit_of named) }
 {
     parts_free();
     bases_stand();
@@ -29,5 +31,6 @@ pub fn presets_fit()
 
 /// The tokens that a text of bytes expands to are of bytes: they are those of the text, of macros' bodies and of arguments.
 pub fn bytes_kept()
-    ensures { (text : List ℕ) (tokens expanded : List Lexeme) → AreBytes text → Tokenizes Source first_place text tokens → Expands tokens expanded → All HasBytes expanded }
+    ensures { (text : List ℕ) (tokens expanded : List Lexeme) → AreBytes text
+        → Tokenizes Source first_place text tokens → Expands tokens expanded → All HasBytes expanded }
 {}

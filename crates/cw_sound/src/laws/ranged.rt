@@ -52,13 +52,25 @@ pub fn switches()
 
 /// The numbers of the trees are in range, where those of declarations are.
 pub fn statements()
-    ensures statement { (named : Named) (sites : List (Row Site)) (numbers : Numbers) (u : SourceUnit) (who : Option ℕ) (s : RawStmt) → DeclarationsInRange named → IsTrue (is_regular_statement s) → FactsStand named numbers u (statement_facts s) who → AnswersStand named numbers u (statement_facts s) who → statement_judged named sites s None ≡ None → statement_levels s ≤ most_levels → IsTrue (is_ranged_statement u (answer_of u who) (statement_of named numbers s)) }
-    ensures block { (named : Named) (sites : List (Row Site)) (numbers : Numbers) (u : SourceUnit) (who : Option ℕ) (outermost : Bool) (b : RawBlock) → DeclarationsInRange named → IsTrue (is_regular_block b) → FactsStand named numbers u (block_facts b outermost) who → AnswersStand named numbers u (block_facts b outermost) who → block_judged named sites b None ≡ None → block_levels b ≤ most_levels → IsTrue (is_ranged_statement u (answer_of u who) (block_of named numbers b)) }
+    ensures statement { (named : Named) (sites : List (Row Site)) (numbers : Numbers) (u : SourceUnit)
+        (who : Option ℕ) (s : RawStmt) → DeclarationsInRange named → IsTrue (is_regular_statement s)
+        → FactsStand named numbers u (statement_facts s) who → AnswersStand named numbers u (statement_facts s) who
+        → statement_judged named sites s None ≡ None → statement_levels s ≤ most_levels
+        → IsTrue (is_ranged_statement u (answer_of u who) (statement_of named numbers s)) }
+    ensures block { (named : Named) (sites : List (Row Site)) (numbers : Numbers) (u : SourceUnit) (who : Option ℕ)
+        (outermost : Bool) (b : RawBlock) → DeclarationsInRange named → IsTrue (is_regular_block b)
+        → FactsStand named numbers u (block_facts b outermost) who
+        → AnswersStand named numbers u (block_facts b outermost) who → block_judged named sites b None ≡ None
+        → block_levels b ≤ most_levels → IsTrue (is_ranged_statement u (answer_of u who) (block_of named numbers b)) }
 {}
 
 /// The numbers of the procedures of a text's outermost block are in range, where they have the numbers from 0 on and their frames have room.
 pub fn procedures()
-    ensures { (named : Named) (sites : List (Row Site)) (numbers : Numbers) (u : SourceUnit) (b : RawBlock) → DeclarationsInRange named → u.procs ≡ block_procs named numbers b → BodiesFit (block_bodies b) → Counted numbers 0 (block_bodies b) → FactsStand named numbers u (block_facts b true) None → AnswersStand named numbers u (block_facts b true) None → block_judged named sites b None ≡ None → FramesFit u → IsTrue (are_ranged_procedures u 0 u.procs) }
+    ensures { (named : Named) (sites : List (Row Site)) (numbers : Numbers) (u : SourceUnit) (b : RawBlock)
+        → DeclarationsInRange named → u.procs ≡ block_procs named numbers b → BodiesFit (block_bodies b)
+        → Counted numbers 0 (block_bodies b) → FactsStand named numbers u (block_facts b true) None
+        → AnswersStand named numbers u (block_facts b true) None → block_judged named sites b None ≡ None
+        → FramesFit u → IsTrue (are_ranged_procedures u 0 u.procs) }
 {}
 
 /// The numbers of a text's unit are in the ranges of the language.

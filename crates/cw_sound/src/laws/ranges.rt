@@ -26,8 +26,22 @@ ghost use Rattle.cw_sound.specs.Ranges.Declared.{DeclarationsInRange};
 
 /// The numbers of the trees are in range.
 pub fn expressions()
-    ensures expression { (named : Named) (numbers : Numbers) (u : SourceUnit) (who : Option ℕ) (r : Reading) (e : RawExpr) (f : ℕ) → DeclarationsInRange named → IsTrue (is_regular e) → IsTrue (is_evaluated r) → FactsStand named numbers u (expression_uses e r) who → (expression named e).faults f None ≡ None → f ≤ 15 → then_levels e ≤ most_levels → IsTrue (is_ranged_expression u (expression_of named numbers e) f) }
-    ensures condition { (named : Named) (numbers : Numbers) (u : SourceUnit) (who : Option ℕ) (r : Reading) (c : RawCond) (f : ℕ) → DeclarationsInRange named → IsTrue (is_regular_condition c) → FactsStand named numbers u (condition_uses c r) who → (condition named c).faults f None ≡ None → condition_levels c ≤ most_levels → IsTrue (is_ranged_condition u (condition_of named numbers c)) }
-    ensures reference { (named : Named) (numbers : Numbers) (u : SourceUnit) (who : Option ℕ) (r : Reading) (x : RawRef) (f : ℕ) → DeclarationsInRange named → IsTrue (is_regular_reference x) → IsTrue (is_placed r) → FactsStand named numbers u (reference_uses x r) who → (reference named x).faults f None ≡ None → reference_levels x ≤ most_levels → IsTrue (ranged_reference u (reference_of named numbers x)).good }
-    ensures call { (named : Named) (numbers : Numbers) (u : SourceUnit) (who : Option ℕ) (n : RawName) (es : List RawExpr) → DeclarationsInRange named → IsTrue (all (map is_regular es)) → FactsStand named numbers u (uses_of n form.Call ++ argument_uses es) who → call_faults named (signature_of named n) n (map (expression named) es) None ≡ None → largest (map then_levels es) ≤ most_levels → IsTrue (all_ranged (map (is_ranged_argument u) (call_of named numbers n es).1)) }
+    ensures expression { (named : Named) (numbers : Numbers) (u : SourceUnit) (who : Option ℕ) (r : Reading)
+        (e : RawExpr) (f : ℕ) → DeclarationsInRange named → IsTrue (is_regular e) → IsTrue (is_evaluated r)
+        → FactsStand named numbers u (expression_uses e r) who → (expression named e).faults f None ≡ None → f ≤ 15
+        → then_levels e ≤ most_levels → IsTrue (is_ranged_expression u (expression_of named numbers e) f) }
+    ensures condition { (named : Named) (numbers : Numbers) (u : SourceUnit) (who : Option ℕ) (r : Reading)
+        (c : RawCond) (f : ℕ) → DeclarationsInRange named → IsTrue (is_regular_condition c)
+        → FactsStand named numbers u (condition_uses c r) who → (condition named c).faults f None ≡ None
+        → condition_levels c ≤ most_levels → IsTrue (is_ranged_condition u (condition_of named numbers c)) }
+    ensures reference { (named : Named) (numbers : Numbers) (u : SourceUnit) (who : Option ℕ) (r : Reading)
+        (x : RawRef) (f : ℕ) → DeclarationsInRange named → IsTrue (is_regular_reference x) → IsTrue (is_placed r)
+        → FactsStand named numbers u (reference_uses x r) who → (reference named x).faults f None ≡ None
+        → reference_levels x ≤ most_levels → IsTrue (ranged_reference u (reference_of named numbers x)).good }
+    ensures call { (named : Named) (numbers : Numbers) (u : SourceUnit) (who : Option ℕ) (n : RawName)
+        (es : List RawExpr) → DeclarationsInRange named → IsTrue (all (map is_regular es))
+        → FactsStand named numbers u (uses_of n form.Call ++ argument_uses es) who
+        → call_faults named (signature_of named n) n (map (expression named) es) None ≡ None
+        → largest (map then_levels es) ≤ most_levels
+        → IsTrue (all_ranged (map (is_ranged_argument u) (call_of named numbers n es).1)) }
 {}

@@ -49,7 +49,8 @@ pub fn goals()
 
 /// The unit is ready.
 pub fn unit_ready()
-    ensures { (raw : Raw) (named : Named) → Resolves raw (Ok named) → first_type_fault named ≡ None → TreeFits raw → PositionsFit raw → IsReady (unit_of named) }
+    ensures { (raw : Raw) (named : Named) → Resolves raw (Ok named) → first_type_fault named ≡ None → TreeFits raw
+        → PositionsFit raw → IsReady (unit_of named) }
 {
     lines();
     definitions();

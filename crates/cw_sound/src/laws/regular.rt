@@ -15,6 +15,10 @@ ghost use Rattle.cw_sound.specs.Statements.Counted.{BodiesFit};
 
 /// The trees of a text are as the grammar gives them: its literals are bytes, no FOR has too many elements, and procedures' bodies are so too.
 pub fn regular()
-    ensures block { (n : ℕ) (ts : List Lexeme) (raw : Raw) → All IsProperToken ts → length ts ≤ 65535 → Derives n a_raw text (numbered 1 ts) raw → text_tokens raw ≤ length ts → IsTrue (is_regular_block raw.block) }
-    ensures bodies { (n : ℕ) (ts : List Lexeme) (raw : Raw) → All IsProperToken ts → length ts ≤ 65535 → Derives n a_raw text (numbered 1 ts) raw → text_tokens raw ≤ length ts → n ≤ most_levels → BodiesFit (block_bodies raw.block) }
+    ensures block { (n : ℕ) (ts : List Lexeme) (raw : Raw) → All IsProperToken ts → length ts ≤ 65535
+        → Derives n a_raw text (numbered 1 ts) raw → text_tokens raw ≤ length ts
+        → IsTrue (is_regular_block raw.block) }
+    ensures bodies { (n : ℕ) (ts : List Lexeme) (raw : Raw) → All IsProperToken ts → length ts ≤ 65535
+        → Derives n a_raw text (numbered 1 ts) raw → text_tokens raw ≤ length ts → n ≤ most_levels
+        → BodiesFit (block_bodies raw.block) }
 {}

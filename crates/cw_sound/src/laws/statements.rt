@@ -32,26 +32,62 @@ ghost use Rattle.cw_sound.specs.Statements.Regular.{is_regular_statement, is_reg
 
 /// The trees have orders that do what they mean, within the levels that they need.
 pub fn built()
-    ensures statement { (named : Named) (sites : List (Row Site)) (numbers : Numbers) (u : SourceUnit) (who : Option ℕ) (s : RawStmt) (levels : ℕ) → IsTrue (is_regular_statement s) → FactsStand named numbers u (statement_facts s) who → AnswersStand named numbers u (statement_facts s) who → statement_judged named sites s None ≡ None → statement_levels s ≤ levels → levels ≤ most_levels → IsTrue (is_statement u (has_words u who) who (answer_of u who) (statement_of named numbers s) levels) }
-    ensures block { (named : Named) (sites : List (Row Site)) (numbers : Numbers) (u : SourceUnit) (who : Option ℕ) (outermost : Bool) (b : RawBlock) (levels : ℕ) → IsTrue (is_regular_block b) → FactsStand named numbers u (block_facts b outermost) who → AnswersStand named numbers u (block_facts b outermost) who → block_judged named sites b None ≡ None → block_levels b ≤ levels → levels ≤ most_levels → IsTrue (is_statement u (has_words u who) who (answer_of u who) (block_of named numbers b) levels) }
+    ensures statement { (named : Named) (sites : List (Row Site)) (numbers : Numbers) (u : SourceUnit)
+        (who : Option ℕ) (s : RawStmt) (levels : ℕ) → IsTrue (is_regular_statement s)
+        → FactsStand named numbers u (statement_facts s) who → AnswersStand named numbers u (statement_facts s) who
+        → statement_judged named sites s None ≡ None → statement_levels s ≤ levels → levels ≤ most_levels
+        → IsTrue (is_statement u (has_words u who) who (answer_of u who) (statement_of named numbers s) levels) }
+    ensures block { (named : Named) (sites : List (Row Site)) (numbers : Numbers) (u : SourceUnit) (who : Option ℕ)
+        (outermost : Bool) (b : RawBlock) (levels : ℕ) → IsTrue (is_regular_block b)
+        → FactsStand named numbers u (block_facts b outermost) who
+        → AnswersStand named numbers u (block_facts b outermost) who → block_judged named sites b None ≡ None
+        → block_levels b ≤ levels → levels ≤ most_levels
+        → IsTrue (is_statement u (has_words u who) who (answer_of u who) (block_of named numbers b) levels) }
 {}
 
 /// The trees are well formed.
 pub fn well_formed()
-    ensures statement { (named : Named) (sites : List (Row Site)) (numbers : Numbers) (u : SourceUnit) (who : Option ℕ) (s : RawStmt) → IsTrue (is_regular_statement s) → FactsStand named numbers u (statement_facts s) who → AnswersStand named numbers u (statement_facts s) who → statement_judged named sites s None ≡ None → statement_levels s ≤ most_levels → IsTrue (formed.is_statement (alone u) 0 (at_work who) (statement_of named numbers s)) }
-    ensures block { (named : Named) (sites : List (Row Site)) (numbers : Numbers) (u : SourceUnit) (who : Option ℕ) (outermost : Bool) (b : RawBlock) → IsTrue (is_regular_block b) → FactsStand named numbers u (block_facts b outermost) who → AnswersStand named numbers u (block_facts b outermost) who → block_judged named sites b None ≡ None → block_levels b ≤ most_levels → IsTrue (formed.is_statement (alone u) 0 (at_work who) (block_of named numbers b)) }
+    ensures statement { (named : Named) (sites : List (Row Site)) (numbers : Numbers) (u : SourceUnit)
+        (who : Option ℕ) (s : RawStmt) → IsTrue (is_regular_statement s)
+        → FactsStand named numbers u (statement_facts s) who → AnswersStand named numbers u (statement_facts s) who
+        → statement_judged named sites s None ≡ None → statement_levels s ≤ most_levels
+        → IsTrue (formed.is_statement (alone u) 0 (at_work who) (statement_of named numbers s)) }
+    ensures block { (named : Named) (sites : List (Row Site)) (numbers : Numbers) (u : SourceUnit) (who : Option ℕ)
+        (outermost : Bool) (b : RawBlock) → IsTrue (is_regular_block b)
+        → FactsStand named numbers u (block_facts b outermost) who
+        → AnswersStand named numbers u (block_facts b outermost) who → block_judged named sites b None ≡ None
+        → block_levels b ≤ most_levels → IsTrue
+        (formed.is_statement (alone u) 0 (at_work who) (block_of named numbers b)) }
 {}
 
 /// What stands in a block stands in the bodies of its procedures, each in its own procedure, and where the block has no fault none of them has one.
 /// Its bodies are those of the unit's procedures, in order.
 pub fn bodies()
-    ensures stand { (named : Named) (sites : List (Row Site)) (numbers : Numbers) (u : SourceUnit) (who : Option ℕ) (outermost : Bool) (b : RawBlock) (x : Body) → FactsStand named numbers u (block_facts b outermost) who → AnswersStand named numbers u (block_facts b outermost) who → block_judged named sites b None ≡ None → In x (block_bodies b) → FactsStand named numbers u (statement_facts x.statement) (proc_within numbers (Some x.token) None) × AnswersStand named numbers u (statement_facts x.statement) (proc_within numbers (Some x.token) None) × (statement_judged named sites x.statement None ≡ None) }
-    ensures same { (named : Named) (numbers : Numbers) (b : RawBlock) → map (λ (q : Proc). q.body) (block_procs named numbers b) ≡ map (λ (x : Body). statement_of named numbers x.statement) (block_bodies b) }
+    ensures stand { (named : Named) (sites : List (Row Site)) (numbers : Numbers) (u : SourceUnit) (who : Option ℕ)
+        (outermost : Bool) (b : RawBlock) (x : Body) → FactsStand named numbers u (block_facts b outermost) who
+        → AnswersStand named numbers u (block_facts b outermost) who → block_judged named sites b None ≡ None
+        → In x (block_bodies b) → FactsStand named numbers u (statement_facts x.statement)
+        (proc_within numbers (Some x.token) None)
+        × AnswersStand named numbers u (statement_facts x.statement) (proc_within numbers (Some x.token) None)
+        × (statement_judged named sites x.statement None ≡ None) }
+    ensures same { (named : Named) (numbers : Numbers) (b : RawBlock)
+        → map (λ (q : Proc). q.body) (block_procs named numbers b)
+        ≡ map (λ (x : Body). statement_of named numbers x.statement) (block_bodies b) }
 {}
 
 /// The bodies of a unit that is made of a text's outermost block are well formed, and have orders that do what they mean, where its procedures
 /// have the numbers from 0 on.
 pub fn unit_bodies()
-    ensures well_formed { (named : Named) (sites : List (Row Site)) (numbers : Numbers) (u : SourceUnit) (b : RawBlock) → u.body ≡ block_of named numbers b → u.procs ≡ block_procs named numbers b → IsTrue (is_regular_block b) → block_levels b ≤ most_levels → BodiesFit (block_bodies b) → Counted numbers 0 (block_bodies b) → FactsStand named numbers u (block_facts b true) None → AnswersStand named numbers u (block_facts b true) None → block_judged named sites b None ≡ None → IsTrue (is_formed u) }
-    ensures built { (named : Named) (sites : List (Row Site)) (numbers : Numbers) (u : SourceUnit) (b : RawBlock) → u.body ≡ block_of named numbers b → u.procs ≡ block_procs named numbers b → IsTrue (is_regular_block b) → block_levels b ≤ most_levels → BodiesFit (block_bodies b) → Counted numbers 0 (block_bodies b) → FactsStand named numbers u (block_facts b true) None → AnswersStand named numbers u (block_facts b true) None → block_judged named sites b None ≡ None → BodiesBuilt u }
+    ensures well_formed { (named : Named) (sites : List (Row Site)) (numbers : Numbers) (u : SourceUnit)
+        (b : RawBlock) → u.body ≡ block_of named numbers b → u.procs ≡ block_procs named numbers b
+        → IsTrue (is_regular_block b) → block_levels b ≤ most_levels → BodiesFit (block_bodies b)
+        → Counted numbers 0 (block_bodies b) → FactsStand named numbers u (block_facts b true) None
+        → AnswersStand named numbers u (block_facts b true) None → block_judged named sites b None ≡ None
+        → IsTrue (is_formed u) }
+    ensures built { (named : Named) (sites : List (Row Site)) (numbers : Numbers) (u : SourceUnit) (b : RawBlock)
+        → u.body ≡ block_of named numbers b → u.procs ≡ block_procs named numbers b → IsTrue (is_regular_block b)
+        → block_levels b ≤ most_levels → BodiesFit (block_bodies b) → Counted numbers 0 (block_bodies b)
+        → FactsStand named numbers u (block_facts b true) None
+        → AnswersStand named numbers u (block_facts b true) None → block_judged named sites b None ≡ None
+        → BodiesBuilt u }
 {}

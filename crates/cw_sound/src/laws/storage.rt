@@ -17,7 +17,9 @@ ghost use Rattle.cw_sound.specs.Storage.Frames.{FramesOwned, FramesFit};
 
 /// Each definition is of what its descriptor says.
 pub fn definitions_met()
-    ensures { (named : Named) → Resolves named.raw.now (results.Ok named) → first_type_fault named ≡ None → Placed named.raw.now → ItemsStand named (numbers_of named) (unit_of named) → IsTrue (are_met (unit_of named)) }
+    ensures { (named : Named) → Resolves named.raw.now (results.Ok named) → first_type_fault named ≡ None
+        → Placed named.raw.now → ItemsStand named (numbers_of named) (unit_of named)
+        → IsTrue (are_met (unit_of named)) }
 {
     crate::laws::names::counts();
     crate::laws::names::all_stand();
@@ -30,14 +32,18 @@ pub fn storage_passes()
 
 /// Each item of a frame belongs to a procedure of the unit.
 pub fn frames_owned()
-    ensures { (named : Named) → Resolves named.raw.now (results.Ok named) → first_type_fault named ≡ None → Placed named.raw.now → HasRisingTokens named.raw.now → HasPlainProcedures named.raw.now → ItemsStand named (numbers_of named) (unit_of named) → FramesOwned (unit_of named) }
+    ensures { (named : Named) → Resolves named.raw.now (results.Ok named) → first_type_fault named ≡ None
+        → Placed named.raw.now → HasRisingTokens named.raw.now → HasPlainProcedures named.raw.now
+        → ItemsStand named (numbers_of named) (unit_of named) → FramesOwned (unit_of named) }
 {
     crate::laws::names::counts();
 }
 
 /// A frame has no more words than an area may have.
 pub fn frames_fit()
-    ensures { (named : Named) → Resolves named.raw.now (results.Ok named) → first_type_fault named ≡ None → Placed named.raw.now → HasRisingTokens named.raw.now → HasPlainProcedures named.raw.now → ItemsStand named (numbers_of named) (unit_of named) → FramesFit (unit_of named) }
+    ensures { (named : Named) → Resolves named.raw.now (results.Ok named) → first_type_fault named ≡ None
+        → Placed named.raw.now → HasRisingTokens named.raw.now → HasPlainProcedures named.raw.now
+        → ItemsStand named (numbers_of named) (unit_of named) → FramesFit (unit_of named) }
 {
     crate::laws::names::counts();
     crate::laws::items::bases_stand();
@@ -45,7 +51,9 @@ pub fn frames_fit()
 
 /// The unit of a text passes the test of its storage.
 pub fn stored()
-    ensures { (named : Named) → Resolves named.raw.now (results.Ok named) → first_type_fault named ≡ None → Placed named.raw.now → HasRisingTokens named.raw.now → HasPlainProcedures named.raw.now → ItemsStand named (numbers_of named) (unit_of named) → IsTrue (is_stored (unit_of named)) }
+    ensures { (named : Named) → Resolves named.raw.now (results.Ok named) → first_type_fault named ≡ None
+        → Placed named.raw.now → HasRisingTokens named.raw.now → HasPlainProcedures named.raw.now
+        → ItemsStand named (numbers_of named) (unit_of named) → IsTrue (is_stored (unit_of named)) }
 {
     crate::laws::items::unit_storable();
     storage_passes();

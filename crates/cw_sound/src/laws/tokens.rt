@@ -19,29 +19,44 @@ ghost use Rattle.cw_make_stmt.specs.Made.{statement_of, block_of};
 ghost use Rattle.cw_make.specs.Made.{unit_of};
 ghost use Rattle.cw_make.specs.Procedures.{statement_procs, block_procs};
 ghost use Rattle.cw_make.specs.Switches.{statement_switches, block_switches};
-ghost use Rattle.cw_tokens.specs.LeastTokens.{arguments, each_argument, expression_tokens, condition_tokens, reference_tokens, statement_tokens, procedures_tokens, switches_tokens, least_tokens};
+ghost use Rattle.cw_tokens.specs.LeastTokens.{arguments, each_argument, expression_tokens, condition_tokens, reference_tokens};
+ghost use Rattle.cw_tokens.specs.LeastTokens.{statement_tokens, procedures_tokens, switches_tokens, least_tokens};
 ghost use Rattle.cw_tokens.specs.TreeTokens.{expr_tokens, cond_tokens, ref_tokens, stmt_tokens, block_tokens, text_tokens};
 
 use cw_derived::laws::in_normal_form;
 
 /// What is made of an expression, a condition, a reference or the arguments of a call in normal form has no more tokens than it.
 pub fn expressions_counted()
-    ensures expression { (named : Named) (numbers : Numbers) (n : ℕ) (p : Bool) (e : RawExpr) (a : List ℕ) → IsNormal n p an_expr e a → expression_tokens (expression_of named numbers e) ≤ expr_tokens e }
-    ensures condition { (named : Named) (numbers : Numbers) (n : ℕ) (p : Bool) (c : RawCond) (a : List ℕ) → IsNormal n p a_cond c a → condition_tokens (condition_of named numbers c) ≤ cond_tokens c }
-    ensures reference { (named : Named) (numbers : Numbers) (n : ℕ) (p : Bool) (r : RawRef) (a : List ℕ) → IsNormal n p a_ref r a → reference_tokens (reference_of named numbers r) ≤ ref_tokens r }
-    ensures call { (named : Named) (numbers : Numbers) (n : ℕ) (p : Bool) (f : RawName) (es : List RawExpr) (a : List ℕ) → IsNormal n p (a_list an_expr) es a → arguments (each_argument (call_of named numbers f es).1) ≤ arguments (map expr_tokens es) }
+    ensures expression { (named : Named) (numbers : Numbers) (n : ℕ) (p : Bool) (e : RawExpr) (a : List ℕ)
+        → IsNormal n p an_expr e a → expression_tokens (expression_of named numbers e) ≤ expr_tokens e }
+    ensures condition { (named : Named) (numbers : Numbers) (n : ℕ) (p : Bool) (c : RawCond) (a : List ℕ)
+        → IsNormal n p a_cond c a → condition_tokens (condition_of named numbers c) ≤ cond_tokens c }
+    ensures reference { (named : Named) (numbers : Numbers) (n : ℕ) (p : Bool) (r : RawRef) (a : List ℕ)
+        → IsNormal n p a_ref r a → reference_tokens (reference_of named numbers r) ≤ ref_tokens r }
+    ensures call { (named : Named) (numbers : Numbers) (n : ℕ) (p : Bool) (f : RawName) (es : List RawExpr)
+        (a : List ℕ) → IsNormal n p (a_list an_expr) es a
+        → arguments (each_argument (call_of named numbers f es).1) ≤ arguments (map expr_tokens es) }
 {}
 
 /// What is made of a statement or a block in normal form, with the procedures and switches that are declared in it, has no more tokens than it;
 /// the BEGIN of the block counts beside.
 pub fn statements_counted()
-    ensures statement { (named : Named) (numbers : Numbers) (n : ℕ) (p : Bool) (s : RawStmt) (a : List ℕ) (q : Option ℕ) → IsNormal n p a_stmt s a → statement_tokens (statement_of named numbers s) + (procedures_tokens (statement_procs named numbers s) + switches_tokens (statement_switches named numbers s q)) ≤ stmt_tokens s }
-    ensures block { (named : Named) (numbers : Numbers) (n : ℕ) (p : Bool) (b : RawBlock) (a : List ℕ) (q : Option ℕ) → IsNormal n p a_block b a → suc (statement_tokens (block_of named numbers b) + (procedures_tokens (block_procs named numbers b) + switches_tokens (block_switches named numbers b q))) ≤ block_tokens b }
+    ensures statement { (named : Named) (numbers : Numbers) (n : ℕ) (p : Bool) (s : RawStmt) (a : List ℕ)
+        (q : Option ℕ) → IsNormal n p a_stmt s a
+        → statement_tokens (statement_of named numbers s) +
+        (procedures_tokens (statement_procs named numbers s) + switches_tokens
+        (statement_switches named numbers s q)) ≤ stmt_tokens s }
+    ensures block { (named : Named) (numbers : Numbers) (n : ℕ) (p : Bool) (b : RawBlock) (a : List ℕ) (q : Option ℕ)
+        → IsNormal n p a_block b a
+        → suc (statement_tokens (block_of named numbers b) +
+        (procedures_tokens (block_procs named numbers b) + switches_tokens (block_switches named numbers b q)))
+        ≤ block_tokens b }
 {}
 
 /// A text's unit has no more tokens than its tree.
 pub fn unit_counted()
-    ensures { (n : ℕ) (ts : List Lexeme) (named : Named) → Derives n a_raw text (numbered 1 ts) named.raw.now → least_tokens (unit_of named) ≤ text_tokens named.raw.now }
+    ensures { (n : ℕ) (ts : List Lexeme) (named : Named) → Derives n a_raw text (numbered 1 ts) named.raw.now
+        → least_tokens (unit_of named) ≤ text_tokens named.raw.now }
 {
     in_normal_form();
 }

@@ -29,14 +29,18 @@ pub fn items_declared()
 
 /// The bodies of a text are those of the procedures that have the numbers from 0 on.
 pub fn bodies_counted()
-    ensures { (named : Named) → Resolves named.raw.now (Ok named) → Placed named.raw.now → ItemsStand named (numbers_of named) (unit_of named) → Counted (numbers_of named) 0 (block_bodies named.raw.now.block) }
+    ensures { (named : Named) → Resolves named.raw.now (Ok named) → Placed named.raw.now
+        → ItemsStand named (numbers_of named) (unit_of named)
+        → Counted (numbers_of named) 0 (block_bodies named.raw.now.block) }
 {
     counts();
 }
 
 /// ANSWER stands in the body of a procedure, and has the scale of its answer.
 pub fn answers_stand()
-    ensures { (named : Named) → Resolves named.raw.now (Ok named) → Placed named.raw.now → ItemsStand named (numbers_of named) (unit_of named) → AnswersStand named (numbers_of named) (unit_of named) (block_facts named.raw.now.block true) None }
+    ensures { (named : Named) → Resolves named.raw.now (Ok named) → Placed named.raw.now
+        → ItemsStand named (numbers_of named) (unit_of named)
+        → AnswersStand named (numbers_of named) (unit_of named) (block_facts named.raw.now.block true) None }
 {
     answers_fit();
 }

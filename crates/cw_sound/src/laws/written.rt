@@ -29,30 +29,38 @@ use crate::laws::storage::{frames_fit, frames_owned};
 
 /// The name of a text's segment is a name of the format.
 pub fn segment_named()
-    ensures { (n : ℕ) (ts : List Lexeme) (raw : Raw) (named : Named) → Derives n a_raw text (numbered 1 ts) raw → Resolves raw (results.Ok named) → IsTrue (is_name (unit_of named).name) }
+    ensures { (n : ℕ) (ts : List Lexeme) (raw : Raw) (named : Named) → Derives n a_raw text (numbered 1 ts) raw
+        → Resolves raw (results.Ok named) → IsTrue (is_name (unit_of named).name) }
 {}
 
 /// The descriptors of a text's unit fit the fields of the format, where no procedure that is specified has more than 255 parameters and no table
 /// 65,536 elements.
 pub fn descriptors_fit()
-    ensures { (n : ℕ) (ts : List Lexeme) (raw : Raw) (named : Named) → Derives n a_raw text (numbered 1 ts) raw → Resolves raw (results.Ok named) → CountsFit raw.comms → IsTrue (list_all fits_descriptor (unit_of named).descs) }
+    ensures { (n : ℕ) (ts : List Lexeme) (raw : Raw) (named : Named) → Derives n a_raw text (numbered 1 ts) raw
+        → Resolves raw (results.Ok named) → CountsFit raw.comms
+        → IsTrue (list_all fits_descriptor (unit_of named).descs) }
 {}
 
 /// The items of a text's unit are few, and each ends within the words that an area may have.
 pub fn items_fit()
-    ensures { (named : Named) → Resolves named.raw.now (results.Ok named) → first_type_fault named ≡ None → HasRisingTokens named.raw.now → HasPlainProcedures named.raw.now → ItemsFit (unit_of named) }
+    ensures { (named : Named) → Resolves named.raw.now (results.Ok named) → first_type_fault named ≡ None
+        → HasRisingTokens named.raw.now → HasPlainProcedures named.raw.now → ItemsFit (unit_of named) }
 {
     unit_storable();
 }
 
 /// Each item of a text's unit has a name or a line, and so has the procedure to which it belongs, where declared names are identifiers.
 pub fn items_titled()
-    ensures { (named : Named) → Resolves named.raw.now (results.Ok named) → HasIdentifiers named.raw.now → (i : ℕ) (x : Item) → slice_get (unit_of named).items i ≡ Some x → IsTrue (is_titled (entry_of (unit_of named) (0, 0) x)) }
+    ensures { (named : Named) → Resolves named.raw.now (results.Ok named) → HasIdentifiers named.raw.now
+        → (i : ℕ) (x : Item) → slice_get (unit_of named).items i ≡ Some x
+        → IsTrue (is_titled (entry_of (unit_of named) (0, 0) x)) }
 {}
 
 /// Where the items of a text's unit stand is in the format: a descriptor of the unit, an address that is a word, a frame that is no larger than an area.
 pub fn homes_fit()
-    ensures { (named : Named) → Resolves named.raw.now (results.Ok named) → first_type_fault named ≡ None → Placed named.raw.now → HasRisingTokens named.raw.now → HasPlainProcedures named.raw.now → ItemsStand named (numbers_of named) (unit_of named) → HomesFit (unit_of named) }
+    ensures { (named : Named) → Resolves named.raw.now (results.Ok named) → first_type_fault named ≡ None
+        → Placed named.raw.now → HasRisingTokens named.raw.now → HasPlainProcedures named.raw.now
+        → ItemsStand named (numbers_of named) (unit_of named) → HomesFit (unit_of named) }
 {
     frames_owned();
     frames_fit();

@@ -42,9 +42,11 @@ pub fn lines_told()
 /// The places that a stop has in the objects of units are those of the image at which a statement of that segment and line begins. Where no
 /// unit has the name, there are none.
 pub fn places_told()
-    ensures told { (us : List SourceUnit) (limits : Limits) (segment : ℕ) (stop : Stop) → All IsCompilable us → Links us limits → IsNamed us segment stop.segment →
+    ensures told { (us : List SourceUnit) (limits : Limits) (segment : ℕ) (stop : Stop) → All IsCompilable us
+        → Links us limits → IsNamed us segment stop.segment →
         stop_places stop (map object_of us) ≡ places_of segment stop.line (image_places us (storage_map us) limits) }
-    ensures named { (us : List SourceUnit) (stop : Stop) → All IsCompilable us → 0 < length (stop_places stop (map object_of us)) → (segment : ℕ) × IsNamed us segment stop.segment }
+    ensures named { (us : List SourceUnit) (stop : Stop) → All IsCompilable us
+        → 0 < length (stop_places stop (map object_of us)) → (segment : ℕ) × IsNamed us segment stop.segment }
 {
     writable();
     object_of_unit();
@@ -54,12 +56,16 @@ pub fn places_told()
 /// What is told of a run of the image of units, watched at what a stop means in them, is what is reported of their program: at the number
 /// of instructions whose show is given, or at any.
 pub fn reported()
-    ensures shown { (us : List SourceUnit) (limits : Limits) (stop : Stop) (watch : Watch) (input : List ℕ) (s : State) (k : ℕ) (shown : Observed) (events : List Event) (text : List ℕ) →
-        us ≢ [] → length us ≤ 200 → All IsCompilable us → IsLimits limits → Links us limits → All (λ b. b < 256) input → IsStart (image_of us limits).code (image_of us limits).words s →
+    ensures shown { (us : List SourceUnit) (limits : Limits) (stop : Stop) (watch : Watch) (input : List ℕ)
+        (s : State) (k : ℕ) (shown : Observed) (events : List Event) (text : List ℕ) →
+        us ≢ [] → length us ≤ 200 → All IsCompilable us → IsLimits limits → Links us limits
+        → All (λ b. b < 256) input → IsStart (image_of us limits).code (image_of us limits).words s →
         MeansInUnits us limits stop (Ok watch) → IsDistinct nat_eq watch.places → All (λ word. word.address < limits.area) watch.words →
         Shows s input k shown → FitsInput input events → Reports watch s events k text → ReportsUnits us limits stop input k shown text }
-    ensures some { (us : List SourceUnit) (limits : Limits) (stop : Stop) (watch : Watch) (input : List ℕ) (s : State) (k : ℕ) (events : List Event) (text : List ℕ) →
-        us ≢ [] → length us ≤ 200 → All IsCompilable us → IsLimits limits → Links us limits → All (λ b. b < 256) input → IsStart (image_of us limits).code (image_of us limits).words s →
+    ensures some { (us : List SourceUnit) (limits : Limits) (stop : Stop) (watch : Watch) (input : List ℕ)
+        (s : State) (k : ℕ) (events : List Event) (text : List ℕ) →
+        us ≢ [] → length us ≤ 200 → All IsCompilable us → IsLimits limits → Links us limits
+        → All (λ b. b < 256) input → IsStart (image_of us limits).code (image_of us limits).words s →
         MeansInUnits us limits stop (Ok watch) → IsDistinct nat_eq watch.places → All (λ word. word.address < limits.area) watch.words →
         FitsInput input events → Reports watch s events k text → (shown : Observed) × Shows s input k shown × ReportsUnits us limits stop input k shown text }
 {

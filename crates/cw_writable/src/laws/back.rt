@@ -35,7 +35,8 @@ pub fn statements_begun()
 
 /// The code of a unit and the records behind it are in the format of objects.
 pub fn back_writable()
-    ensures { (u : SourceUnit) → IsTrue (is_built u) → IsTrue (have_code (unit_orders u)) → length (code_of u).bytes ≤ 2097120 → unit_need u < 65536 → IsReady u →
+    ensures { (u : SourceUnit) → IsTrue (is_built u) → IsTrue (have_code (unit_orders u))
+        → length (code_of u).bytes ≤ 2097120 → unit_need u < 65536 → IsReady u →
         IsTrue (is_back u (layout_of u) (code_of u) (unit_need u)) }
 {
     body_fits();

@@ -17,12 +17,16 @@ use cw_unit::laws::storage_maps;
 
 /// The orders of an expression whose numbers are in range have code, where the line that they name is a word.
 pub fn expressions()
-    ensures { (s : Scope) → argument_words s.parameters < 256 → s.line < 65536 → (e : Expr) (f : ℕ) → IsTrue (is_ranged_expression s.unit e f) → (place next : ℕ) → IsTrue (list_all has_code (expression_piece s e f place next).orders) }
+    ensures { (s : Scope) → argument_words s.parameters < 256 → s.line < 65536 → (e : Expr) (f : ℕ)
+        → IsTrue (is_ranged_expression s.unit e f) → (place next : ℕ)
+        → IsTrue (list_all has_code (expression_piece s e f place next).orders) }
 {}
 
 /// The orders of a statement whose numbers are in range have code.
 pub fn statements()
-    ensures { (s : Scope) (who : Option ℕ) → argument_words s.parameters < 256 → (answer : ℕ) (t : Stmt) → IsTrue (is_ranged_statement s.unit answer t) → (place next : ℕ) → IsTrue (list_all has_code (statement_piece s who answer t place next).orders) }
+    ensures { (s : Scope) (who : Option ℕ) → argument_words s.parameters < 256 → (answer : ℕ) (t : Stmt)
+        → IsTrue (is_ranged_statement s.unit answer t) → (place next : ℕ)
+        → IsTrue (list_all has_code (statement_piece s who answer t place next).orders) }
 {}
 
 /// The orders of a unit have code.

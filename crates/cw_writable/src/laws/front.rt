@@ -25,7 +25,8 @@ pub fn entries_stand()
 
 /// What stands before the code is in the format, where its name and descriptors are, and its items fit.
 pub fn front_of_parts()
-    ensures { (u : SourceUnit) → IsTrue (is_name u.name) → IsTrue (are_listed 0 u.descs) → ItemsFit u → HomesFit u → PresetsFit u → ItemsNamed u → IsTrue (is_front u (layout_of u)) }
+    ensures { (u : SourceUnit) → IsTrue (is_name u.name) → IsTrue (are_listed 0 u.descs) → ItemsFit u → HomesFit u
+        → PresetsFit u → ItemsNamed u → IsTrue (is_front u (layout_of u)) }
 {
     families_kept();
     presets_set();
