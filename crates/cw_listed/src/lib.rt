@@ -1,0 +1,4 @@
+//! What the listing of code has to know of the code that orders have: laws alone.
+#![tactic(auto)]
+
+pub mod laws;
