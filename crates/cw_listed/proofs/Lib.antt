@@ -4,3 +4,6 @@ pub mod Orders
 pub mod Blocks
 pub mod Places
 pub mod Coming
+pub mod Lines
+pub mod LibraryLines
+pub mod SegmentLines

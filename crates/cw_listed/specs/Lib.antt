@@ -1,2 +1,5 @@
 pub mod Table
 pub mod Behind
+pub mod ListedLines
+pub mod PieceLines
+pub mod ProgramLines

@@ -1,4 +1,5 @@
 //! What the listing of code has to know of the code that orders have: laws alone.
 #![tactic(auto)]
 
+mod line;
 pub mod laws;
