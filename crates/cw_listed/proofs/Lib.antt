@@ -7,3 +7,5 @@ pub mod Coming
 pub mod Lines
 pub mod LibraryLines
 pub mod SegmentLines
+pub mod Program
+pub mod ProgramShown

@@ -30,7 +30,7 @@ or-true true = refl
 or-true false = refl
 
 -- the same behind another order of the parts
-or_crossed : (a b c d : Bool) → ((a || b) || (c || d)) ≡ ((a || c) || (b || d))
+pub or_crossed : (a b c d : Bool) → ((a || b) || (c || d)) ≡ ((a || c) || (b || d))
 or_crossed true b c d = refl
 or_crossed false true true d = refl
 or_crossed false true false d = refl
@@ -124,7 +124,7 @@ before_piece s at n q (Some t) h less =
     one_told s (at + n) q t (omega (arith, h))
     ∙ ap₂ (λ a b. a || b) (ne_eqb (s + (at + n - 2)) q (λ e. omega (arith, h))) (none_before (s + (at + n)) q (behind_target (Some t)) (omega arith))
 
-before_pieces : (s at q : ℕ) (ps : List Coded) → q < s + at → is_among (word_places s (relocations at ps)) q ≡ false
+pub before_pieces : (s at q : ℕ) (ps : List Coded) → q < s + at → is_among (word_places s (relocations at ps)) q ≡ false
 before_pieces s at q [] less = refl
 before_pieces s at q (p ∷ ps) less =
     word_places-append s q (relocation_before (at + size_of p) (target_of p)) (relocations (at + size_of p) ps)

@@ -9,7 +9,7 @@ use Rattle.cw_tmpl.proofs.Growing.{blanks-append}
 use Rattle.cw_listed.specs.declared.line.Line.{Line}
 use Rattle.cw_listed.specs.ListedLines.{is_among, AreLinesBetween}
 use Rattle.cw_listed.specs.PieceLines.{piece_lines}
-use Rattle.cw_listed.specs.ProgramLines.{segments_filled, segments_lines, AreFillings}
+use Rattle.cw_listed.specs.ProgramLines.{segments_filled, segments_lines, AreCoded}
 use Rattle.cw_listed.specs.Behind.{Stands}
 use Rattle.cw_listed.proofs.Lines.{KnowsWords, lines_from}
 use Rattle.cw_listed.proofs.LibraryLines.{lines_then}
@@ -24,12 +24,12 @@ stands_between done ps rest offset p st = record {
 }
 
 pub segments_shown : (code words before : List ℕ) (values : List Filling) (done : List Coded) (os : List Orders) (base at : ℕ) → at ≡ length before → at ≡ base + length (blanks done)
-    → code ≡ before ++ segments_filled values at os → KnowsWords words base (done ++ flat_map pieces_of os) → AreFillings values os
+    → code ≡ before ++ segments_filled values at os → KnowsWords words base (done ++ flat_map pieces_of os) → AreCoded os → length values ≡ length os
     → AreLinesBetween code words at (segments_lines values at os) (length code)
-segments_shown code words before [] done [] base at f b e knows fills = f ∙ sym (ap length (e ∙ append-nil before))
-segments_shown code words before (v ∷ vs) done [] base at f b e knows fills = absurd fills
-segments_shown code words before [] done (o ∷ os) base at f b e knows fills = absurd fills
-segments_shown code words before (v ∷ vs) done (o ∷ os) base at f b e knows fills =
+segments_shown code words before [] done [] base at f b e knows coded same = f ∙ sym (ap length (e ∙ append-nil before))
+segments_shown code words before (v ∷ vs) done [] base at f b e knows coded same = absurd (omega (arith, same))
+segments_shown code words before [] done (o ∷ os) base at f b e knows coded same = absurd (omega (arith, same))
+segments_shown code words before (v ∷ vs) done (o ∷ os) base at f b e knows coded same =
     let ps = pieces_of o in
     let rest = flat_map pieces_of os in
     let n = length (blanks ps) in
@@ -41,7 +41,7 @@ segments_shown code words before (v ∷ vs) done (o ∷ os) base at f b e knows 
         ap (λ m. is_among words (m + offset)) b ∙ ap (is_among words) (let same : base + length (blanks done) + offset ≡ base + (length (blanks done) + offset) = omega arith in same)
         ∙ knows (length (blanks done) + offset) p (stands_between done ps rest offset p st) in
     lines_then code words at (at + n) (length code) (piece_lines v at ps) (segments_lines vs (at + n) os)
-    (lines_from code words before S v [] ps at at f (omega arith) e own fills.1 fills.0)
+    (lines_from code words before S v [] ps at at f (omega arith) e own coded.0)
     (segments_shown code words (before ++ F) vs (done ++ ps) os base (at + n) (omega (arith, f, long, length-append before F))
     (omega (arith, b, ap length (blanks-append done ps), length-append (blanks done) (blanks ps))) next
-    (subst (λ (l : List Coded). KnowsWords words base l) (sym (append_assoc done ps rest)) knows) fills.2)
+    (subst (λ (l : List Coded). KnowsWords words base l) (sym (append_assoc done ps rest)) knows) coded.1 (omega (arith, same)))

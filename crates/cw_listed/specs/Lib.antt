@@ -3,3 +3,4 @@ pub mod Behind
 pub mod ListedLines
 pub mod PieceLines
 pub mod ProgramLines
+pub mod Remarks

@@ -1,5 +1,5 @@
 -- The lines that show the pieces of code.
-use Rattle.std.specs.Prelude.{ℕ, ◌+◌, false, true, List, [], ◌∷◌}
+use Rattle.std.specs.Prelude.{ℕ, ◌+◌, ◌%◌, false, true, List, [], ◌∷◌}
 use Rattle.cw_i86.specs.declared.instr.Imm.TheVariants as imm
 use Rattle.cw_i86.specs.declared.instr.Instr.TheVariants as i86
 use Rattle.cw_i86.specs.declared.instr.Place.TheVariants as places
@@ -32,7 +32,7 @@ shown_with w (coded.Way t) = Instruction (i86.JumpRm (entry_of_table w))
 abbrev pub piece_line : (place w : ℕ) → Coded → Line
 piece_line place w p = record { place = place; size = size_of p; shown = shown_with w p }
 
--- one line for each piece of code that the linker has filled, from a place on
+-- one line for each piece of code that the linker has filled, from a place on: a word holds what fits of what is filled in
 abbrev pub piece_lines : Filling → (place : ℕ) → List Coded → List Line
 piece_lines value at [] = []
-piece_lines value at (p ∷ ps) = piece_line at (word_before value (at + size_of p) (target_of p)) p ∷ piece_lines value (at + size_of p) ps
+piece_lines value at (p ∷ ps) = piece_line at (word_before value (at + size_of p) (target_of p) % 65536) p ∷ piece_lines value (at + size_of p) ps

@@ -1,9 +1,8 @@
 -- The lines that show a whole program: those of the library, and those of the pieces of each segment.
-use Rattle.std.specs.Prelude.{ℕ, ◌+◌, ◌<◌, ◌^◌, List, [], ◌∷◌, ◌++◌, length, map, flat_map}
+use Rattle.std.specs.Prelude.{ℕ, ◌+◌, List, [], ◌∷◌, ◌++◌, length}
 use Rattle.cw_i86.specs.declared.instr.Instr.{Instr}
 use Rattle.cw_i86.specs.Encoding.{bytes_of}
 use Rattle.cw_order.specs.declared.order.Orders.{Orders}
-use Rattle.cw_tmpl.specs.declared.pieces.Coded.{Coded}
 use Rattle.cw_tmpl.specs.Mnemonics.{bytes_of_all}
 use Rattle.cw_tmpl.specs.Library.{front, joined, routines, library_bytes}
 use Rattle.cw_tmpl.specs.Pieces.{blanks, Filling, filled, AllCoded}
@@ -38,16 +37,10 @@ segments_lines values at [] = []
 segments_lines [] at (o ∷ os) = []
 segments_lines (v ∷ vs) at (o ∷ os) = piece_lines v at (pieces_of o) ++ segments_lines vs (at + length (blanks (pieces_of o))) os
 
--- what the linker fills in are words
-abbrev pub IsFilling : Filling → Type 0
-IsFilling value = (sort index add after : ℕ) → value sort index add after < 2 ^ 16
-
--- the numbers of the pieces are in range, and what is filled in too, with one filling for each segment
-abbrev pub AreFillings : List Filling → List Orders → Type 0
-AreFillings [] [] = Unit {0}
-AreFillings (v ∷ vs) (o ∷ os) = IsFilling v × AllCoded (pieces_of o) × AreFillings vs os
-AreFillings [] (o ∷ os) = ⊥
-AreFillings (v ∷ vs) [] = ⊥
+-- the numbers of all pieces are in range
+abbrev pub AreCoded : List Orders → Type 0
+AreCoded [] = Unit {0}
+AreCoded (o ∷ os) = AllCoded (pieces_of o) × AreCoded os
 
 -- the linked code of a program
 abbrev pub program_code : List Filling → List Orders → List ℕ

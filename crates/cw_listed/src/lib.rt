@@ -2,4 +2,5 @@
 #![tactic(auto)]
 
 mod line;
+mod remark;
 pub mod laws;
