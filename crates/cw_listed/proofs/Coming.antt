@@ -8,7 +8,8 @@ use Rattle.cw_tmpl.specs.declared.pieces.Target.{Target}
 use Rattle.cw_tmpl.specs.declared.pieces.Target.TheVariants as target
 use Rattle.cw_tmpl.specs.declared.pieces.Coded.{Coded}
 use Rattle.cw_tmpl.specs.Pieces.{bytes_with, size_of, target_of, blanks, relocation_of, relocation_before, relocations}
-use Rattle.cw_listed.specs.Table.{is_among, words_behind, words_behind_call}
+use Rattle.cw_listing.specs.Lines.{is_among}
+use Rattle.cw_listing.specs.Remarks.{words_behind, words_behind_call}
 use Rattle.cw_listed.specs.Behind.{is_word, Stands, places_behind, word_places, HasWord, HasWordsBehind}
 use Rattle.cw_listed.proofs.Walk.{behind_target, passed, is_clear, is_due, is_told, coming_behind, is_none, are_told, Told, parts}
 use Rattle.cw_listed.proofs.Places.{or_assoc, or-false, among-append, from_place, Sized, sized, known, known_here, told_first, told_rest, told_due}

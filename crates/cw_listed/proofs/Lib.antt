@@ -4,6 +4,7 @@ pub mod Orders
 pub mod Blocks
 pub mod Places
 pub mod Coming
+pub mod Listed
 pub mod Lines
 pub mod LibraryLines
 pub mod SegmentLines

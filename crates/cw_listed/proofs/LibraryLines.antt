@@ -8,9 +8,9 @@ use Rattle.cw_dec86.specs.Decoding.{BeginsNone}
 use Rattle.cw_dec86.proofs.Decide.{unknown}
 use Rattle.cw_tmpl.specs.Mnemonics.{bytes_of_all}
 use Rattle.cw_tmpl.specs.Library.{front, joined, routines, library_bytes, no_instruction}
-use Rattle.cw_listed.specs.declared.line.Shown.TheVariants.{Instruction, Byte}
-use Rattle.cw_listed.specs.declared.line.Line.{Line}
-use Rattle.cw_listed.specs.ListedLines.{is_among, Shows, IsLineAt, AreLinesBetween}
+use Rattle.cw_listing.specs.declared.line.Shown.TheVariants.{Instruction, Byte}
+use Rattle.cw_listing.specs.declared.line.Line.{Line}
+use Rattle.cw_listing.specs.Lines.{is_among, Shows, IsLineAt, AreLinesBetween}
 use Rattle.cw_listed.specs.ProgramLines.{instruction_lines, library_lines}
 use Rattle.cw_listed.proofs.Sized.{instr_some}
 use Rattle.cw_listed.proofs.Lines.{instruction_shown}

@@ -18,10 +18,10 @@ use Rattle.cw_tmpl.specs.Mnemonics.{entry_of_table, change_memory, operate_numbe
 use Rattle.cw_tmpl.specs.Pieces.{bytes_with, size_of, target_of, blanks, Filling, word_of, word_before, filled, relocation_of, IsCoded, AllCoded}
 use Rattle.cw_tmpl.proofs.Filling.{size_with}
 use Rattle.cw_tmpl.proofs.Growing.{blanks-append}
-use Rattle.cw_listed.specs.declared.line.Shown.{Shown}
-use Rattle.cw_listed.specs.declared.line.Shown.TheVariants.{Instruction, Word}
-use Rattle.cw_listed.specs.declared.line.Line.{Line}
-use Rattle.cw_listed.specs.ListedLines.{is_among, stands_word, Shows, IsLineAt, AreLinesBetween}
+use Rattle.cw_listing.specs.declared.line.Shown.{Shown}
+use Rattle.cw_listing.specs.declared.line.Shown.TheVariants.{Instruction, Word}
+use Rattle.cw_listing.specs.declared.line.Line.{Line}
+use Rattle.cw_listing.specs.Lines.{is_among, stands_word, Shows, IsLineAt, AreLinesBetween}
 use Rattle.cw_listed.specs.Behind.{is_word, Stands}
 use Rattle.cw_listed.specs.PieceLines.{shown_with, piece_line, piece_lines}
 use Rattle.cw_listed.proofs.Walk.{whole}

@@ -10,7 +10,8 @@ use Rattle.cw_tmpl.specs.declared.pieces.Coded.{Coded}
 use Rattle.cw_tmpl.specs.declared.pieces.Coded.TheVariants as coded
 use Rattle.cw_tmpl.specs.Pieces.{bytes_with, size_of, target_of, blanks, relocation_of, relocation_before, relocations}
 use Rattle.cw_tmpl.proofs.Filling.{place_of}
-use Rattle.cw_listed.specs.Table.{is_among, words_behind, words_behind_call}
+use Rattle.cw_listing.specs.Lines.{is_among}
+use Rattle.cw_listing.specs.Remarks.{words_behind, words_behind_call}
 use Rattle.cw_listed.specs.Behind.{is_word, Stands, places_behind, word_places, IsKnownData, NamesEntries}
 use Rattle.cw_listed.proofs.Walk.{behind_target, passed, is_clear, is_due, is_entry, is_told, coming_behind, are_told, Told, parts}
 use Rattle.cw_listed.proofs.Sized.{piece_some}

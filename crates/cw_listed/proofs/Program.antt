@@ -15,10 +15,11 @@ use Rattle.cw_tmpl.specs.Pieces.{size_of, target_of, blanks, relocation_of, relo
 use Rattle.cw_tmpl.specs.ReferenceCode.{pieces_of, orders_code}
 use Rattle.cw_tmpl.proofs.Filling.{place_of}
 use Rattle.cw_tmpl.proofs.Growing.{relocations-append}
-use Rattle.cw_listed.specs.declared.remark.Remark.{Remark}
-use Rattle.cw_listed.specs.Table.{is_among}
-use Rattle.cw_listed.specs.Table.{words_behind, words_behind_call}
-use Rattle.cw_listed.specs.Remarks.{known_places, roots_of, word_remark, unit_words, data_places, words_from, data_from}
+use Rattle.cw_listing.specs.declared.remark.Remark.{Remark}
+use Rattle.cw_listing.specs.Lines.{is_among}
+use Rattle.cw_listing.specs.Remarks.{words_behind, words_behind_call}
+use Rattle.cw_listed.specs.Behind.{known_places}
+use Rattle.cw_listing.specs.Remarks.{roots_of, word_remark, unit_words, data_places, words_from, data_from}
 use Rattle.cw_listed.specs.Behind.{is_word, Stands, places_behind, word_places}
 use Rattle.cw_listed.proofs.Walk.{Told, both}
 use Rattle.cw_listed.proofs.Blocks.{segment_told}

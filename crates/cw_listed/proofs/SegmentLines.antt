@@ -6,8 +6,8 @@ use Rattle.cw_tmpl.specs.Pieces.{blanks, Filling, filled, AllCoded}
 use Rattle.cw_tmpl.specs.ReferenceCode.{pieces_of}
 use Rattle.cw_tmpl.proofs.Filling.{length-filled}
 use Rattle.cw_tmpl.proofs.Growing.{blanks-append}
-use Rattle.cw_listed.specs.declared.line.Line.{Line}
-use Rattle.cw_listed.specs.ListedLines.{is_among, AreLinesBetween}
+use Rattle.cw_listing.specs.declared.line.Line.{Line}
+use Rattle.cw_listing.specs.Lines.{is_among, AreLinesBetween}
 use Rattle.cw_listed.specs.PieceLines.{piece_lines}
 use Rattle.cw_listed.specs.ProgramLines.{segments_filled, segments_lines, AreCoded}
 use Rattle.cw_listed.specs.Behind.{Stands}

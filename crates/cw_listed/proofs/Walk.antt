@@ -6,7 +6,8 @@ use Rattle.cw_tmpl.specs.declared.pieces.Target.TheVariants as target
 use Rattle.cw_tmpl.specs.declared.pieces.Coded.{Coded}
 use Rattle.cw_tmpl.specs.declared.pieces.Coded.TheVariants as coded
 use Rattle.cw_tmpl.specs.Pieces.{size_of, target_of}
-use Rattle.cw_listed.specs.Table.{is_among, words_behind, named_entries}
+use Rattle.cw_listing.specs.Lines.{is_among}
+use Rattle.cw_listing.specs.Remarks.{words_behind, named_entries}
 
 -- where words stand behind a piece, from its end
 abbrev pub behind_target : Option Target → List ℕ

@@ -1,17 +1,25 @@
 -- The words of data in code, and by what the listing of the code knows them.
 use Rattle.std.specs.Prelude.{ℕ, ◌≡◌, ◌+◌, ◌⊎◌, Bool, true, false, List, ◌∷◌, ◌++◌, length, map, flat_map, Some}
 use Rattle.cw_unit.specs.declared.layout.Reloc.{Reloc}
+use Rattle.cw_unit.specs.declared.unit.Unit.{Unit as SourceUnit}
+use Rattle.cw_tmpl.specs.declared.assembling.Code.{Code}
 use Rattle.cw_tmpl.specs.declared.pieces.Target.TheVariants as target
 use Rattle.cw_tmpl.specs.declared.pieces.Coded.{Coded}
 use Rattle.cw_tmpl.specs.declared.pieces.Coded.TheVariants as coded
 use Rattle.cw_tmpl.specs.Pieces.{blanks, relocations, target_of}
-use Rattle.cw_listed.specs.Table.{is_among, words_behind_call, named_entries}
+use Rattle.cw_listing.specs.Lines.{is_among}
+use Rattle.cw_listing.specs.CodeListing.{words_of, data_of}
+use Rattle.cw_listing.specs.Remarks.{words_behind_call, named_entries}
 
 -- whether a piece of code is a word of data: each other one is an instruction
 abbrev pub is_word : Coded → Bool
 is_word (coded.Word t) = true
 is_word (coded.Data n) = true
 is_word _ = false
+
+-- The places that the listing of a program knows to be those of words: of the relocated words of its segments, and of words behind calls of the library.
+abbrev pub known_places : List SourceUnit → List Code → List ℕ
+known_places us cs = map (λ w. w.place) (words_of us cs) ++ data_of cs
 
 -- A piece stands among pieces, so many bytes behind the beginning of the first one.
 pub record Stands (pieces : List Coded) (offset : ℕ) (piece : Coded) : Type 0 where

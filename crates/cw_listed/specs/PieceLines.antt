@@ -8,9 +8,9 @@ use Rattle.cw_tmpl.specs.declared.pieces.Coded.{Coded}
 use Rattle.cw_tmpl.specs.declared.pieces.Coded.TheVariants as coded
 use Rattle.cw_tmpl.specs.Mnemonics.{entry_of_table, change_memory, operate_number, load, memory, code_at}
 use Rattle.cw_tmpl.specs.Pieces.{size_of, target_of, Filling, word_before}
-use Rattle.cw_listed.specs.declared.line.Shown.{Shown}
-use Rattle.cw_listed.specs.declared.line.Shown.TheVariants.{Instruction, Word}
-use Rattle.cw_listed.specs.declared.line.Line.{Line}
+use Rattle.cw_listing.specs.declared.line.Shown.{Shown}
+use Rattle.cw_listing.specs.declared.line.Shown.TheVariants.{Instruction, Word}
+use Rattle.cw_listing.specs.declared.line.Line.{Line}
 
 -- what a piece is in which this word is filled in: its instruction, or a word of data
 abbrev pub shown_with : ℕ → Coded → Shown

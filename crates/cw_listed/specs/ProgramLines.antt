@@ -7,8 +7,8 @@ use Rattle.cw_tmpl.specs.Mnemonics.{bytes_of_all}
 use Rattle.cw_tmpl.specs.Library.{front, joined, routines, library_bytes}
 use Rattle.cw_tmpl.specs.Pieces.{blanks, Filling, filled, AllCoded}
 use Rattle.cw_tmpl.specs.ReferenceCode.{pieces_of}
-use Rattle.cw_listed.specs.declared.line.Shown.TheVariants.{Instruction, Byte}
-use Rattle.cw_listed.specs.declared.line.Line.{Line}
+use Rattle.cw_listing.specs.declared.line.Shown.TheVariants.{Instruction, Byte}
+use Rattle.cw_listing.specs.declared.line.Line.{Line}
 use Rattle.cw_listed.specs.PieceLines.{piece_lines}
 
 -- ---- the library
