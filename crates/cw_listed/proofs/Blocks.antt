@@ -28,12 +28,18 @@ use Rattle.cw_tmpl.specs.declared.blocks.Use.{Use}
 use Rattle.cw_tmpl.specs.declared.blocks.Use.TheVariants as uses
 use Rattle.cw_tmpl.specs.declared.blocks.Block.{Block}
 use Rattle.cw_tmpl.specs.declared.blocks.Block.TheVariants as block
-use Rattle.cw_tmpl.specs.Mnemonics.{ax, bx, cx, si, di, at_si, compare, load, store, move, add, double, multiply, set_word, jump_if_below, shift_up, shift_up_once, shift_down_signed, shift_down_signed_once, operate_number}
+use Rattle.cw_tmpl.specs.Mnemonics.{ax, bx, cx, si, di, at_si, compare, load, store, move, add, double, multiply, set_word, jump_if_below}
+use Rattle.cw_tmpl.specs.Mnemonics.{shift_up, shift_up_once, shift_down_signed, shift_down_signed_once, operate_number}
 use Rattle.cw_tmpl.specs.Library.{address_entry, bounds_entry}
 use Rattle.cw_tmpl.specs.Names.{Reach, Names, mark_place, call_place}
 use Rattle.cw_tmpl.specs.Blocks.{block_at, orders_left}
-use Rattle.cw_tmpl.specs.Templates.{call_stop, checked_by, branch_by, shifted_up, shifted_down_signed, part_taken, address_pieces, load_place, store_place, operate_place, change_place, index_loaded, from_lower, index_added, address_tested, index_below, index_tested, element_tested, element_address, operand_pieces, operation, product_with, counted, indexes_between, top_from_lower, top_below, times_entry, formed, bounded_address, column_loaded, column_below, row_summed, column_tested, row_address, pieces_size, with_operand, operated, word_compared, block_pieces, block_size, is_short, entry_pieces}
-use Rattle.cw_tmpl.specs.ReferenceCode.{templates, entry_size, landing_where, landings, switch_where, switches, landings_place, switches_place, names_of, pieces_of}
+use Rattle.cw_tmpl.specs.Templates.{call_stop, checked_by, branch_by, shifted_up, shifted_down_signed, part_taken, address_pieces, load_place, store_place}
+use Rattle.cw_tmpl.specs.Templates.{operate_place, change_place, index_loaded, from_lower, index_added, address_tested, index_below, index_tested, element_tested}
+use Rattle.cw_tmpl.specs.Templates.{element_address, operand_pieces, operation, product_with, counted, indexes_between, top_from_lower, top_below, times_entry}
+use Rattle.cw_tmpl.specs.Templates.{formed, bounded_address, column_loaded, column_below, row_summed, column_tested, row_address, pieces_size, with_operand}
+use Rattle.cw_tmpl.specs.Templates.{operated, word_compared, block_pieces, block_size, is_short, entry_pieces}
+use Rattle.cw_tmpl.specs.ReferenceCode.{templates, entry_size, landing_where, landings, switch_where, switches}
+use Rattle.cw_tmpl.specs.ReferenceCode.{landings_place, switches_place, names_of, pieces_of}
 use Rattle.cw_tmpl.specs.Names.{has_landing, landing_bytes, switch_bytes}
 use Rattle.cw_tmpl.specs.Named.{is_named_label, is_named_switch}
 use Rattle.cw_listed.proofs.Walk.{Told, both}
@@ -72,7 +78,9 @@ lower_told (negsuc n) = refl
 
 tested_told : (e : Element) (t : Test) → Told (element_tested e t)
 tested_told e (test.Address origin) =
-    both (index_added e.index e.family origin) (coded.Whole (compare si di) ∷ coded.Whole (jump_if_below 5) ∷ (call_stop address_entry e.line ++ coded.Whole (double si) ∷ []))
+    both (index_added e.index e.family origin)
+    (coded.Whole (compare si di) ∷ coded.Whole (jump_if_below 5)
+    ∷ (call_stop address_entry e.line ++ coded.Whole (double si) ∷ []))
     (added_told e.index e.family origin) refl
 tested_told e (test.Bounds upper line) =
     let below : List Coded = index_below (indexes_between (upper -ℤ e.lower)) line e.family e.first in
@@ -157,7 +165,8 @@ branch_told false c place to = refl
 checked_told : (names : Names) (place number : ℕ) (short : Bool) (ps : List Coded) (line : ℕ) → Told ps
     → Told (ps ++ checked_by short line (place + pieces_size ps) (call_place names number))
 checked_told names place number short ps line h =
-    both ps (checked_by short line (place + pieces_size ps) (call_place names number)) h (check_told short line (place + pieces_size ps) (call_place names number))
+    both ps (checked_by short line (place + pieces_size ps) (call_place names number)) h
+    (check_told short line (place + pieces_size ps) (call_place names number))
 
 operated_told : (names : Names) (place number : ℕ) (short : Bool) (s : Simple) (u : Use) → Told (operated names place number short s u)
 operated_told names place number short s (uses.Add line) = checked_told names place number short (with_operand 0 s) line (with_operand_told 0 s)

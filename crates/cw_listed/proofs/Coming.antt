@@ -1,5 +1,7 @@
 -- Where pieces are told, words of data stand at all places at which they are said to come.
-use Rattle.std.proofs.Common.{◌≡◌, ℕ, zero, suc, ◌+◌, ◌-◌, ◌<◌, ◌≤◌, ◌==◌, nat_lt, nat_le, if◌then◌else◌, Bool, true, false, ◌&&◌, ◌||◌, List, [], ◌∷◌, ◌++◌, length, map, flat_map, Option, Some, None, refl, sym, ap, ap₂, ◌∙◌, subst, arith, append_assoc, length-append, true≢false, ⊎_elim, ◌⊎◌, eq-eqb, ne_eqb, eqb-true, ltb-true, ltb-false, leb-true}
+use Rattle.std.proofs.Common.{◌≡◌, ℕ, zero, suc, ◌+◌, ◌-◌, ◌<◌, ◌≤◌, ◌==◌, nat_lt, nat_le, if◌then◌else◌, Bool, true, false, ◌&&◌, ◌||◌, List}
+use Rattle.std.proofs.Common.{[], ◌∷◌, ◌++◌, length, map, flat_map, Option, Some, None, refl, sym, ap, ap₂, ◌∙◌, subst, arith, append_assoc}
+use Rattle.std.proofs.Common.{length-append, true≢false, ⊎_elim, ◌⊎◌, eq-eqb, ne_eqb, eqb-true, ltb-true, ltb-false, leb-true}
 use Rattle.std.proofs.lemmas.List.{map-append}
 use Rattle.std.proofs.lemmas.List.Concat.{flat_map-append}
 use Rattle.std.proofs.lemmas.Bool.Decides.{eqb_tells}
@@ -22,13 +24,15 @@ clear_of o n h less = by (o == 0) (eqb-true o 0) h
     by true e h = e refl
     by false e h = absurd (omega (arith, leb-true n o h))
 
-moved_clear : (m n k q : ℕ) (os : List ℕ) → k ≡ m + n → is_clear n os ≡ true → (q ≡ m → ⊥) → is_among (from_place m os) q ≡ is_among (from_place k (passed n os)) q
+moved_clear : (m n k q : ℕ) (os : List ℕ) → k ≡ m + n → is_clear n os ≡ true → (q ≡ m → ⊥)
+    → is_among (from_place m os) q ≡ is_among (from_place k (passed n os)) q
 moved_clear m n k q [] e h apart = refl
 moved_clear m n k q (o ∷ os) e h apart =
     let clear = parts (o == 0 || nat_le n o) (is_clear n os) h in
     by (moved_clear m n k q os e clear.1 apart) clear.0 (nat_lt o n) (ltb-true o n) (ltb-false o n)
   where
-    by : is_among (from_place m os) q ≡ is_among (from_place k (passed n os)) q → (o == 0 || nat_le n o) ≡ true → (b : Bool) → (b ≡ true → o < n) → (b ≡ false → n ≤ o)
+    by : is_among (from_place m os) q ≡ is_among (from_place k (passed n os)) q → (o == 0 || nat_le n o) ≡ true
+        → (b : Bool) → (b ≡ true → o < n) → (b ≡ false → n ≤ o)
         → is_among (from_place m (o ∷ os)) q ≡ is_among (from_place k (if b then passed n os else (o - n) ∷ passed n os)) q
     by rest clear true less more =
         let first : o ≡ 0 = clear_of o n clear (less refl) in
@@ -90,7 +94,13 @@ comes_here s at q coming p ps due e h =
     ∙ or_more A (is_among (map (λ r. s + r.place) rs) q) (is_among (places_behind s rs) q) h
 
 word_first : (s q : ℕ) (p : Coded) (ps : List Coded) → q ≡ s → is_word p ≡ true → HasWord (p ∷ ps) s q
-word_first s q p ps e w = record { offset = 0; piece = p; place_is = omega arith; stands = record { before = []; behind = ps; is = refl; offset_is = refl }; is = w }
+word_first s q p ps e w = record {
+  offset = 0;
+  piece = p;
+  place_is = omega arith;
+  stands = record { before = []; behind = ps; is = refl; offset_is = refl };
+  is = w;
+}
 
 word_later : (s q : ℕ) (p : Coded) (ps : List Coded) → HasWord ps (s + size_of p) q → HasWord (p ∷ ps) s q
 word_later s q p ps h = record {
@@ -118,8 +128,8 @@ word_comes s at q coming (p ∷ ps) h c =
     ⊎_elim
     (λ x. word_first (s + at) q p ps x.1 (comes_here s at q coming p ps due.0 x.1 c))
     (λ x. word_later (s + at) q p ps (let same : s + (at + n) ≡ s + at + n = omega arith in
-        let found : HasWord ps (s + (at + n)) q = word_comes s (at + n) q (coming_behind coming p) ps (told_rest coming p ps h)
-            (sym (comes_past s at q coming p ps due.1 x.1) ∙ c) in subst (λ m. HasWord ps m q) same found))
+    let found : HasWord ps (s + (at + n)) q = word_comes s (at + n) q (coming_behind coming p) ps (told_rest coming p ps h)
+    (sym (comes_past s at q coming p ps due.1 x.1) ∙ c) in subst (λ m. HasWord ps m q) same found))
     (eqb_tells q (s + at))
 
 pub words_behind_stand : (ps : List Coded) → Told ps → HasWordsBehind ps

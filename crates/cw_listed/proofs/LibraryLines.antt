@@ -1,5 +1,6 @@
 -- The lines of the library, in code in which no word is known there.
-use Rattle.std.proofs.Common.{◌≡◌, ℕ, zero, suc, ◌+◌, ◌<◌, ◌≤◌, Bool, false, ◌&&◌, nat_lt, List, [], ◌∷◌, ◌++◌, length, drop, None, refl, sym, ap, ap₂, ◌∙◌, subst, arith, append_assoc, append-nil, length-append}
+use Rattle.std.proofs.Common.{◌≡◌, ℕ, zero, suc, ◌+◌, ◌<◌, ◌≤◌, Bool, false, ◌&&◌, nat_lt, List, [], ◌∷◌, ◌++◌, length, drop}
+use Rattle.std.proofs.Common.{None, refl, sym, ap, ap₂, ◌∙◌, subst, arith, append_assoc, append-nil, length-append}
 use Rattle.std.proofs.Math.Seq.{drop-append_seam}
 use Rattle.cw_i86.specs.Encoding.{bytes_of, IsInstr}
 use Rattle.cw_i86.specs.declared.instr.Instr.{Instr}
@@ -16,7 +17,8 @@ use Rattle.cw_listed.proofs.Sized.{instr_some}
 use Rattle.cw_listed.proofs.Lines.{instruction_shown}
 
 -- lines, and others behind them
-pub lines_then : (code words : List ℕ) (a b c : ℕ) (ls ms : List Line) → AreLinesBetween code words a ls b → AreLinesBetween code words b ms c → AreLinesBetween code words a (ls ++ ms) c
+pub lines_then : (code words : List ℕ) (a b c : ℕ) (ls ms : List Line) → AreLinesBetween code words a ls b
+    → AreLinesBetween code words b ms c → AreLinesBetween code words a (ls ++ ms) c
 lines_then code words a b c [] ms h k = subst (λ n. AreLinesBetween code words n ms c) (sym h) k
 lines_then code words a b c (l ∷ ls) ms h k = (h.0, lines_then code words (a + l.size) b c ls ms h.1 k)
 
@@ -37,12 +39,19 @@ instructions_between code words before behind end at (i ∷ is) f e le none all 
     let R = bytes_of_all is in
     let some : 0 < length B = instr_some i in
     let next : code ≡ (before ++ B) ++ (R ++ behind) = e ∙ ap (λ l. before ++ l) (append_assoc B R behind) ∙ sym (append_assoc before B (R ++ behind)) in
-    let here : drop at code ≡ B ++ (R ++ behind) = ap₂ (λ n l. drop n l) f (next ∙ append_assoc before B (R ++ behind)) ∙ drop-append_seam before (B ++ (R ++ behind)) in
+    let here : drop at code ≡ B ++ (R ++ behind) = ap₂ (λ n l. drop n l) f
+    (next ∙ append_assoc before B (R ++ behind)) ∙ drop-append_seam before (B ++ (R ++ behind)) in
     let inside : at + length B ≤ length code = omega (arith, f, ap length next, length-append (before ++ B) (R ++ behind), length-append before B) in
     let further : at + length B + length R ≡ at + length (bytes_of_all (i ∷ is)) = omega (arith, length-append B R) in (
-      record { at = refl; inside = omega (arith, inside, some); shows = instruction_shown code words at i (R ++ behind) (length B) here (none at (omega (arith, le, some, further))) all.0 refl },
+      record {
+        at = refl;
+        inside = omega (arith, inside, some);
+        shows = instruction_shown code words at i (R ++ behind) (length B) here
+            (none at (omega (arith, le, some, further))) all.0 refl;
+      },
       subst (λ n. AreLinesBetween code words (at + length B) (instruction_lines (at + length B) is) n) further
-      (instructions_between code words (before ++ B) behind end (at + length B) is (omega (arith, f, length-append before B)) next (omega (arith, le, further)) none all.1),
+          (instructions_between code words (before ++ B) behind end (at + length B) is
+          (omega (arith, f, length-append before B)) next (omega (arith, le, further)) none all.1),
     )
 
 no_row : (rest : List ℕ) → instr_at (0xCC ∷ rest) ≡ None
@@ -63,7 +72,8 @@ byte_line code words before behind at f e none =
       shows = (ap (λ b. b && nat_lt (at + 1) (length code)) none, subst (λ l. BeginsNone l) (sym here) (begins_none behind), refl);
     }
 
-pub library_shown : (code words behind : List ℕ) → code ≡ library_bytes ++ behind → KnowsNone words (length library_bytes) → AllInstructions front → AllInstructions (joined routines)
+pub library_shown : (code words behind : List ℕ) → code ≡ library_bytes ++ behind
+    → KnowsNone words (length library_bytes) → AllInstructions front → AllInstructions (joined routines)
     → AreLinesBetween code words 0 library_lines (length library_bytes)
 library_shown code words behind e none first last =
     let F = bytes_of_all front in
@@ -75,7 +85,10 @@ library_shown code words behind e none first last =
     lines_then code words 0 (length F) (length library_bytes) (instruction_lines 0 front)
     (record { place = length F; size = 1; shown = Byte } ∷ instruction_lines (length F + 1) (joined routines))
     (subst (λ n. AreLinesBetween code words 0 (instruction_lines 0 front) n) (let same : 0 + length F ≡ length F = omega arith in same)
-    (instructions_between code words [] (no_instruction ∷ (R ++ behind)) (length library_bytes) 0 front refl whole (omega (arith, long)) none first))
-    (byte_line code words F (R ++ behind) (length F) refl whole (none (length F) (omega (arith, long))),
-    subst (λ n. AreLinesBetween code words (length F + 1) (instruction_lines (length F + 1) (joined routines)) n) (let same : length F + 1 + length R ≡ length library_bytes = omega (arith, long) in same)
-    (instructions_between code words (F ++ no_instruction ∷ []) behind (length library_bytes) (length F + 1) (joined routines) start second (omega (arith, long)) none last))
+    (instructions_between code words [] (no_instruction ∷ (R ++ behind)) (length library_bytes) 0 front refl whole (omega (arith, long)) none first)) (
+      byte_line code words F (R ++ behind) (length F) refl whole (none (length F) (omega (arith, long))),
+      subst (λ n. AreLinesBetween code words (length F + 1) (instruction_lines (length F + 1) (joined routines)) n)
+          (let same : length F + 1 + length R ≡ length library_bytes = omega (arith, long) in same)
+          (instructions_between code words (F ++ no_instruction ∷ []) behind (length library_bytes) (length F + 1)
+          (joined routines) start second (omega (arith, long)) none last),
+    )

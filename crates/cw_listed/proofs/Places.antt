@@ -1,5 +1,7 @@
 -- Where pieces are told, a word is known exactly at the places of words.
-use Rattle.std.proofs.Common.{◌≡◌, ℕ, zero, suc, ◌+◌, ◌-◌, ◌<◌, ◌≤◌, ◌==◌, nat_lt, if◌then◌else◌, Bool, true, false, not, ◌&&◌, ◌||◌, List, [], ◌∷◌, ◌++◌, length, map, flat_map, Option, Some, None, refl, sym, ap, ap₂, ◌∙◌, subst, arith, append_assoc, length-append, true≢false, ⊎_elim, eq-eqb, ne_eqb, ltb-true, ltb-false}
+use Rattle.std.proofs.Common.{◌≡◌, ℕ, zero, suc, ◌+◌, ◌-◌, ◌<◌, ◌≤◌, ◌==◌, nat_lt, if◌then◌else◌, Bool, true, false, not, ◌&&◌, ◌||◌}
+use Rattle.std.proofs.Common.{List, [], ◌∷◌, ◌++◌, length, map, flat_map, Option, Some, None, refl, sym, ap, ap₂, ◌∙◌, subst, arith}
+use Rattle.std.proofs.Common.{append_assoc, length-append, true≢false, ⊎_elim, eq-eqb, ne_eqb, ltb-true, ltb-false}
 use Rattle.std.proofs.lemmas.List.{map-append}
 use Rattle.std.proofs.lemmas.List.Concat.{flat_map-append}
 use Rattle.std.proofs.lemmas.List.Folds.{list_any-append}
@@ -68,7 +70,8 @@ moved_on m n k q (o ∷ os) e le = by (moved_on m n k q os e le) (nat_lt o n) (l
 
 -- ---- the places that relocations tell
 
-pub word_places-append : (s q : ℕ) (rs ts : List Reloc) → is_among (word_places s (rs ++ ts)) q ≡ (is_among (word_places s rs) q || is_among (word_places s ts) q)
+pub word_places-append : (s q : ℕ) (rs ts : List Reloc)
+    → is_among (word_places s (rs ++ ts)) q ≡ (is_among (word_places s rs) q || is_among (word_places s ts) q)
 word_places-append s q rs ts =
     let at : Reloc → ℕ = λ r. s + r.place in
     let A = is_among (map at rs) q in
@@ -94,7 +97,8 @@ one_told s end q (target.Library k) le = refl
 one_told s end q (target.LibraryAhead k) le =
     let same : s + (end - 2) + 2 ≡ s + end = omega arith in
     ap (λ m. (s + (end - 2) == q) || is_among (from_place m (words_behind k) ++ []) q) same
-    ∙ ap (λ b. (s + (end - 2) == q) || b) (among-append (from_place (s + end) (words_behind k)) [] q ∙ or-false (is_among (from_place (s + end) (words_behind k)) q))
+    ∙ ap (λ b. (s + (end - 2) == q) || b) (among-append (from_place (s + end) (words_behind k)) [] q
+    ∙ or-false (is_among (from_place (s + end) (words_behind k)) q))
 one_told s end q (target.Limit l) le = refl
 one_told s end q target.NextSegment le = refl
 
@@ -246,7 +250,8 @@ known_data ps h s offset p st =
 
 -- ---- entries
 
-entry_at : (coming : List ℕ) (before : List Coded) (p : Coded) (behind : List Coded) → are_told coming (before ++ (p ∷ behind)) ≡ true → is_entry (target_of p) ≡ true
+entry_at : (coming : List ℕ) (before : List Coded) (p : Coded) (behind : List Coded)
+    → are_told coming (before ++ (p ∷ behind)) ≡ true → is_entry (target_of p) ≡ true
 entry_at coming [] p behind h = told_entry coming p (told_first coming p behind h)
 entry_at coming (b ∷ bs) p behind h = entry_at (coming_behind coming b) bs p behind (told_rest coming b (bs ++ (p ∷ behind)) h)
 

@@ -1,5 +1,6 @@
 -- The words that the listing knows in a program are those of the pieces of its segments.
-use Rattle.std.proofs.Common.{◌≡◌, ℕ, zero, suc, ◌+◌, ◌-◌, ◌<◌, ◌≤◌, Bool, true, false, ◌||◌, List, [], ◌∷◌, ◌++◌, length, map, flat_map, Option, Some, None, refl, sym, ap, ap₂, ◌∙◌, arith, append_assoc, length-append}
+use Rattle.std.proofs.Common.{◌≡◌, ℕ, zero, suc, ◌+◌, ◌-◌, ◌<◌, ◌≤◌, Bool, true, false, ◌||◌, List, [], ◌∷◌, ◌++◌, length, map}
+use Rattle.std.proofs.Common.{flat_map, Option, Some, None, refl, sym, ap, ap₂, ◌∙◌, arith, append_assoc, length-append}
 use Rattle.std.specs.Prelude.{slice_get}
 use Rattle.std.proofs.lemmas.List.{map-append}
 use Rattle.std.proofs.lemmas.List.Concat.{flat_map-append}
@@ -45,7 +46,9 @@ moved_places s m at to (p ∷ ps) e =
     ∙ ap₂ (λ a b. a ++ b) (one (size_of p) (target_of p) (sized p)) (moved_places s m (at + size_of p) (to + size_of p) ps (omega arith))
     ∙ sym (map-append (λ (r : Reloc). s + r.place) (relocation_before (to + size_of p) (target_of p)) (relocations (to + size_of p) ps))
   where
-    one : (n : ℕ) (t : Option Target) → Sized t n → map (λ r. m + r.place) (relocation_before (at + n) t) ≡ map (λ r. s + r.place) (relocation_before (to + n) t)
+    one : (n : ℕ) (t : Option Target) → Sized t n
+        → map (λ r. m + r.place) (relocation_before (at + n) t)
+        ≡ map (λ r. s + r.place) (relocation_before (to + n) t)
     one n None h = refl
     one n (Some t) h =
         ap (λ x. x ∷ []) (ap (λ k. m + k) (place_of (at + n - 2) t) ∙ (let same : m + (at + n - 2) ≡ s + (to + n - 2) = omega (arith, h) in same)
@@ -67,11 +70,13 @@ moved_words s m at ps e = ap₂ (λ a b. a ++ b) (moved_places s m 0 at ps (omeg
 
 -- ---- segments
 
-places_of_words : (start : ℕ) (u : SourceUnit) (roots : List ℕ) (rs : List Reloc) → map (λ w. w.place) (map (word_remark start u roots) rs) ≡ map (λ r. start + r.place) rs
+places_of_words : (start : ℕ) (u : SourceUnit) (roots : List ℕ) (rs : List Reloc)
+    → map (λ w. w.place) (map (word_remark start u roots) rs) ≡ map (λ r. start + r.place) rs
 places_of_words start u roots [] = refl
 places_of_words start u roots (r ∷ rs) = ap (λ l. (start + r.place) ∷ l) (places_of_words start u roots rs)
 
-unit_places : (start : ℕ) (us : List SourceUnit) (k : ℕ) (c : Code) → k < length us → map (λ w. w.place) (unit_words start (slice_get us k) c) ≡ map (λ r. start + r.place) c.relocs
+unit_places : (start : ℕ) (us : List SourceUnit) (k : ℕ) (c : Code) → k < length us
+    → map (λ w. w.place) (unit_words start (slice_get us k) c) ≡ map (λ r. start + r.place) c.relocs
 unit_places start [] k c less = absurd (omega arith)
 unit_places start (u ∷ us) zero c less = places_of_words start u (roots_of u) c.relocs
 unit_places start (u ∷ us) (suc k) c less = unit_places start us k c (omega arith)

@@ -22,7 +22,8 @@ use Rattle.cw_listed.proofs.SegmentLines.{segments_shown}
 use Rattle.cw_listed.proofs.Program.{program_known, library_known}
 
 pub program_shown : (us : List SourceUnit) (os : List Orders) (values : List Filling) → length os ≤ length us → length values ≡ length os → AreCoded os
-    → AllInstructions front → AllInstructions (joined routines) → AreLines (program_code values os) (known_places us (map orders_code os)) (program_lines values os)
+    → AllInstructions front → AllInstructions (joined routines)
+    → AreLines (program_code values os) (known_places us (map orders_code os)) (program_lines values os)
 program_shown us os values few same coded first last =
     let L = length library_bytes in
     let code = program_code values os in
@@ -54,7 +55,8 @@ program_lines_are stands us os values lines few same coded h =
     one_way (program_code values os) (known_places us (map orders_code os)) 0 lines (program_lines values os) h
     (program_shown us os values few same coded (first_instructions stands) (last_instructions stands))
 
-pub program_text : LibraryStands → (us : List SourceUnit) (os : List Orders) (values : List Filling) (sources : List (List ℕ)) (text : List ℕ) → length os ≤ length us
+pub program_text : LibraryStands → (us : List SourceUnit) (os : List Orders) (values : List Filling)
+    (sources : List (List ℕ)) (text : List ℕ) → length os ≤ length us
     → length values ≡ length os → AreCoded os → IsCodeListing (program_code values os) us (map orders_code os) sources text
     → text ≡ listing (program_code values os) (program_lines values os) (notes_of us (map orders_code os) sources) (words_of us (map orders_code os))
 program_text stands us os values sources text few same coded h =

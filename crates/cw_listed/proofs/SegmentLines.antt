@@ -1,5 +1,6 @@
 -- The lines of segments, in code in which a word is known exactly at the places of words.
-use Rattle.std.proofs.Common.{◌≡◌, ℕ, zero, suc, ◌+◌, List, [], ◌∷◌, ◌++◌, length, flat_map, refl, sym, ap, ◌∙◌, subst, arith, append_assoc, append-nil, length-append}
+use Rattle.std.proofs.Common.{◌≡◌, ℕ, zero, suc, ◌+◌, List, [], ◌∷◌, ◌++◌, length, flat_map, refl, sym}
+use Rattle.std.proofs.Common.{ap, ◌∙◌, subst, arith, append_assoc, append-nil, length-append}
 use Rattle.cw_order.specs.declared.order.Orders.{Orders}
 use Rattle.cw_tmpl.specs.declared.pieces.Coded.{Coded}
 use Rattle.cw_tmpl.specs.Pieces.{blanks, Filling, filled, AllCoded}
@@ -19,11 +20,13 @@ stands_between : (done ps rest : List Coded) (offset : ℕ) (p : Coded) → Stan
 stands_between done ps rest offset p st = record {
   before = done ++ st.before;
   behind = st.behind ++ rest;
-  is = ap (λ l. done ++ (l ++ rest)) st.is ∙ ap (λ l. done ++ l) (append_assoc st.before (p ∷ st.behind) rest) ∙ sym (append_assoc done st.before (p ∷ (st.behind ++ rest)));
+  is = ap (λ l. done ++ (l ++ rest)) st.is ∙ ap (λ l. done ++ l) (append_assoc st.before (p ∷ st.behind) rest)
+      ∙ sym (append_assoc done st.before (p ∷ (st.behind ++ rest)));
   offset_is = ap (λ n. length (blanks done) + n) st.offset_is ∙ sym (ap length (blanks-append done st.before) ∙ length-append (blanks done) (blanks st.before));
 }
 
-pub segments_shown : (code words before : List ℕ) (values : List Filling) (done : List Coded) (os : List Orders) (base at : ℕ) → at ≡ length before → at ≡ base + length (blanks done)
+pub segments_shown : (code words before : List ℕ) (values : List Filling) (done : List Coded) (os : List Orders)
+    (base at : ℕ) → at ≡ length before → at ≡ base + length (blanks done)
     → code ≡ before ++ segments_filled values at os → KnowsWords words base (done ++ flat_map pieces_of os) → AreCoded os → length values ≡ length os
     → AreLinesBetween code words at (segments_lines values at os) (length code)
 segments_shown code words before [] done [] base at f b e knows coded same = f ∙ sym (ap length (e ∙ append-nil before))
@@ -38,8 +41,10 @@ segments_shown code words before (v ∷ vs) done (o ∷ os) base at f b e knows 
     let long : length F ≡ n = length-filled v at ps in
     let next : code ≡ (before ++ F) ++ S = e ∙ sym (append_assoc before F S) in
     let own : KnowsWords words at ps = λ offset p st.
-        ap (λ m. is_among words (m + offset)) b ∙ ap (is_among words) (let same : base + length (blanks done) + offset ≡ base + (length (blanks done) + offset) = omega arith in same)
-        ∙ knows (length (blanks done) + offset) p (stands_between done ps rest offset p st) in
+    ap (λ m. is_among words (m + offset)) b
+    ∙ ap (is_among words) (let same : base + length (blanks done) + offset
+    ≡ base + (length (blanks done) + offset) = omega arith in same)
+    ∙ knows (length (blanks done) + offset) p (stands_between done ps rest offset p st) in
     lines_then code words at (at + n) (length code) (piece_lines v at ps) (segments_lines vs (at + n) os)
     (lines_from code words before S v [] ps at at f (omega arith) e own coded.0)
     (segments_shown code words (before ++ F) vs (done ++ ps) os base (at + n) (omega (arith, f, long, length-append before F))

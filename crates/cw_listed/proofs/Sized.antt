@@ -24,7 +24,11 @@ acc_some false bytes opcode = omega arith
 
 pub instr_some : (i : Instr) → 0 < length (bytes_of i)
 instr_some (i86.AluRm op wide to_reg reg rm) = rm_some (8 * op + 2 * bit to_reg + bit wide) reg rm
-instr_some (i86.AluImm op rm imm) = omega (arith, length-append (with_rm (0x80 + bit (is_word imm)) op rm) (imm_bytes imm), rm_some (0x80 + bit (is_word imm)) op rm)
+instr_some (i86.AluImm op rm imm) = omega (
+  arith,
+  length-append (with_rm (0x80 + bit (is_word imm)) op rm) (imm_bytes imm),
+  rm_some (0x80 + bit (is_word imm)) op rm,
+)
 instr_some (i86.AluShort op rm imm) = omega (arith, length-append (with_rm 0x83 op rm) (imm ∷ []), rm_some 0x83 op rm)
 instr_some (i86.TestRm wide reg rm) = rm_some (0x84 + bit wide) reg rm
 instr_some (i86.XchgRm wide reg rm) = rm_some (0x86 + bit wide) reg rm
@@ -33,7 +37,11 @@ instr_some (i86.Lea reg mem) = mem_some 0x8D reg mem.cs mem.place
 instr_some (i86.MovAcc cs wide store at) = acc_some cs _ (0xA0 + 2 * bit store + bit wide)
 instr_some (i86.MovRm rm imm) = omega (arith, length-append (with_rm (0xC6 + bit (is_word imm)) 0 rm) (imm_bytes imm), rm_some (0xC6 + bit (is_word imm)) 0 rm)
 instr_some (i86.Shift op wide by_cl rm) = rm_some (0xD0 + 2 * bit by_cl + bit wide) op rm
-instr_some (i86.TestImm rm imm) = omega (arith, length-append (with_rm (0xF6 + bit (is_word imm)) 0 rm) (imm_bytes imm), rm_some (0xF6 + bit (is_word imm)) 0 rm)
+instr_some (i86.TestImm rm imm) = omega (
+  arith,
+  length-append (with_rm (0xF6 + bit (is_word imm)) 0 rm) (imm_bytes imm),
+  rm_some (0xF6 + bit (is_word imm)) 0 rm,
+)
 instr_some (i86.Unary op wide rm) = rm_some (0xF6 + bit wide) op rm
 instr_some (i86.IncDec down wide rm) = rm_some (0xFE + bit wide) (bit down) rm
 instr_some (i86.CallRm rm) = rm_some 0xFF 2 rm

@@ -38,7 +38,8 @@ word_places start rs = map (λ r. start + r.place) rs ++ places_behind start rs
 
 -- Where a piece begins, the listing shows a word exactly if the piece is one.
 abbrev pub IsKnownData : List Coded → Type 0
-IsKnownData pieces = (start offset : ℕ) (piece : Coded) → Stands pieces offset piece → is_among (word_places start (relocations 0 pieces)) (start + offset) ≡ is_word piece
+IsKnownData pieces = (start offset : ℕ) (piece : Coded) → Stands pieces offset piece
+    → is_among (word_places start (relocations 0 pieces)) (start + offset) ≡ is_word piece
 
 -- a word of data stands at a place, in pieces that stand from a place on
 pub record HasWord (pieces : List Coded) (start place : ℕ) : Type 0 where

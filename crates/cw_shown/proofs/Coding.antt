@@ -13,7 +13,8 @@ use Rattle.cw_tmpl.specs.Names.{Names, mark_place, has_landing, landing_bytes, s
 use Rattle.cw_tmpl.specs.Named.{is_named_label, is_named_switch}
 use Rattle.cw_tmpl.specs.Pieces.{Filling, IsCoded, AllCoded}
 use Rattle.cw_tmpl.specs.Templates.{block_pieces, block_size, is_short, entry_pieces}
-use Rattle.cw_tmpl.specs.ReferenceCode.{templates, entry_size, landing_where, landings, switch_where, switches, landings_place, switches_place, names_of, pieces_of}
+use Rattle.cw_tmpl.specs.ReferenceCode.{templates, entry_size, landing_where, landings, switch_where, switches}
+use Rattle.cw_tmpl.specs.ReferenceCode.{landings_place, switches_place, names_of, pieces_of}
 use Rattle.cw_follow.specs.Placing.{Fills}
 use Rattle.cw_follow.proofs.Fits.{AllFit, fits_at}
 use Rattle.cw_follow.proofs.Fine.{IsFine, AllFine, all_fine-append, entry_fine, base_fine, switch_fine, block_fine}
@@ -60,7 +61,8 @@ module _ (p : OrderProgram) (segment next : ℕ) (value : Filling) (fills : Fill
   landings_fine names named place l [] = tt
   landings_fine names named place l (m ∷ ms) =
       let has = has_landing named l m in
-      all_fine-append value (landing_where has names place m) (landings names named (place + landing_bytes has) (suc l) ms) (landing_where_fine has names place m)
+      all_fine-append value (landing_where has names place m)
+      (landings names named (place + landing_bytes has) (suc l) ms) (landing_where_fine has names place m)
       (landings_fine names named (place + landing_bytes has) (suc l) ms)
 
   switch_where_fine : (has : Bool) (names : Names) (place : ℕ) (gs : List Goal) → length gs < 32768 → AllFine value (switch_where has names place gs)

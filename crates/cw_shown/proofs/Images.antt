@@ -30,15 +30,15 @@ record AreFilled (place : ℕ) (os : List Orders) (codes : List ℕ) : Type 0 wh
   is : codes ≡ segments_filled values place os
   coded : AreCoded os
 
-
 -- the way on is a place
-way_near : {p : OrderProgram} {segment place : ℕ} {os : List Orders} {codes : List ℕ} → AreCodes p segment place os codes → place + length codes ≤ 65536 → place_after os place < 65536
+way_near : {p : OrderProgram} {segment place : ℕ} {os : List Orders} {codes : List ℕ}
+    → AreCodes p segment place os codes → place + length codes ≤ 65536 → place_after os place < 65536
 way_near no_code le = omega arith
 way_near {place = place} (a_code {o = o} {codes = codes} value fills more) le =
     let names = names_of o in
     let rest : List Coded =
-        templates names entry_size 0 0 o.list
-        ++ (landings names (is_named_label o) (landings_place o) 0 o.labels ++ switches names (is_named_switch o) (switches_place o) 0 o.switches) in
+    templates names entry_size 0 0 o.list
+    ++ (landings names (is_named_label o) (landings_place o) 0 o.labels ++ switches names (is_named_switch o) (switches_place o) 0 o.switches) in
     omega (
       arith,
       length-append (filled value place (pieces_of o)) codes,
@@ -52,7 +52,9 @@ all_filled : {p : OrderProgram} {segment place : ℕ} {os : List Orders} {codes 
 all_filled no_code le fits = record { values = []; each = refl; is = refl; coded = tt }
 all_filled {p = p} {segment = segment} {place = place} (a_code {o = o} {os = os} {codes = codes} value fills more) le fits =
     let n = length (blanks (pieces_of o)) in
-    let within : place + n + length codes ≤ 65536 = omega (arith, le, length-append (filled value place (pieces_of o)) codes, length-filled value place (pieces_of o)) in
+    let within : place + n + length codes ≤ 65536 = omega
+    (arith, le, length-append (filled value place (pieces_of o)) codes, length-filled value place (pieces_of o))
+    in
     let rest = all_filled more within (λ g x e. fits (suc g) x e) in
     let own = fits 0 o refl in
     record {
@@ -74,7 +76,8 @@ order_fits p codable g o is k x e =
 
 abbrev pub TellsText : Type 0
 TellsText =
-    (us : List SourceUnit) (os : List Orders) (values : List Filling) (sources : List (List ℕ)) (text : List ℕ) → length os ≤ length us → length values ≡ length os
+    (us : List SourceUnit) (os : List Orders) (values : List Filling) (sources : List (List ℕ)) (text : List ℕ)
+    → length os ≤ length us → length values ≡ length os
     → AreCoded os → IsCodeListing (program_code values os) us (map orders_code os) sources text
     → text ≡ listing (program_code values os) (program_lines values os) (notes_of us (map orders_code os) sources) (words_of us (map orders_code os))
 

@@ -8,7 +8,8 @@ use Rattle.cw_listing.specs.Listing.{listing}
 use Rattle.cw_listing.specs.CodeListing.{notes_of, words_of}
 use Rattle.cw_listed.specs.ProgramLines.{program_code, program_lines}
 
--- The image is the library and the codes of segments with words filled in, and the text has a line for each instruction of the library and for each piece of these.
+-- The image is the library and the codes of segments with words filled in, and the text has a line for each
+-- instruction of the library and for each piece of these.
 pub record ShowsPieces (os : List Orders) (image : List ℕ) (us : List SourceUnit) (sources : List (List ℕ)) (text : List ℕ) : Type 0 where
   pub values : List Filling
   pub each : length values ≡ length os

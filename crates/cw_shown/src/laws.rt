@@ -9,7 +9,8 @@ ghost use Rattle.cw_shown.specs.Shown.{ShowsPieces};
 
 use cw_listed::laws::program_shown;
 
-/// A listing of the image of a program that code can carry out shows each piece of its code, as an instruction or as a word, and each instruction of the library.
+/// A listing of the image of a program that code can carry out shows each piece of its code, as an instruction or as
+/// a word, and each instruction of the library.
 pub fn image_shown()
     ensures { (p : OrderProgram) (image : List ℕ) (us : List SourceUnit) (sources : List (List ℕ)) (text : List ℕ) → IsImage p image → Codable p →
         length p.units ≤ length us → IsCodeListing image us (map orders_code p.units) sources text → ShowsPieces p.units image us sources text }
