@@ -1,6 +1,5 @@
 -- The code of each block is told, and so is that of a segment.
-use Rattle.std.proofs.Common.{◌≡◌, ℕ, zero, suc, ◌+◌, ◌*◌, ◌%◌, ◌==◌, ℤ, pos, negsuc, ◌-ℤ◌, if◌then◌else◌, Bool, true, false, List, [], ◌∷◌, ◌++◌, length, refl}
-use Rattle.cw_i86.specs.declared.instr.Instr.TheVariants as i86
+use Rattle.std.proofs.Common.{ℕ, zero, suc, ◌+◌, ◌==◌, ℤ, pos, negsuc, ◌-ℤ◌, if◌then◌else◌, Bool, true, false, List, [], ◌∷◌, ◌++◌, refl}
 use Rattle.cw_run86.specs.Views.{with_number}
 use Rattle.cw_word.specs.BitField.{field_mask}
 use Rattle.cw_unit.specs.declared.unit.Goal.{Goal}
@@ -28,14 +27,14 @@ use Rattle.cw_tmpl.specs.declared.blocks.Use.{Use}
 use Rattle.cw_tmpl.specs.declared.blocks.Use.TheVariants as uses
 use Rattle.cw_tmpl.specs.declared.blocks.Block.{Block}
 use Rattle.cw_tmpl.specs.declared.blocks.Block.TheVariants as block
-use Rattle.cw_tmpl.specs.Mnemonics.{ax, bx, cx, si, di, at_si, compare, load, store, move, add, double, multiply, set_word, jump_if_below}
-use Rattle.cw_tmpl.specs.Mnemonics.{shift_up, shift_up_once, shift_down_signed, shift_down_signed_once, operate_number}
-use Rattle.cw_tmpl.specs.Library.{address_entry, bounds_entry}
-use Rattle.cw_tmpl.specs.Names.{Reach, Names, mark_place, call_place}
+use Rattle.cw_tmpl.specs.Mnemonics.{ax, bx, cx, si, di, at_si, compare, load, store, add, double, multiply, set_word, jump_if_below}
+use Rattle.cw_tmpl.specs.Mnemonics.{shift_up, shift_up_once, shift_down_signed, shift_down_signed_once}
+use Rattle.cw_tmpl.specs.Library.{address_entry}
+use Rattle.cw_tmpl.specs.Names.{Names, mark_place, call_place}
 use Rattle.cw_tmpl.specs.Blocks.{block_at, orders_left}
-use Rattle.cw_tmpl.specs.Templates.{call_stop, checked_by, branch_by, shifted_up, shifted_down_signed, part_taken, address_pieces, load_place, store_place}
-use Rattle.cw_tmpl.specs.Templates.{operate_place, change_place, index_loaded, from_lower, index_added, address_tested, index_below, index_tested, element_tested}
-use Rattle.cw_tmpl.specs.Templates.{element_address, operand_pieces, operation, product_with, counted, indexes_between, top_from_lower, top_below, times_entry}
+use Rattle.cw_tmpl.specs.Templates.{call_stop, checked_by, branch_by, shifted_up, part_taken, address_pieces, load_place, store_place}
+use Rattle.cw_tmpl.specs.Templates.{operate_place, change_place, index_loaded, from_lower, index_added, index_below, element_tested}
+use Rattle.cw_tmpl.specs.Templates.{element_address, operation, product_with, indexes_between, top_from_lower, top_below, times_entry}
 use Rattle.cw_tmpl.specs.Templates.{formed, bounded_address, column_loaded, column_below, row_summed, column_tested, row_address, pieces_size, with_operand}
 use Rattle.cw_tmpl.specs.Templates.{operated, word_compared, block_pieces, block_size, is_short, entry_pieces}
 use Rattle.cw_tmpl.specs.ReferenceCode.{templates, entry_size, landing_where, landings, switch_where, switches}

@@ -1,7 +1,7 @@
 -- Where pieces are told, words of data stand at all places at which they are said to come.
-use Rattle.std.proofs.Common.{◌≡◌, ℕ, zero, suc, ◌+◌, ◌-◌, ◌<◌, ◌≤◌, ◌==◌, nat_lt, nat_le, if◌then◌else◌, Bool, true, false, ◌&&◌, ◌||◌, List}
-use Rattle.std.proofs.Common.{[], ◌∷◌, ◌++◌, length, map, flat_map, Option, Some, None, refl, sym, ap, ap₂, ◌∙◌, subst, arith, append_assoc}
-use Rattle.std.proofs.Common.{length-append, true≢false, ⊎_elim, ◌⊎◌, eq-eqb, ne_eqb, eqb-true, ltb-true, ltb-false, leb-true}
+use Rattle.std.proofs.Common.{◌≡◌, ℕ, ◌+◌, ◌-◌, ◌<◌, ◌≤◌, ◌==◌, nat_lt, nat_le, if◌then◌else◌, Bool, true, false, ◌||◌, List}
+use Rattle.std.proofs.Common.{[], ◌∷◌, ◌++◌, map, Option, Some, None, refl, sym, ap, ap₂, ◌∙◌, subst, arith}
+use Rattle.std.proofs.Common.{length-append, true≢false, ⊎_elim, ne_eqb, eqb-true, ltb-true, ltb-false, leb-true}
 use Rattle.std.proofs.lemmas.List.{map-append}
 use Rattle.std.proofs.lemmas.List.Concat.{flat_map-append}
 use Rattle.std.proofs.lemmas.Bool.Decides.{eqb_tells}
@@ -12,9 +12,9 @@ use Rattle.cw_tmpl.specs.declared.pieces.Coded.{Coded}
 use Rattle.cw_tmpl.specs.Pieces.{bytes_with, size_of, target_of, blanks, relocation_of, relocation_before, relocations}
 use Rattle.cw_listing.specs.Lines.{is_among}
 use Rattle.cw_listing.specs.Remarks.{words_behind, words_behind_call}
-use Rattle.cw_listed.specs.Behind.{is_word, Stands, places_behind, word_places, HasWord, HasWordsBehind}
-use Rattle.cw_listed.proofs.Walk.{behind_target, passed, is_clear, is_due, is_told, coming_behind, is_none, are_told, Told, parts}
-use Rattle.cw_listed.proofs.Places.{or_assoc, or-false, among-append, from_place, Sized, sized, known, known_here, told_first, told_rest, told_due}
+use Rattle.cw_listed.specs.Behind.{is_word, places_behind, HasWord, HasWordsBehind}
+use Rattle.cw_listed.proofs.Walk.{behind_target, passed, is_clear, is_due, coming_behind, is_none, are_told, Told, parts}
+use Rattle.cw_listed.proofs.Places.{or_assoc, or-false, among-append, from_place, Sized, sized, known_here, told_first, told_rest, told_due}
 
 -- behind so many bytes in which none comes but at their beginning, the offsets count from their end
 clear_of : (o n : ℕ) → (o == 0 || nat_le n o) ≡ true → o < n → o ≡ 0

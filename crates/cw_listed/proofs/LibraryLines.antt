@@ -1,5 +1,5 @@
 -- The lines of the library, in code in which no word is known there.
-use Rattle.std.proofs.Common.{◌≡◌, ℕ, zero, suc, ◌+◌, ◌<◌, ◌≤◌, Bool, false, ◌&&◌, nat_lt, List, [], ◌∷◌, ◌++◌, length, drop}
+use Rattle.std.proofs.Common.{◌≡◌, ℕ, ◌+◌, ◌<◌, ◌≤◌, false, ◌&&◌, nat_lt, List, [], ◌∷◌, ◌++◌, length, drop}
 use Rattle.std.proofs.Common.{None, refl, sym, ap, ap₂, ◌∙◌, subst, arith, append_assoc, append-nil, length-append}
 use Rattle.std.proofs.Math.Seq.{drop-append_seam}
 use Rattle.cw_i86.specs.Encoding.{bytes_of, IsInstr}
@@ -9,9 +9,9 @@ use Rattle.cw_dec86.specs.Decoding.{BeginsNone}
 use Rattle.cw_dec86.proofs.Decide.{unknown}
 use Rattle.cw_tmpl.specs.Mnemonics.{bytes_of_all}
 use Rattle.cw_tmpl.specs.Library.{front, joined, routines, library_bytes, no_instruction}
-use Rattle.cw_listing.specs.declared.line.Shown.TheVariants.{Instruction, Byte}
+use Rattle.cw_listing.specs.declared.line.Shown.TheVariants.{Byte}
 use Rattle.cw_listing.specs.declared.line.Line.{Line}
-use Rattle.cw_listing.specs.Lines.{is_among, Shows, IsLineAt, AreLinesBetween}
+use Rattle.cw_listing.specs.Lines.{is_among, IsLineAt, AreLinesBetween}
 use Rattle.cw_listed.specs.ProgramLines.{instruction_lines, library_lines}
 use Rattle.cw_listed.proofs.Sized.{instr_some}
 use Rattle.cw_listed.proofs.Lines.{instruction_shown}

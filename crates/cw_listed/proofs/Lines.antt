@@ -1,6 +1,6 @@
 -- Where a word is known exactly at the places of words, the lines of filled code are its pieces.
-use Rattle.std.proofs.Common.{◌≡◌, ℕ, zero, suc, ◌+◌, ◌*◌, ◌/◌, ◌%◌, ◌<◌, ◌≤◌, ◌^◌, Bool, true, false, ◌&&◌, nat_lt, List, [], ◌∷◌, ◌++◌, length}
-use Rattle.std.proofs.Common.{drop, Option, Some, None, refl, sym, ap, ap₂, ◌∙◌, subst, arith, append_assoc, length-append, lt-ltb, true≢false}
+use Rattle.std.proofs.Common.{◌≡◌, ℕ, ◌+◌, ◌*◌, ◌/◌, ◌%◌, ◌<◌, ◌≤◌, ◌^◌, Bool, true, false, ◌&&◌, nat_lt, List, [], ◌∷◌, ◌++◌, length}
+use Rattle.std.proofs.Common.{drop, refl, sym, ap, ap₂, ◌∙◌, subst, arith, append_assoc, length-append, lt-ltb, true≢false}
 use Rattle.std.proofs.Math.Seq.{drop-append_seam}
 use Rattle.cw_i86.specs.Encoding.{bytes_of, word, IsInstr}
 use Rattle.cw_i86.specs.declared.instr.Instr.{Instr}
@@ -10,21 +10,16 @@ use Rattle.cw_i86.specs.declared.instr.Place.TheVariants as places
 use Rattle.cw_i86.specs.declared.instr.Rm.{Rm}
 use Rattle.cw_i86.specs.declared.instr.Rm.TheVariants as rms
 use Rattle.cw_run86.specs.Views.{with_memory}
-use Rattle.cw_dec86.specs.Decoding.{Reads}
-use Rattle.cw_dec86.specs.declared.Decoded.TheVariants.{Done}
-use Rattle.cw_tmpl.specs.declared.pieces.Target.{Target}
 use Rattle.cw_tmpl.specs.declared.pieces.Coded.{Coded}
 use Rattle.cw_tmpl.specs.declared.pieces.Coded.TheVariants as coded
 use Rattle.cw_tmpl.specs.Mnemonics.{entry_of_table, change_memory, operate_number, load, memory, code_at}
-use Rattle.cw_tmpl.specs.Pieces.{bytes_with, size_of, target_of, blanks, Filling, word_of, word_before, filled, relocation_of, IsCoded, AllCoded}
+use Rattle.cw_tmpl.specs.Pieces.{bytes_with, size_of, target_of, blanks, Filling, word_before, filled, IsCoded, AllCoded}
 use Rattle.cw_tmpl.proofs.Filling.{size_with}
 use Rattle.cw_tmpl.proofs.Growing.{blanks-append}
-use Rattle.cw_listing.specs.declared.line.Shown.{Shown}
 use Rattle.cw_listing.specs.declared.line.Shown.TheVariants.{Instruction, Word}
-use Rattle.cw_listing.specs.declared.line.Line.{Line}
-use Rattle.cw_listing.specs.Lines.{is_among, stands_word, Shows, IsLineAt, AreLinesBetween}
+use Rattle.cw_listing.specs.Lines.{is_among, Shows, AreLinesBetween}
 use Rattle.cw_listed.specs.Behind.{is_word, Stands}
-use Rattle.cw_listed.specs.PieceLines.{shown_with, piece_line, piece_lines}
+use Rattle.cw_listed.specs.PieceLines.{shown_with, piece_lines}
 use Rattle.cw_listed.proofs.Walk.{whole}
 use Rattle.cw_listed.proofs.Sized.{piece_some}
 

@@ -1,29 +1,27 @@
 -- The code of each order alone is told.
-use Rattle.std.proofs.Common.{◌≡◌, ℕ, zero, suc, ◌+◌, ◌*◌, ◌-◌, ◌%◌, ◌^◌, ◌==◌, nat_lt, nat_le, ℤ, pos, negsuc}
-use Rattle.std.proofs.Common.{if◌then◌else◌, Bool, true, false, List, [], ◌∷◌, ◌++◌, length, refl}
+use Rattle.std.proofs.Common.{ℕ, zero, suc, ◌+◌, ◌-◌, ◌^◌, ◌==◌, nat_lt, nat_le, ℤ, pos, negsuc}
+use Rattle.std.proofs.Common.{if◌then◌else◌, Bool, true, false, List, [], ◌∷◌, ◌++◌, refl}
 use Rattle.cw_i86.specs.declared.instr.Instr.{Instr}
 use Rattle.cw_i86.specs.declared.instr.Instr.TheVariants as i86
 use Rattle.cw_run86.specs.Views.{with_number}
 use Rattle.cw_word.specs.BitField.{field_mask}
-use Rattle.cw_word.specs.Word.{unsigned}
 use Rattle.cw_unit.specs.declared.unit.Goal.{Goal}
 use Rattle.cw_unit.specs.declared.unit.Goal.TheVariants as goal
 use Rattle.cw_order.specs.declared.order.LabelMark.{LabelMark}
-use Rattle.cw_order.specs.declared.order.Comparator.{Comparator}
 use Rattle.cw_order.specs.declared.order.Order.{Order}
 use Rattle.cw_order.specs.declared.order.Order.TheVariants as order
 use Rattle.cw_order.specs.declared.order.Place.{Place}
 use Rattle.cw_order.specs.declared.order.Place.TheVariants as cell
 use Rattle.cw_tmpl.specs.declared.pieces.Coded.{Coded}
 use Rattle.cw_tmpl.specs.declared.pieces.Coded.TheVariants as coded
-use Rattle.cw_tmpl.specs.Mnemonics.{ax, bx, cx, di, si, sp, bp, at_bx, set_word, load, store, move, add, exchange, double, either, multiply, operate, change}
-use Rattle.cw_tmpl.specs.Mnemonics.{shift_up, shift_down, shift_down_signed, shift_up_once, shift_down_once, shift_down_signed_once, jump_if_unequal}
-use Rattle.cw_tmpl.specs.Library.{overflow_entry, zero_divisor_entry, address_entry, product_entry, quotient_up_entry, quotient_down_entry}
-use Rattle.cw_tmpl.specs.Names.{Names, mark_place, label_start, own, call_place}
-use Rattle.cw_tmpl.specs.Templates.{times_if, times, shifted, shifted_up, shifted_down, shifted_down_signed, lowest_if, taken, taken_signed, part_taken, load_top, load_part, store_part}
-use Rattle.cw_tmpl.specs.Templates.{rescale_if, rescale, product_start, product_up, product_down, product, take_two, divisor_tested, by_routine, quotient, in_area, less_bound, plus_word}
-use Rattle.cw_tmpl.specs.Templates.{times_width, base_kept, based, element, in_row, element_of_two, entry, in_bounds, entered, mark_words, goal_word, goal_words, loop_way, loop_ways}
-use Rattle.cw_tmpl.specs.Templates.{step_taken, switch_way, switch_pieces, landing_pieces, entry_pieces, template, short_template, template_by}
+use Rattle.cw_tmpl.specs.Mnemonics.{ax, cx, at_bx, move, operate, change}
+use Rattle.cw_tmpl.specs.Mnemonics.{shift_up, shift_down, shift_down_signed, shift_up_once, shift_down_once, shift_down_signed_once}
+use Rattle.cw_tmpl.specs.Library.{overflow_entry, address_entry}
+use Rattle.cw_tmpl.specs.Names.{Names, mark_place}
+use Rattle.cw_tmpl.specs.Templates.{times_if, times, shifted, shifted_up, shifted_down, shifted_down_signed, lowest_if, part_taken, store_part}
+use Rattle.cw_tmpl.specs.Templates.{rescale_if, product_down, product, quotient, less_bound, plus_word}
+use Rattle.cw_tmpl.specs.Templates.{times_width, based, element, in_row, element_of_two, entry, in_bounds, entered, mark_words, goal_words, loop_ways}
+use Rattle.cw_tmpl.specs.Templates.{step_taken, switch_pieces, landing_pieces, entry_pieces, template, short_template, template_by}
 use Rattle.cw_listed.proofs.Walk.{Told, both}
 
 -- ---- arithmetic

@@ -1,7 +1,7 @@
 -- Where pieces are told, a word is known exactly at the places of words.
 use Rattle.std.proofs.Common.{◌≡◌, ℕ, zero, suc, ◌+◌, ◌-◌, ◌<◌, ◌≤◌, ◌==◌, nat_lt, if◌then◌else◌, Bool, true, false, not, ◌&&◌, ◌||◌}
-use Rattle.std.proofs.Common.{List, [], ◌∷◌, ◌++◌, length, map, flat_map, Option, Some, None, refl, sym, ap, ap₂, ◌∙◌, subst, arith}
-use Rattle.std.proofs.Common.{append_assoc, length-append, true≢false, ⊎_elim, eq-eqb, ne_eqb, ltb-true, ltb-false}
+use Rattle.std.proofs.Common.{List, [], ◌∷◌, ◌++◌, length, map, Option, Some, None, refl, sym, ap, ap₂, ◌∙◌, arith}
+use Rattle.std.proofs.Common.{length-append, ⊎_elim, eq-eqb, ne_eqb, ltb-true, ltb-false}
 use Rattle.std.proofs.lemmas.List.{map-append}
 use Rattle.std.proofs.lemmas.List.Concat.{flat_map-append}
 use Rattle.std.proofs.lemmas.List.Folds.{list_any-append}
@@ -11,10 +11,9 @@ use Rattle.cw_tmpl.specs.declared.pieces.Target.TheVariants as target
 use Rattle.cw_tmpl.specs.declared.pieces.Coded.{Coded}
 use Rattle.cw_tmpl.specs.declared.pieces.Coded.TheVariants as coded
 use Rattle.cw_tmpl.specs.Pieces.{bytes_with, size_of, target_of, blanks, relocation_of, relocation_before, relocations}
-use Rattle.cw_tmpl.proofs.Filling.{place_of}
 use Rattle.cw_listing.specs.Lines.{is_among}
 use Rattle.cw_listing.specs.Remarks.{words_behind, words_behind_call}
-use Rattle.cw_listed.specs.Behind.{is_word, Stands, places_behind, word_places, IsKnownData, NamesEntries}
+use Rattle.cw_listed.specs.Behind.{is_word, places_behind, word_places, IsKnownData, NamesEntries}
 use Rattle.cw_listed.proofs.Walk.{behind_target, passed, is_clear, is_due, is_entry, is_told, coming_behind, are_told, Told, parts}
 use Rattle.cw_listed.proofs.Sized.{piece_some}
 

@@ -1,12 +1,12 @@
 -- The lines of a program are those of the library, and those of the pieces of its segments.
-use Rattle.std.proofs.Common.{◌≡◌, ℕ, ◌+◌, ◌≤◌, List, [], ◌∷◌, ◌++◌, length, map, flat_map, refl, sym, ap, ◌∙◌, subst, arith, append-nil}
+use Rattle.std.proofs.Common.{◌≡◌, ℕ, ◌+◌, ◌≤◌, List, [], ◌∷◌, ◌++◌, length, map, refl, sym, ap, ◌∙◌, arith, append-nil}
 use Rattle.cw_i86.specs.declared.instr.Instr.{Instr}
 use Rattle.cw_unit.specs.declared.unit.Unit.{Unit as SourceUnit}
 use Rattle.cw_order.specs.declared.order.Orders.{Orders}
 use Rattle.cw_tmpl.specs.Library.{library_bytes, front, joined, routines}
 use Rattle.cw_tmpl.specs.Pieces.{Filling}
-use Rattle.cw_tmpl.specs.ReferenceCode.{pieces_of, orders_code}
-use Rattle.cw_listing.specs.Lines.{AreLines, AreLinesBetween}
+use Rattle.cw_tmpl.specs.ReferenceCode.{orders_code}
+use Rattle.cw_listing.specs.Lines.{AreLines}
 use Rattle.cw_listed.specs.Behind.{known_places}
 use Rattle.cw_listed.specs.ProgramLines.{library_lines, segments_filled, segments_lines, AreCoded, program_code, program_lines}
 use Rattle.cw_listing.specs.declared.line.Line.{Line}

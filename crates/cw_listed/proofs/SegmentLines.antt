@@ -1,13 +1,12 @@
 -- The lines of segments, in code in which a word is known exactly at the places of words.
-use Rattle.std.proofs.Common.{◌≡◌, ℕ, zero, suc, ◌+◌, List, [], ◌∷◌, ◌++◌, length, flat_map, refl, sym}
+use Rattle.std.proofs.Common.{◌≡◌, ℕ, ◌+◌, List, [], ◌∷◌, ◌++◌, length, flat_map, sym}
 use Rattle.std.proofs.Common.{ap, ◌∙◌, subst, arith, append_assoc, append-nil, length-append}
 use Rattle.cw_order.specs.declared.order.Orders.{Orders}
 use Rattle.cw_tmpl.specs.declared.pieces.Coded.{Coded}
-use Rattle.cw_tmpl.specs.Pieces.{blanks, Filling, filled, AllCoded}
+use Rattle.cw_tmpl.specs.Pieces.{blanks, Filling, filled}
 use Rattle.cw_tmpl.specs.ReferenceCode.{pieces_of}
 use Rattle.cw_tmpl.proofs.Filling.{length-filled}
 use Rattle.cw_tmpl.proofs.Growing.{blanks-append}
-use Rattle.cw_listing.specs.declared.line.Line.{Line}
 use Rattle.cw_listing.specs.Lines.{is_among, AreLinesBetween}
 use Rattle.cw_listed.specs.PieceLines.{piece_lines}
 use Rattle.cw_listed.specs.ProgramLines.{segments_filled, segments_lines, AreCoded}
