@@ -1,8 +1,7 @@
 -- The image of a program is the library and the codes of its segments, in which words are filled in.
-use Rattle.std.proofs.Common.{◌≡◌, ℕ, zero, suc, ◌+◌, ◌<◌, ◌≤◌, List, [], ◌∷◌, ◌++◌, length, map, Some, refl, sym, ap, ◌∙◌, subst, arith, length-append}
+use Rattle.std.proofs.Common.{◌≡◌, ℕ, suc, ◌+◌, ◌<◌, ◌≤◌, List, [], ◌∷◌, ◌++◌, length, map, Some, refl, sym, ap, ◌∙◌, subst, arith, length-append}
 use Rattle.std.specs.Prelude.{slice_get}
 use Rattle.cw_unit.specs.declared.unit.Unit.{Unit as SourceUnit}
-use Rattle.cw_unit.specs.declared.unit.Goal.{Goal}
 use Rattle.cw_order.specs.declared.order.Order.{Order}
 use Rattle.cw_order.specs.declared.order.Order.TheVariants as order
 use Rattle.cw_order.specs.declared.order.Orders.{Orders}
@@ -15,8 +14,8 @@ use Rattle.cw_tmpl.specs.ReferenceCode.{templates, landings, switches, landings_
 use Rattle.cw_tmpl.specs.Named.{is_named_label, is_named_switch}
 use Rattle.cw_tmpl.proofs.Filling.{length-filled}
 use Rattle.cw_tmpl.proofs.Growing.{blanks-append}
-use Rattle.cw_follow.specs.Placing.{Fills, AreCodes, no_code, a_code, place_after, IsImage, Codable}
-use Rattle.cw_follow.proofs.Fits.{OrderFits, NumberFits, AllFit}
+use Rattle.cw_follow.specs.Placing.{AreCodes, no_code, a_code, place_after, IsImage, Codable}
+use Rattle.cw_follow.proofs.Fits.{NumberFits, AllFit}
 use Rattle.cw_listing.specs.Listing.{listing}
 use Rattle.cw_listing.specs.CodeListing.{IsCodeListing, notes_of, words_of}
 use Rattle.cw_listed.specs.ProgramLines.{segments_filled, AreCoded, program_code, program_lines}
