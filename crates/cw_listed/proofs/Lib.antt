@@ -1,0 +1,12 @@
+pub mod Walk
+pub mod Sized
+pub mod Orders
+pub mod Blocks
+pub mod Places
+pub mod Coming
+pub mod Listed
+pub mod Lines
+pub mod LibraryLines
+pub mod SegmentLines
+pub mod Program
+pub mod ProgramShown

@@ -1,0 +1,4 @@
+//! What a listing shows of the image of a program: laws alone.
+#![tactic(auto)]
+
+pub mod laws;
