@@ -236,6 +236,6 @@ fn actions(rt: HostRuntime) -> Result<(), Fail> {
         assert_eq!(rt; flat(alloc, text.as_str())?.as_str(), wanted);
         count = count.wrapping_add(1);
     }
-    assert_eq!(rt; count, 79);
+    assert_eq!(rt; count, 80);
     Ok(())
 }
