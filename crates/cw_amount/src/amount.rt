@@ -1,6 +1,7 @@
 //! Whole numbers, octal ones, and signs before them.
 ghost use Rattle.std.specs.Prelude.{◌≡◌, ◌≤◌, ◌<◌, ◌^◌, IfSome};
-ghost use Rattle.cw_amount.specs.Amounts.{octal_value, all_octal, octal, whole, int_amount, is_negative, with_sign, sint_amount, octal_word, place_amount, place_sint, number_position, int_position};
+ghost use Rattle.cw_amount.specs.Amounts.{octal_value, all_octal, octal, whole, int_amount, is_negative, with_sign, sint_amount};
+ghost use Rattle.cw_amount.specs.Amounts.{octal_word, place_amount, place_sint, number_position, int_position};
 
 use cw_tree::leaf::{AddOp, Position, RawInt, RawSign, RawSint};
 use cw_word::Num;

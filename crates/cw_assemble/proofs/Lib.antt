@@ -1,3 +1,4 @@
 pub mod Factors
 pub mod Composed
 pub mod Flags
+pub mod BeforeChecks

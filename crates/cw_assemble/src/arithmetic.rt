@@ -5,7 +5,8 @@ ghost use Rattle.cw_order.specs.HasCode.{HasCode};
 ghost use Rattle.cw_order.specs.declared.order.Order.TheVariants as order;
 ghost use Rattle.cw_tmpl.specs.Assembling.{Adds};
 ghost use Rattle.cw_tmpl.specs.Names.{no_names};
-ghost use Rattle.cw_tmpl.specs.Templates.{template, checked, unless_overflow, on_both, with_word, times_if, times, rescale_if, rescale, by_routine, product_start, product_up, product_down, product, divisor_tested, quotient, block_pieces};
+ghost use Rattle.cw_tmpl.specs.Templates.{template, checked, unless_overflow, on_both, with_word, times_if, times, rescale_if, rescale, by_routine};
+ghost use Rattle.cw_tmpl.specs.Templates.{product_start, product_up, product_down, product, divisor_tested, quotient, block_pieces};
 
 use crate::words::power;
 use cw_i86::{Instr, Rm};

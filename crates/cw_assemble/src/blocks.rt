@@ -10,7 +10,11 @@ ghost use Rattle.cw_tmpl.specs.declared.pieces.Target.TheVariants as target;
 ghost use Rattle.cw_tmpl.specs.declared.pieces.Coded.TheVariants as coded;
 ghost use Rattle.cw_tmpl.specs.declared.blocks.Block.TheVariants as block;
 ghost use Rattle.cw_tmpl.specs.declared.blocks.Simple.TheVariants as simple;
-ghost use Rattle.cw_tmpl.specs.Templates.{address_pieces, load_place, store_place, operate_place, change_place, index_added, index_loaded, from_lower, indexes_between, index_below, address_tested, index_tested, element_address, operation, with_operand, product_with, pieces_size, checked_by, branch_by, template_by, operated, word_compared, top_from_lower, times_entry, formed, bounded_address, block_pieces};
+ghost use Rattle.cw_tmpl.specs.Templates.{address_pieces, load_place, store_place, operate_place, change_place};
+ghost use Rattle.cw_tmpl.specs.Templates.{index_added, index_loaded, from_lower, indexes_between};
+ghost use Rattle.cw_tmpl.specs.Templates.{index_below, address_tested, index_tested, element_address, operation};
+ghost use Rattle.cw_tmpl.specs.Templates.{with_operand, product_with, pieces_size, checked_by};
+ghost use Rattle.cw_tmpl.specs.Templates.{branch_by, template_by, operated, word_compared, top_from_lower, times_entry, formed, bounded_address, block_pieces};
 
 use crate::calling::frame_field;
 use crate::checks::{put_check, put_count};
@@ -342,7 +346,10 @@ fn put_sum(
 ) -> Result<(), NoMemory>
     requires number { number < 8 }
     requires within { OperandWithin operand }
-    ensures { OnOk result (Adds code.old (with_operand number operand ++ checked_by short line (length code.old.bytes + pieces_size (with_operand number operand)) to) code.new) }
+    ensures { OnOk result
+        (Adds code.old (with_operand number operand
+        ++ checked_by short line (length code.old.bytes + pieces_size (with_operand number operand)) to)
+        code.new) }
 {
     put_with_operand(code, number, operand)?;
     put_check(code, short, line, to)
@@ -357,7 +364,9 @@ fn put_product(
     to: u64,
 ) -> Result<(), NoMemory>
     requires { OperandWithin operand }
-    ensures { OnOk result (Adds code.old (product_with operand ++ checked_by short line (length code.old.bytes + pieces_size (product_with operand)) to) code.new) }
+    ensures { OnOk result
+        (Adds code.old (product_with operand ++ checked_by short line
+        (length code.old.bytes + pieces_size (product_with operand)) to) code.new) }
 {
     put_product_with(code, operand)?;
     put_check(code, short, line, to)
@@ -398,7 +407,9 @@ fn put_comparison(
     to: u64,
 ) -> Result<(), NoMemory>
     requires { OperandWithin operand }
-    ensures { OnOk result (Adds code.old (with_operand 7 operand ++ branch_by short comparator (length code.old.bytes + pieces_size (with_operand 7 operand)) to) code.new) }
+    ensures { OnOk result
+        (Adds code.old (with_operand 7 operand ++ branch_by short comparator
+        (length code.old.bytes + pieces_size (with_operand 7 operand)) to) code.new) }
 {
     put_with_operand(code, 7, operand)?;
     put_branch(code, short, comparator, to)
@@ -467,7 +478,10 @@ fn put_compare_word(
     comparator: Comparator,
     to: u64,
 ) -> Result<(), NoMemory>
-    ensures { OnOk result (Adds code.old (word_compared offset with ++ branch_by short comparator (length code.old.bytes + pieces_size (word_compared offset with)) to) code.new) }
+    ensures { OnOk result
+        (Adds code.old (word_compared offset with
+        ++ branch_by short comparator (length code.old.bytes + pieces_size (word_compared offset with)) to)
+        code.new) }
 {
     put_word_compared(code, offset, with)?;
     put_branch(code, short, comparator, to)

@@ -10,7 +10,7 @@ use crate::arithmetic::put_checked;
 use crate::jumping::short_distance;
 use cw_i86::Instr;
 use cw_tmpl::instructions::{
-    AX, BX, add, copy, decrease, increase, jump_if_overflow, multiply, negate, subtract,
+    AX, BX, add, copy, decrease, increase, jump_if_overflow, negate, subtract,
 };
 use cw_tmpl::{Assembly, Coded};
 use cw_word::NoMemory;
@@ -48,7 +48,9 @@ pub(crate) fn put_count(
 
 /// Adds a sum whose check jumps back.
 pub(crate) fn put_add_back(code: &mut Assembly, line: u16, to: u64) -> Result<(), NoMemory>
-    ensures { OnOk result (Adds code.old (coded.Whole (i86.Pop 3) ∷ coded.Whole (mnemonics.add 0 3) ∷ checked_by true line (length code.old.bytes + 3) to) code.new) }
+    ensures { OnOk result
+        (Adds code.old (coded.Whole (i86.Pop 3) ∷ coded.Whole (mnemonics.add 0 3)
+        ∷ checked_by true line (length code.old.bytes + 3) to) code.new) }
 {
     let end = code.bytes.as_slice().len() + 3 + 2;
     code.put_all(&[
@@ -60,7 +62,10 @@ pub(crate) fn put_add_back(code: &mut Assembly, line: u16, to: u64) -> Result<()
 
 /// Adds a difference whose check jumps back.
 pub(crate) fn put_sub_back(code: &mut Assembly, line: u16, to: u64) -> Result<(), NoMemory>
-    ensures { OnOk result (Adds code.old (coded.Whole (mnemonics.move 3 0) ∷ coded.Whole (i86.Pop 0) ∷ coded.Whole (mnemonics.subtract 0 3) ∷ checked_by true line (length code.old.bytes + 5) to) code.new) }
+    ensures { OnOk result
+        (Adds code.old (coded.Whole (mnemonics.move 3 0) ∷ coded.Whole (i86.Pop 0)
+        ∷ coded.Whole (mnemonics.subtract 0 3) ∷ checked_by true line (length code.old.bytes + 5) to)
+        code.new) }
 {
     let end = code.bytes.as_slice().len() + 5 + 2;
     code.put_all(&[
@@ -78,18 +83,6 @@ pub(crate) fn put_neg_back(code: &mut Assembly, line: u16, to: u64) -> Result<()
     let end = code.bytes.as_slice().len() + 2 + 2;
     code.put_all(&[
         Coded::Whole(negate(AX)),
-        Coded::Whole(jump_if_overflow(short_distance(end, to))),
-    ])
-}
-
-/// Adds a product whose check jumps back.
-pub(crate) fn put_mul_back(code: &mut Assembly, line: u16, to: u64) -> Result<(), NoMemory>
-    ensures { OnOk result (Adds code.old (coded.Whole (i86.Pop 3) ∷ coded.Whole (mnemonics.multiply 3) ∷ checked_by true line (length code.old.bytes + 3) to) code.new) }
-{
-    let end = code.bytes.as_slice().len() + 3 + 2;
-    code.put_all(&[
-        Coded::Whole(Instr::Pop(BX)),
-        Coded::Whole(multiply(BX)),
         Coded::Whole(jump_if_overflow(short_distance(end, to))),
     ])
 }

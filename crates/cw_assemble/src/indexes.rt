@@ -5,7 +5,8 @@ ghost use Rattle.cw_tmpl.specs.declared.pieces.Coded.TheVariants as coded;
 ghost use Rattle.cw_tmpl.specs.Assembling.{Adds};
 ghost use Rattle.cw_tmpl.specs.Library.{address_entry};
 ghost use Rattle.cw_tmpl.specs.Mnemonics.{move};
-ghost use Rattle.cw_tmpl.specs.Templates.{index_by, less_bound, plus_word, times, times_width, base_kept, based, element, in_row, element_of_two, entry, in_area, call_at_line, indexes_between, top_below, with_both_bounds, in_bounds};
+ghost use Rattle.cw_tmpl.specs.Templates.{index_by, less_bound, plus_word, times, times_width, base_kept, based, element, in_row, element_of_two};
+ghost use Rattle.cw_tmpl.specs.Templates.{entry, in_area, call_at_line, indexes_between, top_below, with_both_bounds, in_bounds};
 
 use crate::arithmetic::put_times;
 use cw_i86::Instr;

@@ -4,7 +4,9 @@ ghost use Rattle.cw_run86.specs.Views.{condition_of};
 ghost use Rattle.cw_order.specs.declared.order.Order.TheVariants as order;
 ghost use Rattle.cw_tmpl.specs.Assembling.{Adds};
 ghost use Rattle.cw_tmpl.specs.Names.{no_names};
-ghost use Rattle.cw_tmpl.specs.Templates.{template, past_limit, number_compared, mark_words, goal_words, loop_way, switch_tested, switch_way, switch_pieces, base_jump, switch_near, jump_where, short_where, jump_near, jump_short, distance, short_distance, comparison_of, opposite_of};
+ghost use Rattle.cw_tmpl.specs.Templates.{template, past_limit, number_compared, mark_words, goal_words, loop_way};
+ghost use Rattle.cw_tmpl.specs.Templates.{switch_tested, switch_way, switch_pieces, base_jump};
+ghost use Rattle.cw_tmpl.specs.Templates.{switch_near, jump_where, short_where, jump_near, jump_short, distance, short_distance, comparison_of, opposite_of};
 ghost use Rattle.cw_tmpl.specs.ReferenceCode.{landing_where, switch_where};
 
 use cw_i86::Instr;

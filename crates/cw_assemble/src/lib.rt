@@ -3,6 +3,7 @@
 
 mod arithmetic;
 mod assembling;
+mod backward;
 mod blocks;
 mod calling;
 mod checks;

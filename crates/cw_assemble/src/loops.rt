@@ -36,7 +36,9 @@ fn put_place_doubled(code: &mut Assembly, place: Place) -> Result<(), NoMemory>
 
 /// Adds the step of the loop whose words BX tells, and a jump to a place where its body follows, past which it goes on behind the line.
 fn put_step(code: &mut Assembly, line: u16, to: u64) -> Result<(), NoMemory>
-    ensures { OnOk result (Adds code.old (call_library next_step_entry ∷ coded.Whole (i86.JumpIf (condition_of Greater) 5) ∷ jump_near (length code.old.bytes + 8) to ∷ coded.Data line ∷ []) code.new) }
+    ensures { OnOk result
+        (Adds code.old (call_library next_step_entry ∷ coded.Whole (i86.JumpIf (condition_of Greater) 5)
+        ∷ jump_near (length code.old.bytes + 8) to ∷ coded.Data line ∷ []) code.new) }
 {
     let end = code.bytes.as_slice().len() + 8;
     code.put_all(&[

@@ -1,6 +1,8 @@
 //! Which switches and labels of a unit something names.
 ghost use Rattle.std.specs.Prelude.{◌≡◌, ℕ, ◌<◌, ◌||◌, ◌&&◌, false, length, IfOk};
-ghost use Rattle.cw_tmpl.specs.Named.{is_number, switch_of_order, switch_of_shared, label_of_order, label_of_shared, label_of_goal, orders_name_switch, shared_has_switch, orders_name_label, shared_has_label, goals_list_label, is_named_switch, switches_list_label, is_named_label};
+ghost use Rattle.cw_tmpl.specs.Named.{is_number, switch_of_order, switch_of_shared, label_of_order, label_of_shared};
+ghost use Rattle.cw_tmpl.specs.Named.{label_of_goal, orders_name_switch, shared_has_switch};
+ghost use Rattle.cw_tmpl.specs.Named.{orders_name_label, shared_has_label, goals_list_label, is_named_switch, switches_list_label, is_named_label};
 ghost use Rattle.cw_assemble.specs.Flags.{flag, AreFlags};
 
 use cw_order::{Order, Orders};
@@ -139,7 +141,9 @@ fn set_labels_of_goals(flags: &mut Vec<bool>, goals: &[Goal])
 fn set_labels_of_switches(flags: &mut Vec<bool>, orders: &Orders, named: &[bool])
     requires { AreFlags named.now (length orders.now.switches) (is_named_switch orders.now) }
     ensures long { length flags.new.items ≡ length flags.old.items }
-    ensures each { (k : ℕ) → k < length flags.old.items → flag flags.new.items k ≡ (flag flags.old.items k || switches_list_label (is_named_switch orders.now) 0 orders.now.switches k) }
+    ensures each { (k : ℕ) → k < length flags.old.items
+        → flag flags.new.items k
+        ≡ (flag flags.old.items k || switches_list_label (is_named_switch orders.now) 0 orders.now.switches k) }
 {
     let switches = orders.switches.as_slice();
     for number in 0..switches.len() {

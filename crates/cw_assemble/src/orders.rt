@@ -9,11 +9,12 @@ ghost use Rattle.cw_tmpl.specs.Templates.{template, short_template};
 use crate::arithmetic::{
     put_checked, put_less, put_on_both, put_product, put_quotient, put_rescale, put_with_word,
 };
+use crate::backward::{put_product_back, put_quotient_back, put_rescale_back};
 use crate::calling::{
     put_bind, put_bind_frame, put_call, put_call_common, put_call_special, put_control, put_enter,
     put_frame_home, put_read_byte, put_return, put_special_out,
 };
-use crate::checks::{put_add_back, put_mul_back, put_neg_back, put_sub_back};
+use crate::checks::{put_add_back, put_neg_back, put_sub_back};
 use crate::indexes::{
     put_call_at_line, put_element, put_element_of_two, put_entry, put_in_area, put_in_bounds,
 };
@@ -229,7 +230,9 @@ pub(crate) fn put_short_order(
         Order::Add(line) => put_add_back(code, *line, call),
         Order::Sub(line) => put_sub_back(code, *line, call),
         Order::Neg(line) => put_neg_back(code, *line, call),
-        Order::Mul { power: 0, line } => put_mul_back(code, *line, call),
+        Order::Rescale { from, to, line } => put_rescale_back(code, *line, *from, *to, call),
+        Order::Mul { power, line } => put_product_back(code, *line, *power, call),
+        Order::Div { power, line } => put_quotient_back(code, *line, *power, call),
         Order::Jump(mark) => put_short_jump(code, u64::from(names.mark(*mark))),
         Order::JumpIf { comparator, mark } => {
             put_short_jump_if(code, *comparator, u64::from(names.mark(*mark)))

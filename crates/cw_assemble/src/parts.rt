@@ -2,7 +2,8 @@
 ghost use Rattle.std.specs.Prelude.{◌≡◌, ◌≤◌, ◌+◌, ◌==◌, OnOk};
 ghost use Rattle.cw_i86.specs.Encoding.{IsInstr};
 ghost use Rattle.cw_tmpl.specs.Assembling.{Adds};
-ghost use Rattle.cw_tmpl.specs.Templates.{shifted, shifted_up, shifted_down, shifted_down_signed, lowest_if, taken, taken_signed, part_taken, load_part, store_part};
+ghost use Rattle.cw_tmpl.specs.Templates.{shifted, shifted_up, shifted_down, shifted_down_signed, lowest_if};
+ghost use Rattle.cw_tmpl.specs.Templates.{taken, taken_signed, part_taken, load_part, store_part};
 
 use crate::words::{mask, ones};
 use cw_i86::Instr;

@@ -54,7 +54,10 @@ fn columns_between(row: Row) -> u16
 /// Adds the comparison of the index in SI with its bounds, and the address.
 fn put_column_compared(code: &mut Assembly, row: Row) -> Result<(), NoMemory>
     requires { row_within row ≡ true }
-    ensures { OnOk result (Adds code.old (from_lower row.columns.lower ++ (column_below row.columns.line (indexes_between (row.columns.upper -ℤ row.columns.lower)) ++ row_summed row)) code.new) }
+    ensures { OnOk result
+        (Adds code.old (from_lower row.columns.lower
+        ++ (column_below row.columns.line (indexes_between (row.columns.upper -ℤ row.columns.lower))
+        ++ row_summed row)) code.new) }
 {
     let count = columns_between(row);
     put_from_lower(code, row.columns.lower)?;

@@ -6,14 +6,16 @@ ghost use Rattle.cw_tmpl.specs.Blocks.{NamesParts};
 ghost use Rattle.cw_tmpl.specs.declared.blocks.Block.TheVariants as block;
 ghost use Rattle.cw_tmpl.specs.declared.blocks.Simple.TheVariants as simple;
 ghost use Rattle.cw_order.specs.declared.order.Place.TheVariants as cell;
-ghost use Rattle.cw_tmpl.specs.Templates.{address_pieces, load_place, store_place, pieces_size, field_size, frame_size, word_compared, doubled_size, loop_ways_size, order_size, saved, block_size, argument_load_size};
-ghost use Rattle.cw_tmpl.specs.Sizes.{index_size, lower_size, element_size, used_size, shift_size, part_size, times_size, width_size, bound_size, word_size, bounds_size, top_lower_size, formed_size, listed_size, column_size};
+ghost use Rattle.cw_tmpl.specs.Templates.{address_pieces, load_place, store_place, pieces_size, field_size, frame_size, word_compared};
+ghost use Rattle.cw_tmpl.specs.Templates.{doubled_size, loop_ways_size, order_size, saved, block_size, argument_load_size};
+ghost use Rattle.cw_tmpl.specs.Sizes.{index_size, lower_size, element_size, used_size, shift_size, part_size, times_size, width_size};
+ghost use Rattle.cw_tmpl.specs.Sizes.{bound_size, word_size, bounds_size, top_lower_size, formed_size, listed_size, column_size};
 
 use crate::calling::bytes_of_words;
 use crate::words::power;
 use cw_order::{Comparator, Order, Place};
 use cw_tmpl::laws::sizes;
-use cw_tmpl::{Block, Bounded, Column, Element, Form, Row, Simple, Test, Use};
+use cw_tmpl::{Block, Bounded, Column, Element, Form, Row, Simple, Test, Use, is_checked};
 use cw_word::NoMemory;
 
 /// How many bytes a multiplication by a number has.
@@ -450,7 +452,9 @@ fn saved(block: Block, order: &Order) -> u32
     match block {
         Block::Single => match order {
             Order::Add(_) | Order::Sub(_) | Order::Neg(_) => 5,
-            Order::Mul { power: 0, .. } => 5,
+            Order::Rescale { from, to, .. } if from <= to => 5,
+            Order::Mul { power, .. } if is_checked(*power) => 5,
+            Order::Div { .. } => 5,
             Order::Jump(_) => 1,
             Order::JumpIf { .. } => 3,
             Order::LoopWay(marks) => match marks.as_slice() {

@@ -15,7 +15,8 @@ use std::test::Fail;
 const TRACES: [(&[&str], &str, &str); 2] = [
     (
         &[
-            "LIBRARY (PROCEDURE WRITEBYTE(VALUE INTEGER));~SEGMENT A~BEGIN~INTEGER X, I;~X := 3;~FOR I := 1 STEP 1 UNTIL 2 DO~IF X > 3 THEN X := X - 1~ELSE X := X + 4;~WRITEBYTE(X)~END~FINISH",
+            "LIBRARY (PROCEDURE WRITEBYTE(VALUE INTEGER));~SEGMENT A~BEGIN~INTEGER X, I;~X := 3;~FOR I := 1 STEP 1 \
+                UNTIL 2 DO~IF X > 3 THEN X := X - 1~ELSE X := X + 4;~WRITEBYTE(X)~END~FINISH",
         ],
         "1:5:0 1:6:3 1:7:3 1:8:3 1:7:7 1:7:7 1:9:6",
         "6|",
@@ -23,7 +24,8 @@ const TRACES: [(&[&str], &str, &str); 2] = [
     (
         &[
             "COMMON (INTEGER X; PROCEDURE P(VALUE INTEGER));~SEGMENT A~BEGIN~X := 1;~P(5);~BEGIN P(X) END~END~FINISH",
-            "COMMON (INTEGER X; PROCEDURE P(VALUE INTEGER));~SEGMENT B~BEGIN~PROCEDURE P(VALUE INTEGER N);~X := X + N;~X := X * 2;~GOTO E;~X := 0;~E: X := X / 0~END~FINISH",
+            "COMMON (INTEGER X; PROCEDURE P(VALUE INTEGER));~SEGMENT B~BEGIN~PROCEDURE P(VALUE INTEGER N);~X := X \
+                + N;~X := X * 2;~GOTO E;~X := 0;~E: X := X / 0~END~FINISH",
         ],
         "1:4:0 1:5:1 2:5:1 1:6:6 2:5:6 2:6:12 2:7:24 2:9:24",
         "|2 2 9",

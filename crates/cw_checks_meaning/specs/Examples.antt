@@ -25,10 +25,14 @@ use Rattle.cw_unit.specs.Allocation.{storage_map}
 use Rattle.cw_unit.specs.Program.{program_of}
 use Rattle.cw_unit.specs.Stop.{End, Running, Ended, Stopped, Overflow, ZeroDivisor, SwitchRange, AddressRange, FramesFull, DepthReached}
 use Rattle.cw_unit.specs.Behaviour.{Observation, observed}
-use Rattle.cw_checks_meaning.specs.Trees.{fixed, item, through, element, array_element, entry_word, entry_part, bare, number, decimal, constant, read, value, locate, bits, sum}
-use Rattle.cw_checks_meaning.specs.Trees.{less, minus, times, over, asks, compares, by_value, by_place, the_array, the_table, the_label, the_switch, the_procedure, handed_on}
-use Rattle.cw_checks_meaning.specs.Trees.{put_on, put, assign, call, writes, row, nothing, choice, answer, loop, marked, go, go_to, integer, stored, single, array_of, table_of}
-use Rattle.cw_checks_meaning.specs.Trees.{local_of, framed, loop_of, loop_words, common_item, procedure_of, body_label, switch_of, described, unit_of, segment_of}
+use Rattle.cw_checks_meaning.specs.Trees.{fixed, item, through, element, array_element, entry_word, entry_part}
+use Rattle.cw_checks_meaning.specs.Trees.{bare, number, decimal, constant, read, value, locate, bits, sum}
+use Rattle.cw_checks_meaning.specs.Trees.{less, minus, times, over, asks, compares, by_value, by_place, the_array}
+use Rattle.cw_checks_meaning.specs.Trees.{the_table, the_label, the_switch, the_procedure, handed_on}
+use Rattle.cw_checks_meaning.specs.Trees.{put_on, put, assign, call, writes, row, nothing, choice, answer, loop}
+use Rattle.cw_checks_meaning.specs.Trees.{marked, go, go_to, integer, stored, single, array_of, table_of}
+use Rattle.cw_checks_meaning.specs.Trees.{local_of, framed, loop_of, loop_words, common_item, procedure_of}
+use Rattle.cw_checks_meaning.specs.Trees.{body_label, switch_of, described, unit_of, segment_of}
 
 pub record Example : Type 0 where
   pub segments : List SourceUnit

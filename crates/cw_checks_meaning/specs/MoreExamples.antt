@@ -13,7 +13,8 @@ use Rattle.cw_unit.specs.declared.descriptor.Desc.{Desc}
 use Rattle.cw_unit.specs.declared.descriptor.Spec.{Spec}
 use Rattle.cw_unit.specs.declared.descriptor.DescBody.TheVariants as body
 use Rattle.cw_unit.specs.Stop.{End, Ended, Stopped, Overflow, ZeroDivisor, DepthReached, IndexRange}
-use Rattle.cw_checks_meaning.specs.Trees.{fixed, item, element, element_between, element_2, bare, number, decimal, read, value, locate, logic, string, sum, minus}
+use Rattle.cw_checks_meaning.specs.Trees.{fixed, item, element, element_between, element_2, bare, number}
+use Rattle.cw_checks_meaning.specs.Trees.{decimal, read, value, locate, logic, string, sum, minus}
 use Rattle.cw_checks_meaning.specs.Trees.{times, over, put_on, put, put_bits, assign, call_on, call, writes, row, nothing, loop, marked, go_to, integer, stored}
 use Rattle.cw_checks_meaning.specs.Trees.{single, array_of, loop_words, common_item, procedure_of, body_label, described, unit_of, segment_of}
 use Rattle.cw_checks_meaning.specs.Examples.{Example, small, at_limits, one}

@@ -3,7 +3,8 @@ use Rattle.std.specs.Prelude.{◌≡◌, ℕ, ◌<◌, ◌==◌, ◌||◌, Bool,
 use Rattle.cw_io.specs.Bytes.{after_told}
 use Rattle.cw_i86.specs.MachineRun.{Event, Silent, Takes, Gives, taken, left_after, left_behind, FitsInput, is_of_input, asks_input, written, last_given}
 
--- The input left and the output, where they are told; whether the input is at its end, where port 11h said so and no byte was taken since then; whether port 10h
+-- The input left and the output, where they are told; whether the input is at its end, where port 11h said so and no
+-- byte was taken since then; whether port 10h
 -- or 11h was used, and whether one of them refused a byte; and the last byte given to each of ports 13h to 16h, 0 where none was.
 pub record Device : Type 0 where
   pub left : Option (List ℕ)

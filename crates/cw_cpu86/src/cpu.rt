@@ -64,7 +64,13 @@ pub struct Cpu {
 impl Model for Cpu {
     ghost Value = { State };
 
-    ghost view = { λ c. record { memory = c.memory.items; registers = c.registers; code_segment = c.code_segment; instruction_pointer = c.instruction_pointer; flags = c.flags } };
+    ghost view = { λ c. record {
+      memory = c.memory.items;
+      registers = c.registers;
+      code_segment = c.code_segment;
+      instruction_pointer = c.instruction_pointer;
+      flags = c.flags;
+    } };
 
     ghost invariant = { λ c. length c.memory.items ≡ 2 ^ 20 };
 }

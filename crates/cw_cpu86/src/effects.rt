@@ -3,7 +3,9 @@ ghost use Rattle.std.specs.Prelude.{◌≡◌, ◌<◌, ◌+◌, ◌*◌, ◌&&�
 ghost use Rattle.cw_i86.specs.declared.instr.Instr.TheVariants.{Lahf, Sahf, PopF};
 ghost use Rattle.cw_i86.specs.Encoding.{IsRm, IsInstr, is_word};
 ghost use Rattle.cw_i86.specs.State.{limit_of, with_flags, register};
-ghost use Rattle.cw_i86.specs.Effect.{operated, tested, counted, holds, jumped_if, looped, at_place, returned, called, shifted, complemented, negated, double_word, with_double_word, multiplied, signed_multiplied, divided, signed_divided, unary, moved, exchanged, moved_acc, byte_extended, word_extended, pop_to, executed};
+ghost use Rattle.cw_i86.specs.Effect.{operated, tested, counted, holds, jumped_if, looped, at_place, returned, called, shifted, complemented};
+ghost use Rattle.cw_i86.specs.Effect.{negated, double_word, with_double_word, multiplied, signed_multiplied, divided, signed_divided};
+ghost use Rattle.cw_i86.specs.Effect.{unary, moved, exchanged, moved_acc, byte_extended, word_extended, pop_to, executed};
 
 use crate::cpu::{Cpu, DATA_SEGMENT};
 use crate::operands::{flags_of_word, flags_word, imm_value, low_flags, sign_extended};

@@ -2,7 +2,9 @@
 ghost use Rattle.std.specs.Prelude.{◌≡◌, ◌<◌, ◌+◌, ◌*◌, ◌^◌, if◌then◌else◌};
 ghost use Rattle.cw_i86.specs.Sums.{bit};
 ghost use Rattle.cw_i86.specs.Encoding.{IsRm, IsPlace};
-ghost use Rattle.cw_i86.specs.State.{sign_extended, limit_of, imm_value, register, with_register, byte_register, with_byte_register, sized_register, with_sized_register, past, with_flags, form_base, offset_of, is_stack_form, default_segment, segment_of, value_at, with_value_at, operand, with_operand, push, top_word, popped, flags_word, low_flags, flags_of_word};
+ghost use Rattle.cw_i86.specs.State.{sign_extended, limit_of, imm_value, register, with_register, byte_register, with_byte_register, sized_register};
+ghost use Rattle.cw_i86.specs.State.{with_sized_register, past, with_flags, form_base, offset_of, is_stack_form, default_segment, segment_of, value_at};
+ghost use Rattle.cw_i86.specs.State.{with_value_at, operand, with_operand, push, top_word, popped, flags_word, low_flags, flags_of_word};
 
 use crate::cpu::{Cpu, DATA_SEGMENT, STACK_SEGMENT};
 use crate::memory::{read_byte, read_word, write_byte, write_word};

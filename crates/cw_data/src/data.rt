@@ -1,7 +1,8 @@
 //! Declared data.
 ghost use Rattle.std.specs.Prelude.{◌≡◌, ◌<◌, ◌≤◌, ◌*◌, ◌^◌, IfSome};
 ghost use Rattle.cw_amount.specs.Amounts.{place_amount, place_sint};
-ghost use Rattle.cw_data.specs.Data.{fits_word_if, bound_judged, range_judged, second_judged, span, range_span, fits_area, good_bounds, each_wrong_unless, group_judged};
+ghost use Rattle.cw_data.specs.Data.{fits_word_if, bound_judged, range_judged, second_judged, span, range_span};
+ghost use Rattle.cw_data.specs.Data.{fits_area, good_bounds, each_wrong_unless, group_judged};
 ghost use Rattle.cw_data.specs.Data.{groups_judged, good_size, size_judged, is_within, element_judged, elements_judged, table_judged, data_judged};
 
 use cw_amount::amount::{int_position, is_negative, place_amount, place_sint};

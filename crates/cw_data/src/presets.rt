@@ -2,8 +2,10 @@
 ghost use Rattle.std.specs.Prelude.{◌≡◌, ◌≤◌, ◌<◌, ◌*◌, ◌^◌, drop, length, IfSome};
 ghost use Rattle.cw_word.specs.Decimal.{decimal_floor};
 ghost use Rattle.cw_amount.specs.Amounts.{octal_word};
-ghost use Rattle.cw_data.specs.Presets.{fits_signed, fits_part, fits_room, whole_word, word_fits, octal_fits, number_fits, begins, place_position, octal_judged};
-ghost use Rattle.cw_data.specs.Presets.{place_judged, places_judged, behind_each, left_over, singles_preset, array_words, behind_groups, arrays_preset, table_words};
+ghost use Rattle.cw_data.specs.Presets.{fits_signed, fits_part, fits_room, whole_word, word_fits, octal_fits};
+ghost use Rattle.cw_data.specs.Presets.{number_fits, begins, place_position, octal_judged};
+ghost use Rattle.cw_data.specs.Presets.{place_judged, places_judged, behind_each, left_over, singles_preset};
+ghost use Rattle.cw_data.specs.Presets.{array_words, behind_groups, arrays_preset, table_words};
 ghost use Rattle.cw_data.specs.Presets.{table_preset, bits_in, element_room, entry_judged, entries_preset, table_entries, elements_preset};
 
 use crate::data::{fits_product, range_span};

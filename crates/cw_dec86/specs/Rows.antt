@@ -1,6 +1,7 @@
 -- The instruction at the front of bytes that go on with zeros, without end: what the decoder's private functions compute.
 -- What bytes are, Decoding says, and nothing here.
-use Rattle.std.specs.Prelude.{ℕ, zero, suc, ◌+◌, ◌-◌, ◌/◌, ◌%◌, Bool, true, false, ◌==◌, nat_lt, ◌||◌, if◌then◌else◌, List, [], ◌∷◌, drop, slice_index, Option, Some, None}
+use Rattle.std.specs.Prelude.{ℕ, zero, suc, ◌+◌, ◌-◌, ◌/◌, ◌%◌, Bool, true, false, ◌==◌, nat_lt, ◌||◌}
+use Rattle.std.specs.Prelude.{if◌then◌else◌, List, [], ◌∷◌, drop, slice_index, Option, Some, None}
 use Rattle.std.specs.Int.{w16, from_le_bytes, is_in_range}
 use Rattle.std.specs.Option.{option_and_then}
 use Rattle.cw_i86.specs.declared.instr.Place.{Place}
@@ -10,7 +11,9 @@ use Rattle.cw_i86.specs.declared.instr.Rm.TheVariants as rms
 use Rattle.cw_i86.specs.declared.instr.Imm.{Imm}
 use Rattle.cw_i86.specs.declared.instr.Imm.TheVariants.{Byte, Word}
 use Rattle.cw_i86.specs.declared.instr.Instr.{Instr}
-use Rattle.cw_i86.specs.declared.instr.Instr.TheVariants.{AluRm, AluAcc, Inc, Dec, Push, Pop, JumpIf, AluImm, AluShort, TestRm, XchgRm, Mov, Lea, XchgAx, Cbw, Cwd, PushF, PopF, Sahf, Lahf, MovAcc, TestAcc, MovImm, RetAdd, Ret, MovRm, Shift, Loop, In, Out, Call, Jump, JumpShort, Hlt, Cmc, Clc, Stc, TestImm, Unary, IncDec, CallRm, JumpRm, PushRm}
+use Rattle.cw_i86.specs.declared.instr.Instr.TheVariants.{AluRm, AluAcc, Inc, Dec, Push, Pop, JumpIf, AluImm, AluShort, TestRm, XchgRm, Mov, Lea, XchgAx, Cbw}
+use Rattle.cw_i86.specs.declared.instr.Instr.TheVariants.{Cwd, PushF, PopF, Sahf, Lahf, MovAcc, TestAcc, MovImm, RetAdd, Ret, MovRm, Shift, Loop, In, Out, Call}
+use Rattle.cw_i86.specs.declared.instr.Instr.TheVariants.{Jump, JumpShort, Hlt, Cmc, Clc, Stc, TestImm, Unary, IncDec, CallRm, JumpRm, PushRm}
 
 abbrev pub word_at : List ℕ → ℕ → ℕ
 word_at bytes at = from_le_bytes w16 (slice_index bytes at ∷ slice_index bytes (at + 1) ∷ [])

@@ -3,7 +3,8 @@
 ghost use Rattle.std.specs.Prelude.{ℕ, ◌≡◌, ◌<◌, ◌≤◌, ◌+◌, ◌*◌, ◌/◌, ◌%◌, ◌∷◌, [], ◌++◌, drop, slice_index, IfSome, IsTrue, MatchOption, Some, None};
 ghost use Rattle.std.specs.Int.{w16, to_le_bytes};
 ghost use Rattle.cw_i86.specs.Encoding.{IsRm, IsInstr, with_rm, prefixed, bytes_of};
-ghost use Rattle.cw_dec86.specs.Rows.{word_at, imm_at, operand_at, place_size, rm_size, has_operand, operand_row, low_row, middle_row, high_row, plain_row, row, instr_at, front, imm_size};
+ghost use Rattle.cw_dec86.specs.Rows.{word_at, imm_at, operand_at, place_size, rm_size, has_operand, operand_row};
+ghost use Rattle.cw_dec86.specs.Rows.{low_row, middle_row, high_row, plain_row, row, instr_at, front, imm_size};
 
 use cw_i86::{Imm, Instr, Mem, Place, Rm};
 
@@ -52,7 +53,9 @@ fn behind(bytes: &[u8], count: usize) -> &[u8]
 fn operand(cs: bool, bytes: &[u8]) -> Option<Rm>
     ensures row { result ≡ operand_at cs bytes.now }
     ensures valid { IfSome result IsRm }
-    ensures bytes { (opcode : ℕ) → IfSome result (λ rm. with_rm opcode (slice_index bytes.now 0 / 8 % 8) rm ≡ prefixed cs (opcode ∷ front (rm_size rm) bytes.now)) }
+    ensures bytes { (opcode : ℕ) → IfSome result
+        (λ rm. with_rm opcode (slice_index bytes.now 0 / 8 % 8) rm
+        ≡ prefixed cs (opcode ∷ front (rm_size rm) bytes.now)) }
 {
     let modrm = byte_at(bytes, 0);
     let rm = modrm % 8;

@@ -72,7 +72,8 @@ use Rattle.cw_tree.specs.declared.segment.RawComm.TheVariants as comm_tree
 use Rattle.cw_grammar.specs.Tokens.{is_identifier}
 use Rattle.cw_grammar.specs.Grammar.{Sort, a_pair, a_list, an_option, a_position, a_name, a_number, an_octal, a_literal, an_int, a_sint, a_size, a_type, a_sign}
 use Rattle.cw_grammar.specs.Grammar.{a_factor_sign, a_compare_sign, a_bits, an_expr, a_cond, a_cand, a_cmp, a_sum, a_term, a_differ, a_union, a_mask, a_prim}
-use Rattle.cw_grammar.specs.Grammar.{a_primary, a_ref, a_range, a_bounds, a_group, an_elem, a_place, a_presets, a_table, a_data, a_base, a_stmt, a_form, a_simple}
+use Rattle.cw_grammar.specs.Grammar.{a_primary, a_ref, a_range, a_bounds, a_group, an_elem, a_place}
+use Rattle.cw_grammar.specs.Grammar.{a_presets, a_table, a_data, a_base, a_stmt, a_form, a_simple}
 use Rattle.cw_grammar.specs.Grammar.{a_felem, a_block, a_decl, a_ptag, a_param, an_ips, a_ps, a_spec, a_citem, an_aitem, a_comm, a_raw, Value}
 use Rattle.cw_grammar.specs.Trees.{◌>>-◌, as_sum, as_term, as_differ, as_union, as_mask, as_prim, bracket_primary, bracket_prim, bracket_mask}
 use Rattle.cw_grammar.specs.Trees.{bracket_union, bracket_differ, bracket_term, bracket_sum, extended, mask_tree, union_tree, differ_tree}

@@ -174,19 +174,25 @@ abbrev pub statement_step : RawStmt-F (List Fact) (List Fact) (List Fact) BlockF
 statement_step s = each_declares kind.Label s.labels ++ s.form
 
 abbrev pub declaration_facts : RawDecl → List Fact
-declaration_facts = fold-RawDecl (List Fact) (List Fact) (List Fact) BlockFacts (List Fact) (List Fact) declaration_step form_step simple_step block_step procedure_step statement_step
+declaration_facts = fold-RawDecl (List Fact) (List Fact) (List Fact) BlockFacts (List Fact) (List Fact)
+    declaration_step form_step simple_step block_step procedure_step statement_step
 
 abbrev pub form_facts : RawForm → List Fact
-form_facts = fold-RawForm (List Fact) (List Fact) (List Fact) BlockFacts (List Fact) (List Fact) declaration_step form_step simple_step block_step procedure_step statement_step
+form_facts = fold-RawForm (List Fact) (List Fact) (List Fact) BlockFacts (List Fact) (List Fact) declaration_step
+    form_step simple_step block_step procedure_step statement_step
 
 abbrev pub simple_facts : RawSimple → List Fact
-simple_facts = fold-RawSimple (List Fact) (List Fact) (List Fact) BlockFacts (List Fact) (List Fact) declaration_step form_step simple_step block_step procedure_step statement_step
+simple_facts = fold-RawSimple (List Fact) (List Fact) (List Fact) BlockFacts (List Fact) (List Fact) declaration_step
+    form_step simple_step block_step procedure_step statement_step
 
 abbrev pub block_facts : RawBlock → BlockFacts
-block_facts = fold-RawBlock (List Fact) (List Fact) (List Fact) BlockFacts (List Fact) (List Fact) declaration_step form_step simple_step block_step procedure_step statement_step
+block_facts = fold-RawBlock (List Fact) (List Fact) (List Fact) BlockFacts (List Fact) (List Fact) declaration_step
+    form_step simple_step block_step procedure_step statement_step
 
 abbrev pub procedure_facts : RawProc → List Fact
-procedure_facts = fold-RawProc (List Fact) (List Fact) (List Fact) BlockFacts (List Fact) (List Fact) declaration_step form_step simple_step block_step procedure_step statement_step
+procedure_facts = fold-RawProc (List Fact) (List Fact) (List Fact) BlockFacts (List Fact) (List Fact)
+    declaration_step form_step simple_step block_step procedure_step statement_step
 
 abbrev pub statement_facts : RawStmt → List Fact
-statement_facts = fold-RawStmt (List Fact) (List Fact) (List Fact) BlockFacts (List Fact) (List Fact) declaration_step form_step simple_step block_step procedure_step statement_step
+statement_facts = fold-RawStmt (List Fact) (List Fact) (List Fact) BlockFacts (List Fact) (List Fact)
+    declaration_step form_step simple_step block_step procedure_step statement_step

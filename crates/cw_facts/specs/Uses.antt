@@ -3,7 +3,8 @@ use Rattle.std.specs.Prelude.{◌==◌, List, [], ◌∷◌, ◌++◌, length, m
 use Rattle.cw_tree.specs.declared.leaf.RawName.{RawName}
 use Rattle.cw_tree.specs.declared.expression.RawExpr.{RawExpr, RawExpr-F, fold-RawExpr}
 use Rattle.cw_tree.specs.declared.expression.RawExpr.TheOpen as layer
-use Rattle.cw_tree.specs.declared.expression.RawExpr.TheOpen.{RawPrimary-F, RawRef-F, RawCand-F, RawCmp-F, RawCond-F, RawDiffer-F, RawMask-F, RawPrim-F, RawSum-F, RawTerm-F, RawUnion-F}
+use Rattle.cw_tree.specs.declared.expression.RawExpr.TheOpen.{RawPrimary-F, RawRef-F, RawCand-F, RawCmp-F, RawCond-F, RawDiffer-F}
+use Rattle.cw_tree.specs.declared.expression.RawExpr.TheOpen.{RawMask-F, RawPrim-F, RawSum-F, RawTerm-F, RawUnion-F}
 use Rattle.cw_tree.specs.declared.expression.RawPrimary.{RawPrimary, fold-RawPrimary}
 use Rattle.cw_tree.specs.declared.expression.RawRef.{RawRef, fold-RawRef}
 use Rattle.cw_tree.specs.declared.expression.RawCand.{RawCand, fold-RawCand}
@@ -100,51 +101,75 @@ union_step e r = operands_for r e.operands
 
 abbrev pub expression_uses : RawExpr → Uses
 expression_uses =
-    fold-RawExpr Uses Uses Uses Uses Uses Uses Uses Uses Uses Uses Uses Uses expression_step primary_step reference_step conjunction_step comparison_step condition_step differ_step mask_step prim_step sum_step term_step union_step
+    fold-RawExpr Uses Uses Uses Uses Uses Uses Uses Uses Uses Uses Uses Uses expression_step primary_step
+    reference_step conjunction_step comparison_step condition_step differ_step mask_step prim_step sum_step
+    term_step union_step
 
 abbrev pub primary_uses : RawPrimary → Uses
 primary_uses =
-    fold-RawPrimary Uses Uses Uses Uses Uses Uses Uses Uses Uses Uses Uses Uses expression_step primary_step reference_step conjunction_step comparison_step condition_step differ_step mask_step prim_step sum_step term_step union_step
+    fold-RawPrimary Uses Uses Uses Uses Uses Uses Uses Uses Uses Uses Uses Uses expression_step primary_step
+    reference_step conjunction_step comparison_step condition_step differ_step mask_step prim_step sum_step
+    term_step union_step
 
 abbrev pub reference_uses : RawRef → Uses
 reference_uses =
-    fold-RawRef Uses Uses Uses Uses Uses Uses Uses Uses Uses Uses Uses Uses expression_step primary_step reference_step conjunction_step comparison_step condition_step differ_step mask_step prim_step sum_step term_step union_step
+    fold-RawRef Uses Uses Uses Uses Uses Uses Uses Uses Uses Uses Uses Uses expression_step primary_step
+    reference_step conjunction_step comparison_step condition_step differ_step mask_step prim_step sum_step
+    term_step union_step
 
 abbrev pub conjunction_uses : RawCand → Uses
 conjunction_uses =
-    fold-RawCand Uses Uses Uses Uses Uses Uses Uses Uses Uses Uses Uses Uses expression_step primary_step reference_step conjunction_step comparison_step condition_step differ_step mask_step prim_step sum_step term_step union_step
+    fold-RawCand Uses Uses Uses Uses Uses Uses Uses Uses Uses Uses Uses Uses expression_step primary_step
+    reference_step conjunction_step comparison_step condition_step differ_step mask_step prim_step sum_step
+    term_step union_step
 
 abbrev pub comparison_uses : RawCmp → Uses
 comparison_uses =
-    fold-RawCmp Uses Uses Uses Uses Uses Uses Uses Uses Uses Uses Uses Uses expression_step primary_step reference_step conjunction_step comparison_step condition_step differ_step mask_step prim_step sum_step term_step union_step
+    fold-RawCmp Uses Uses Uses Uses Uses Uses Uses Uses Uses Uses Uses Uses expression_step primary_step
+    reference_step conjunction_step comparison_step condition_step differ_step mask_step prim_step sum_step
+    term_step union_step
 
 abbrev pub condition_uses : RawCond → Uses
 condition_uses =
-    fold-RawCond Uses Uses Uses Uses Uses Uses Uses Uses Uses Uses Uses Uses expression_step primary_step reference_step conjunction_step comparison_step condition_step differ_step mask_step prim_step sum_step term_step union_step
+    fold-RawCond Uses Uses Uses Uses Uses Uses Uses Uses Uses Uses Uses Uses expression_step primary_step
+    reference_step conjunction_step comparison_step condition_step differ_step mask_step prim_step sum_step
+    term_step union_step
 
 abbrev pub differ_uses : RawDiffer → Uses
 differ_uses =
-    fold-RawDiffer Uses Uses Uses Uses Uses Uses Uses Uses Uses Uses Uses Uses expression_step primary_step reference_step conjunction_step comparison_step condition_step differ_step mask_step prim_step sum_step term_step union_step
+    fold-RawDiffer Uses Uses Uses Uses Uses Uses Uses Uses Uses Uses Uses Uses expression_step primary_step
+    reference_step conjunction_step comparison_step condition_step differ_step mask_step prim_step sum_step
+    term_step union_step
 
 abbrev pub mask_uses : RawMask → Uses
 mask_uses =
-    fold-RawMask Uses Uses Uses Uses Uses Uses Uses Uses Uses Uses Uses Uses expression_step primary_step reference_step conjunction_step comparison_step condition_step differ_step mask_step prim_step sum_step term_step union_step
+    fold-RawMask Uses Uses Uses Uses Uses Uses Uses Uses Uses Uses Uses Uses expression_step primary_step
+    reference_step conjunction_step comparison_step condition_step differ_step mask_step prim_step sum_step
+    term_step union_step
 
 abbrev pub prim_uses : RawPrim → Uses
 prim_uses =
-    fold-RawPrim Uses Uses Uses Uses Uses Uses Uses Uses Uses Uses Uses Uses expression_step primary_step reference_step conjunction_step comparison_step condition_step differ_step mask_step prim_step sum_step term_step union_step
+    fold-RawPrim Uses Uses Uses Uses Uses Uses Uses Uses Uses Uses Uses Uses expression_step primary_step
+    reference_step conjunction_step comparison_step condition_step differ_step mask_step prim_step sum_step
+    term_step union_step
 
 abbrev pub sum_uses : RawSum → Uses
 sum_uses =
-    fold-RawSum Uses Uses Uses Uses Uses Uses Uses Uses Uses Uses Uses Uses expression_step primary_step reference_step conjunction_step comparison_step condition_step differ_step mask_step prim_step sum_step term_step union_step
+    fold-RawSum Uses Uses Uses Uses Uses Uses Uses Uses Uses Uses Uses Uses expression_step primary_step
+    reference_step conjunction_step comparison_step condition_step differ_step mask_step prim_step sum_step
+    term_step union_step
 
 abbrev pub term_uses : RawTerm → Uses
 term_uses =
-    fold-RawTerm Uses Uses Uses Uses Uses Uses Uses Uses Uses Uses Uses Uses expression_step primary_step reference_step conjunction_step comparison_step condition_step differ_step mask_step prim_step sum_step term_step union_step
+    fold-RawTerm Uses Uses Uses Uses Uses Uses Uses Uses Uses Uses Uses Uses expression_step primary_step
+    reference_step conjunction_step comparison_step condition_step differ_step mask_step prim_step sum_step
+    term_step union_step
 
 abbrev pub union_uses : RawUnion → Uses
 union_uses =
-    fold-RawUnion Uses Uses Uses Uses Uses Uses Uses Uses Uses Uses Uses Uses expression_step primary_step reference_step conjunction_step comparison_step condition_step differ_step mask_step prim_step sum_step term_step union_step
+    fold-RawUnion Uses Uses Uses Uses Uses Uses Uses Uses Uses Uses Uses Uses expression_step primary_step
+    reference_step conjunction_step comparison_step condition_step differ_step mask_step prim_step sum_step
+    term_step union_step
 
 abbrev pub argument_uses : List RawExpr → List Fact
 argument_uses es = each_for reading.Argument (map expression_uses es)

@@ -1,6 +1,7 @@
 //! The facts of declarations.
 ghost use Rattle.std.specs.Prelude.{◌≡◌, ◌++◌, ◌∷◌, [], OnOk, codes};
-ghost use Rattle.cw_facts.specs.Facts.{declares, specifies, procedure_parameter_facts, each_declares, each_uses, groups_facts, element_name, elements_facts, table_facts, data_facts, base_name, base_facts, parameter_facts, parameters_facts, answer_name, type_position, answer_facts};
+ghost use Rattle.cw_facts.specs.Facts.{declares, specifies, procedure_parameter_facts, each_declares, each_uses, groups_facts, element_name, elements_facts, table_facts};
+ghost use Rattle.cw_facts.specs.Facts.{data_facts, base_name, base_facts, parameter_facts, parameters_facts, answer_name, type_position, answer_facts};
 
 use crate::expressions::note;
 use crate::fact::{Declaration, Fact, Form, Kind, Signature};

@@ -1,6 +1,7 @@
 //! The uses of names in expressions.
 ghost use Rattle.std.specs.Prelude.{◌≡◌, ◌++◌, ◌&&◌, ◌==◌, length, map, OnOk, IfOk};
-ghost use Rattle.cw_facts.specs.Uses.{argument_uses, expression_uses, condition_uses, conjunction_uses, comparison_uses, sum_uses, term_uses, differ_uses, union_uses, mask_uses, prim_uses, primary_uses, reference_uses, reading_of, indexed, uses_of};
+ghost use Rattle.cw_facts.specs.Uses.{argument_uses, expression_uses, condition_uses, conjunction_uses, comparison_uses, sum_uses, term_uses, differ_uses};
+ghost use Rattle.cw_facts.specs.Uses.{union_uses, mask_uses, prim_uses, primary_uses, reference_uses, reading_of, indexed, uses_of};
 
 use crate::fact::{Fact, Form, Reading, Use};
 use cw_tree::expression::{

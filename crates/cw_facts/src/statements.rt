@@ -1,6 +1,7 @@
 //! The facts of statements and blocks.
 ghost use Rattle.std.specs.Prelude.{◌≡◌, ◌++◌, map, true, OnOk};
-ghost use Rattle.cw_facts.specs.Facts.{joined, enclosed, felem_facts, felems_facts, declaration_facts, form_facts, simple_facts, block_facts, procedure_facts, statement_facts, parameters_facts, answer_facts};
+ghost use Rattle.cw_facts.specs.Facts.{joined, enclosed, felem_facts, felems_facts, declaration_facts, form_facts, simple_facts};
+ghost use Rattle.cw_facts.specs.Facts.{block_facts, procedure_facts, statement_facts, parameters_facts, answer_facts};
 ghost use Rattle.cw_tree.specs.declared.statement.RawBlock.{out-RawBlock};
 
 use crate::declarations::{
@@ -143,7 +144,9 @@ pub fn block_facts(
 
 #[cycle(facts)]
 fn parts_facts(alloc: Global, block: &RawBlock, out: &mut List<Fact>) -> Result<(), NoMemory>
-    ensures { OnOk result (out.new ≡ out.old ++ (joined (map declaration_facts (out-RawBlock block.now).decls) ++ joined (map statement_facts (out-RawBlock block.now).stmts))) }
+    ensures { OnOk result (out.new ≡ out.old
+        ++ (joined (map declaration_facts (out-RawBlock block.now).decls)
+        ++ joined (map statement_facts (out-RawBlock block.now).stmts))) }
 {
     for declaration in block.decls.as_slice() {
         declaration_facts(alloc, declaration, out)?;

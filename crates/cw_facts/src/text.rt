@@ -1,6 +1,7 @@
 //! What a whole text says about names.
 ghost use Rattle.std.specs.Prelude.{◌≡◌, ◌++◌, ◌∷◌, [], OnOk, IfOk};
-ghost use Rattle.cw_facts.specs.Text.{library_kind, library_facts, spec_facts, citem_facts, citems_facts, aitem_facts, aitems_facts, communicator_facts, communicators_facts, text_facts};
+ghost use Rattle.cw_facts.specs.Text.{library_kind, library_facts, spec_facts, citem_facts, citems_facts, aitem_facts};
+ghost use Rattle.cw_facts.specs.Text.{aitems_facts, communicator_facts, communicators_facts, text_facts};
 
 use crate::declarations::{base_facts, data_facts, declare, declare_each, specifies, table_facts};
 use crate::fact::{Fact, Kind};

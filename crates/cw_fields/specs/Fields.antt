@@ -1,6 +1,7 @@
 -- Fields of a format. A field has one spelling. Reading takes a field from the front of bytes and gives what follows it, or nothing where the
 -- bytes do not begin with one.
-use Rattle.std.specs.Prelude.{◌≡◌, ◌<◌, ◌^◌, ℕ, zero, suc, ◌==◌, nat_lt, Bool, true, false, if◌then◌else◌, List, [], ◌∷◌, ◌++◌, length, take, drop, Option, Some, None, option_and_then, ℤ}
+use Rattle.std.specs.Prelude.{◌≡◌, ◌<◌, ◌^◌, ℕ, zero, suc, ◌==◌, nat_lt, Bool, true, false, if◌then◌else◌, List}
+use Rattle.std.specs.Prelude.{[], ◌∷◌, ◌++◌, length, take, drop, Option, Some, None, option_and_then, ℤ}
 use Rattle.std.specs.Int.{w16, cast_unsigned, cast_signed, from_bool}
 use Rattle.byteorder.specs.Endian.{little_number, little_bytes}
 

@@ -2,7 +2,8 @@
 use Rattle.std.specs.Prelude.{◌≡◌, ◌<◌, ℕ, Bool, List, ◌++◌, get_or, length, Option, Some, FitsSigned}
 use Rattle.std.specs.Int.{w16}
 use Rattle.cw_word.specs.Name.{IsName}
-use Rattle.cw_fields.specs.Fields.{Reader, IsByte, IsWord, IsLong, byte_bytes, byte_in, word_bytes, word_in, signed_bytes, signed_in, long_bytes, long_in, text_bytes, text_in, flag_bytes, flag_in}
+use Rattle.cw_fields.specs.Fields.{Reader, IsByte, IsWord, IsLong, byte_bytes, byte_in, word_bytes, word_in, signed_bytes}
+use Rattle.cw_fields.specs.Fields.{signed_in, long_bytes, long_in, text_bytes, text_in, flag_bytes, flag_in}
 use Rattle.cw_fields.specs.Names.{IsNameOrEmpty, name_in, name_or_empty_in}
 
 abbrev pub IsBytes : List ℕ → Type 0
@@ -15,7 +16,8 @@ pub record Reads {A : Type 0} (spell : A → List ℕ) (Fits : A → Type 0) (re
 
 -- Bytes that are read as the same value, with the same bytes behind it, are the same.
 abbrev pub IsSpelledOnce : {A : Type 0} → Reader A → Type 0
-IsSpelledOnce {A = A} read = (bytes others : List ℕ) (x : A × List ℕ) → IsBytes bytes → IsBytes others → read bytes ≡ Some x → read others ≡ Some x → bytes ≡ others
+IsSpelledOnce {A = A} read = (bytes others : List ℕ) (x : A × List ℕ) → IsBytes bytes → IsBytes others
+    → read bytes ≡ Some x → read others ≡ Some x → bytes ≡ others
 
 pub record HasOneSpelling {A : Type 0} (spell : A → List ℕ) (Fits : A → Type 0) (read : Reader A) : Type 0 where
   pub reads : Reads spell Fits read

@@ -14,7 +14,7 @@ use Rattle.cw_follow.proofs.Watched.{Watched}
 use Rattle.cw_run86.specs.Views.{compare as compare_of, word_difference, difference_overflows, product_low, product_high, product_overflows, Comparison, NotLess, AtMost, words_compare, compares, condition_of, with_number}
 use Rattle.cw_word.specs.FixedPoint.{FitsWord, fits_word}
 use Rattle.cw_word.specs.Word.{unsigned, low_word}
-use Rattle.cw_unit.specs.Stop.{StopKind, AddressRange, IndexRange}
+use Rattle.cw_unit.specs.Stop.{Overflow, AddressRange, IndexRange}
 use Rattle.cw_unit.specs.Words.{Operand, Words, Outcome, Changed, Refused, put, put_if, is_below, number_of}
 use Rattle.cw_unit.specs.Operation.{Form, Taken, InBounds, perform}
 use Rattle.cw_order.specs.FittingWords.{OperandFits}
@@ -24,9 +24,9 @@ use Rattle.cw_tmpl.specs.Templates.{indexes_between}
 use Rattle.cw_follow.proofs.Rows.{Rows}
 use Rattle.cw_follow.proofs.Chains.{Is, IsCompared, Leads, view, seen, compare_number, compared, compared_jumps, compared_passes, compared_more, jump_below, pass_above, jumps_below, passes_above, more, last, done}
 use Rattle.cw_follow.proofs.Straight.{Number, Difference, Negative, Product, straight}
-use Rattle.cw_follow.proofs.Routines.{HasLine, leads_on}
+use Rattle.cw_follow.proofs.Routines.{leads_on}
 use Rattle.cw_follow.proofs.Stacks.{level, record_of}
-use Rattle.cw_follow.proofs.Orders.{Kept, Check, later, further, checks}
+use Rattle.cw_follow.proofs.Orders.{Kept, Check, Checked, later, further, checks, checks_end}
 use Rattle.cw_order.specs.OrderState.{operand_words}
 use Rattle.cw_follow.proofs.Operands.{Setting, words, allowed, One, result, LandedWith, DoesHere, taking_one, calls_stop}
 use Rattle.cw_follow.proofs.Called.{Then, parts}
@@ -96,18 +96,17 @@ module _ (c : Setting) (memory : List ℤ) (input output : List ℕ) where
       (straight c.rows acts wrote ps.0 (tt, (tt, tt)) s (λ q t. done t))
       (λ q t. on (product_low (unsigned x) n) (product_high (unsigned x) n) n (product_overflows (unsigned x) n) q tests low t ps.1)
 
-  -- the top operand times a number
-  pub multiplied : {p : Watched} {at : ℕ} (b : Bool) (kind : StopKind) (to n by bound line : ℕ) (x : ℤ) (rest : List Operand)
-      → HasLine kind → line < 65536 → (n == 32768) ≡ b → n ≤ 32768 → FitsWord x → test_place b at + 2 + 3 + 2 ≡ to
-      → (test_place b at + 2 + 3 + by) % 65536 ≡ stop_place kind % 65536 → 17 ≤ bound
-      → Then c.image at (times_code b n) (λ k. Check c.image k by line) → One c memory input output at x rest p
-      → DoesHere c memory input output bound to true line p (put_if (fits_word (x *ℤ pos n)) kind (x *ℤ pos n) (words rest memory input output))
-  multiplied b kind to n by bound line x rest has small is most fx e arrives le i l =
+  -- the top operand times a number, and the check
+  pub multiplied : {p : Watched} {at : ℕ} (b : Bool) (to n bound line : ℕ) (x : ℤ) (rest : List Operand)
+      → line < 65536 → (n == 32768) ≡ b → n ≤ 32768 → FitsWord x → 17 ≤ bound
+      → Then c.image at (times_code b n) (λ k. Checked c.image k to line) → One c memory input output at x rest p
+      → DoesHere c memory input output bound to true line p (put_if (fits_word (x *ℤ pos n)) Overflow (x *ℤ pos n) (words rest memory input output))
+  multiplied b to n bound line x rest small is most fx le i l =
       let z = x *ℤ pos n in
       let some : 0 < suc l.top = omega arith in
-      times_tested b (λ k. Check c.image k by line) to n l.top 14 bound line x (put_if (fits_word z) kind z (words rest memory input output)) is most fx l.kept.wrote (omega arith) i l.is
+      times_tested b (λ k. Checked c.image k to line) to n l.top 14 bound line x (put_if (fits_word z) Overflow z (words rest memory input output)) is most fx l.kept.wrote (omega arith) i l.is
       (λ a d f overflow q tests value t code.
-      checks c.rows c.program c.image c.g c.acts kind to (suc l.top) by line z rest memory input output has c.library c.few some small e arrives tests value l.under l.kept code t)
+      checks_end c.rows c.program c.image c.g c.acts to (suc l.top) line z rest memory input output c.library c.few some small tests value l.under l.kept code t)
 
   -- ---- an index less its lower bound
 

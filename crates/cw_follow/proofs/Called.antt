@@ -10,9 +10,7 @@ use Rattle.cw_run86.specs.Processor.{Told}
 use Rattle.cw_run86.specs.Views.{put_word}
 use Rattle.cw_word.specs.FixedPoint.{fits_word}
 use Rattle.cw_word.specs.Word.{unsigned}
-use Rattle.cw_unit.specs.Stop.{Overflow}
 use Rattle.cw_unit.specs.Words.{Operand, put_value}
-use Rattle.cw_tmpl.specs.Library.{stop_place}
 use Rattle.cw_routines.specs.Ways.{QuietAll, Leads as Goes, Back}
 use Rattle.cw_routines.specs.Results.{Quiet, InLibrary, Fitting, WordRoutine, divisor_test}
 use Rattle.cw_follow.proofs.Watched.{Watched}
@@ -21,7 +19,7 @@ use Rattle.cw_follow.proofs.Chains.{Is, Leads, view, to_place, call, last}
 use Rattle.cw_follow.proofs.Straight.{Act, Number, codes, behind, instruction, straight}
 use Rattle.cw_follow.proofs.Routines.{put_at, quiet_in, quiet_all, there_all, quiet_library, flags_of, arrives, returned, lifted}
 use Rattle.cw_follow.proofs.Stacks.{level, record_of, same_put, StackIs, stack_same}
-use Rattle.cw_follow.proofs.Orders.{Kept, kept_under, Check, checks, later}
+use Rattle.cw_follow.proofs.Orders.{Kept, kept_under, Checked, checks_end, later}
 use Rattle.cw_follow.proofs.Operands.{Setting, words, DoesHere}
 use Rattle.cw_follow.proofs.Facts.{fits_true}
 use Rattle.cw_follow.proofs.Standing.{Has, HasAll, Image}
@@ -79,14 +77,14 @@ tests_divisor rows {image} {output} {p} {at} {ax} {cx} {dx} {bx} {sp} {bp} {si} 
 -- ---- a routine on two words, and the test of its result
 
 module _ (c : Setting) (memory : List ℤ) (input output : List ℕ) where
-  pub by_routine : {p : Watched} {at cx dx si : ℕ} {overflow : Bool} {cells stack : ℕ → ℕ} {left : List ℕ} {told : Told} (to place bound count by stop line n : ℕ) (x y z : ℤ) (rest : List Operand)
-      → at + 13 ≡ to → (at + 3 + 3 + by) % 65536 ≡ place % 65536 → (at + 3 + 3 + 2 + 3 + stop) % 65536 ≡ stop_place Overflow % 65536 → line < 65536 → n < level c.acts
+  pub by_routine : {p : Watched} {at cx dx si : ℕ} {overflow : Bool} {cells stack : ℕ → ℕ} {left : List ℕ} {told : Told} (to place bound count by line n : ℕ) (x y z : ℤ) (rest : List Operand)
+      → (at + 3 + 3 + by) % 65536 ≡ place % 65536 → line < 65536 → n < level c.acts
       → ((quiet : ℕ → Bool) → InLibrary quiet → WordRoutine (Quiet quiet) c.image.bytes place bound count x y z)
-      → Then c.image at (i86.MovImm 1 (imm.Word count) ∷ i86.Call by ∷ []) (λ k. Check c.image k stop line)
+      → Then c.image at (i86.MovImm 1 (imm.Word count) ∷ i86.Call by ∷ []) (λ k. Checked c.image k to line)
       → StackIs c.program c.acts stack (suc n) rest → Kept c.program c.g c.acts memory input output cells stack left told
       → Is c.image at (view (unsigned x) cx dx (unsigned y) (2 * suc n) (record_of c.acts) si c.program.limits.area overflow cells stack left told) p
       → DoesHere c memory input output (16 + bound) to true line p (put_value z (words rest memory input output))
-  by_routine {p} {at} {cx} {dx} {si} {overflow} {cells} {stack} {left} {told} to place bound count by stop line n x y z rest e arrives_there arrives_stop small low law i under kept s =
+  by_routine {p} {at} {cx} {dx} {si} {overflow} {cells} {stack} {left} {told} to place bound count by line n x y z rest arrives_there small low law i under kept s =
       let back = (at + 3 + 3) % 65536 in
       let stack' : ℕ → ℕ = put_word stack n back in
       let kept' = kept_under n back low kept in
@@ -96,7 +94,6 @@ module _ (c : Setting) (memory : List ℤ) (input output : List ℕ) where
       let fits : back < 65536 = omega arith in
       let under' = stack_same c.program c.acts stack stack' (suc n) rest (same_put stack n back (suc n) (omega arith)) under in
       let there : back % 65536 ≡ (at + 3 + 3) % 65536 = omega arith in
-      let e' : at + 3 + 3 + 2 + 3 + 2 ≡ to = omega arith in
       let bp = record_of c.acts in
       let area = c.program.limits.area in
       let lead : Leads output 2 p (Is c.image place (view (unsigned x) count dx (unsigned y) (2 * n) bp si area overflow cells stack' left told)) =
@@ -107,5 +104,5 @@ module _ (c : Setting) (memory : List ℤ) (input output : List ℕ) where
       let within = r.within in
       later c.program c.image 14 to c.g true line c.acts r.spent (14 + bound) (put_value z (words rest memory input output)) (omega arith)
       (subst (λ o. Leads o r.spent q (Returned c.image back (2 * suc n) bp area cells stack' left told (Fitting (fits_word z) z))) kept.wrote (comes_back c.rows t r.leads))
-      (λ u b. checks c.rows c.program c.image c.g c.acts Overflow to (suc n) stop line z rest memory input output tt c.library c.few (omega arith) small e' arrives_stop
+      (λ u b. checks_end c.rows c.program c.image c.g c.acts to (suc n) line z rest memory input output c.library c.few (omega arith) small
       (fitting (fits_word z) z b.ax b.flags b.answers) (λ f. (subst (λ d. Fitting d z b.ax b.flags) (fits_true z f) b.answers).0) under' kept' i.1.1 (to_place there b.is)))

@@ -1,5 +1,5 @@
 -- The pieces of each template are instructions with the numbers of their rows, and stand where their bytes do.
-use Rattle.std.proofs.Common.{◌≡◌, ◌≢◌, ℕ, zero, suc, ◌+◌, ◌-◌, ◌/◌, ◌%◌, ◌<◌, ◌≤◌, List, [], ◌∷◌, ◌++◌, length, drop, get_or, sym, ap, ◌∙◌, arith, lit<, append_assoc, length-append, Option, Some, None, Bool, true, false, ℤ, pos, negsuc, ◌*◌, ◌^◌, pow_mono}
+use Rattle.std.proofs.Common.{◌≡◌, ◌≢◌, ℕ, zero, suc, ◌+◌, ◌-◌, ◌/◌, ◌%◌, ◌<◌, ◌≤◌, List, [], ◌∷◌, ◌++◌, length, drop, get_or, sym, refl, ap, ◌∙◌, subst, arith, lit<, append_assoc, length-append, Option, Some, None, Bool, true, false, ℤ, pos, negsuc, ◌*◌, ◌^◌, pow_mono}
 use Rattle.std.specs.Prelude.{slice_get, slice_index, slice_index_or, nat_lt, nat_le, ◌==◌, if◌then◌else◌, ◌-ℤ◌}
 use Rattle.std.proofs.lemmas.List.{get_or_append_left, get_or-append-add}
 use Rattle.cw_i86.specs.Encoding.{IsRm, bytes_of, word, IsInstr}
@@ -23,7 +23,7 @@ use Rattle.cw_tmpl.specs.Pieces.{Filling, bytes_with, size_of, target_of, reloca
 use Rattle.cw_tmpl.specs.Mnemonics.{field, code_at, entry_of_table, change_memory, operate_number, memory, argument, double, jump_to, jump_if_below, set_word, at_bx, at_si, load, store, subtract, both, either, one_of, operate, change, move, add, multiply, shift_up, shift_up_once, shift_down, shift_down_once, shift_down_signed, shift_down_signed_once}
 use Rattle.cw_tmpl.specs.Library.{places_of_entries, entry_place, start_entry, overflow_entry, zero_divisor_entry, address_entry, bounds_entry, switch_entry, enter_entry, enter_stop_entry, read_entry, product_entry, quotient_up_entry, quotient_down_entry, set_variable_entry, add_step_entry, put_variable_entry, exhausted_entry, next_step_entry}
 use Rattle.cw_tmpl.specs.Names.{Names, mark_place, call_place, label_start, switch_start, procedure_start}
-use Rattle.cw_tmpl.specs.Templates.{word_compared, template, call_library, call_stop, unless_overflow, checked, checked_by, call_at_line, on_both, with_word, times, times_if, shifted, shifted_up, shifted_down, shifted_down_signed, lowest_if, taken, part_taken, load_top, store_part, rescale_if, by_routine, product_start, product_down, product, divisor_tested, quotient, in_area, index_by, less_bound, plus_word, times_width, base_kept, based, element, in_row, element_of_two, entry, top_below, with_both_bounds, in_bounds, branch, distance, jump_near, opposite_of, frame_entered, control_out, return_with, operands_dropped, base_jump, number_compared, mark_words, goal_words, loop_way, loop_ways, place_doubled, doubled_size, step_taken, switch_pieces, address_pieces, load_place, store_place, operate_place, change_place, index_added, index_loaded, from_lower, indexes_between, element_tested, element_address, with_operand, product_with, pieces_size, operated, top_from_lower, times_entry, formed, block_pieces, entry_pieces, template_by, branch_by, short_branch, segment_word, argument_load_size, column_loaded, column_below, row_address}
+use Rattle.cw_tmpl.specs.Templates.{ended_back, rescale, rescale_before, product_before, quotient_before, is_checked, word_compared, template, call_library, call_stop, unless_overflow, checked, checked_by, call_at_line, on_both, with_word, times, times_if, shifted, shifted_up, shifted_down, shifted_down_signed, lowest_if, taken, part_taken, load_top, store_part, rescale_if, by_routine, product_start, product_down, product, divisor_tested, quotient, in_area, index_by, less_bound, plus_word, times_width, base_kept, based, element, in_row, element_of_two, entry, top_below, with_both_bounds, in_bounds, branch, distance, jump_near, opposite_of, frame_entered, control_out, return_with, operands_dropped, base_jump, number_compared, mark_words, goal_words, loop_way, loop_ways, place_doubled, doubled_size, step_taken, switch_pieces, address_pieces, load_place, store_place, operate_place, change_place, index_added, index_loaded, from_lower, indexes_between, element_tested, element_address, with_operand, product_with, pieces_size, operated, top_from_lower, times_entry, formed, block_pieces, entry_pieces, template_by, branch_by, short_branch, segment_word, argument_load_size, column_loaded, column_below, row_address}
 use Rattle.cw_order.specs.declared.order.Place.{Place}
 use Rattle.cw_order.specs.declared.order.Place.TheVariants as cell
 use Rattle.cw_tmpl.specs.declared.blocks.Element.{Element}
@@ -47,6 +47,7 @@ use Rattle.cw_follow.proofs.Fits.{OrderFits, TestFits, ElementFits, SimpleFits, 
 use Rattle.cw_follow.specs.Placing.{Fills, base_of, definition_place}
 use Rattle.cw_follow.proofs.Branches.{comparison_small, short_small}
 use Rattle.cw_follow.proofs.Stacks.{start_small}
+use Rattle.cw_tmpl.proofs.Endings.{rescale_ends, product_ends, quotient_ends}
 use Rattle.cw_tmpl.proofs.Growing.{mask_small}
 use Rattle.cw_tmpl.proofs.Filling.{size_with}
 use Rattle.cw_routines.specs.Ways.{HasWord}
@@ -98,6 +99,11 @@ IsFine value (coded.Way t) = IsFilled value t
 abbrev pub AllFine : Filling → List Coded → Type 0
 AllFine value [] = Unit {0}
 AllFine value (p ∷ ps) = IsFine value p × AllFine value ps
+
+-- pieces with others behind them
+all_fine-first : (value : Filling) (ps qs : List Coded) → AllFine value (ps ++ qs) → AllFine value ps
+all_fine-first value [] qs h = tt
+all_fine-first value (p ∷ ps) qs h = (h.0, all_fine-first value ps qs h.1)
 
 pub all_fine-append : (value : Filling) (ps qs : List Coded) → AllFine value ps → AllFine value qs → AllFine value (ps ++ qs)
 all_fine-append value [] qs a b = b
@@ -561,13 +567,22 @@ module _ (p : OrderProgram) (segment next : ℕ) (value : Filling) (fills : Fill
   checked_by_fine true line place to small = ((lit< tt, short_small (place + 2) to), tt)
   checked_by_fine false line place to small = checked_fine line small
 
+  ended_fine : (ends : Bool) (whole before : List Coded) (line place to : ℕ) → line < 65536 → (ends ≡ true → whole ≡ before ++ checked line) → AllFine value whole → AllFine value (ended_back ends whole before line place to)
+  ended_fine true whole before line place to small is fine =
+      all_fine-append value before _ (all_fine-first value before (checked line) (subst (AllFine value) (is refl) fine)) (checked_by_fine true line (place + pieces_size before) to small)
+  ended_fine false whole before line place to small is fine = fine
+
   template_by_fine : (names : Names) (place number : ℕ) (short : Bool) (o : Order) → OrderFits o → AllFine value (template_by short names place number o)
   template_by_fine names place number false o fits = template_fine names place o fits
   template_by_fine names place number true (order.Add line) fits = (bx_free, ((lit< tt, is_ax, is_bx), checked_by_fine true line (place + 3) (call_place names number) fits.2))
   template_by_fine names place number true (order.Sub line) fits = ((is_bx, is_ax), (ax_free, ((lit< tt, is_ax, is_bx), checked_by_fine true line (place + 5) (call_place names number) fits.2)))
   template_by_fine names place number true (order.Neg line) fits = ((lit< tt, lit< tt, is_ax), checked_by_fine true line (place + 2) (call_place names number) fits.2)
-  template_by_fine names place number true (order.Mul (pos zero) line) fits = (bx_free, ((lit< tt, lit< tt, is_bx), checked_by_fine true line (place + 3) (call_place names number) fits.2))
-  template_by_fine names place number true (order.Mul s line) fits = template_fine names place (order.Mul s line) fits
+  template_by_fine names place number true (order.Rescale from to line) fits =
+      ended_fine (nat_le from to) (rescale line from to) (rescale_before from to) line place (call_place names number) fits.2 (rescale_ends line from to) (template_fine names place (order.Rescale from to line) fits)
+  template_by_fine names place number true (order.Mul s line) fits =
+      ended_fine (is_checked s) (product line s) (product_before line s) line place (call_place names number) fits.2 (product_ends line s) (template_fine names place (order.Mul s line) fits)
+  template_by_fine names place number true (order.Div s line) fits =
+      ended_fine true (quotient line s) (quotient_before line s) line place (call_place names number) fits.2 (λ e. quotient_ends line s) (template_fine names place (order.Div s line) fits)
   template_by_fine names place number true (order.Jump mark) fits = (short_small (place + 2) (mark_place names mark), tt)
   template_by_fine names place number true (order.JumpIf c mark) fits = (bx_free, ((lit< tt, is_bx, is_ax), short_branch_fine c (place + 5) (mark_place names mark)))
   template_by_fine names place number true (order.LoopWay []) fits = template_fine names place (order.LoopWay []) fits

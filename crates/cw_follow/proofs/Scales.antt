@@ -21,13 +21,13 @@ use Rattle.cw_follow.proofs.Chains.{seen, done}
 use Rattle.cw_follow.proofs.Straight.{Pop, Number, Move, DownSigned, Product, straight}
 use Rattle.cw_follow.proofs.Routines.{with_ax}
 use Rattle.cw_follow.proofs.Stacks.{level}
-use Rattle.cw_follow.proofs.Orders.{Check, Checked, later, further, checks, checks_end}
+use Rattle.cw_follow.proofs.Orders.{Checked, later, further, checks_end}
 use Rattle.cw_order.specs.OrderState.{operand_words}
 use Rattle.cw_follow.proofs.Operands.{Setting, words, allowed, One, Two, result, LandedWith, DoesHere, taking_one, taking_two, guards}
 use Rattle.cw_follow.proofs.Called.{Then, parts, by_routine}
 use Rattle.cw_follow.proofs.Numbers.{fits_tested}
 use Rattle.cw_follow.proofs.Facts.{fits_true, stays_out}
-use Rattle.cw_follow.proofs.Addresses.{CheckThen, check_of, times_code, test_place, product_overflows_is, product_is, times_tested, multiplied}
+use Rattle.cw_follow.proofs.Addresses.{CheckThen, check_of, times_code, product_overflows_is, product_is, times_tested, multiplied}
 use Rattle.cw_follow.proofs.Standing.{HasAll}
 
 up_is : (from to : ℕ) → from ≤ to → pos to -ℤ pos from ≡ pos (to - from)
@@ -39,11 +39,11 @@ down_is from to lt = omega (arith, ints)
 module _ (c : Setting) (memory : List ℤ) (input output : List ℕ) where
   -- ---- scales
 
-  pub rescales_up : {p : Watched} {at : ℕ} (b : Bool) (to by line from scale : ℕ) (operands : List Operand) → line < 65536 → from ≤ scale → scale ≤ 15 → (2 ^ (scale - from) == 32768) ≡ b
-      → test_place b at + 2 + 3 + 2 ≡ to → (test_place b at + 2 + 3 + by) % 65536 ≡ stop_place Overflow % 65536 → operand_words operands < level c.acts → All OperandFits operands
-      → Then c.image at (times_code b (2 ^ (scale - from))) (λ k. Check c.image k by line) → LandedWith c memory input output at true operands p
+  pub rescales_up : {p : Watched} {at : ℕ} (b : Bool) (to line from scale : ℕ) (operands : List Operand) → line < 65536 → from ≤ scale → scale ≤ 15 → (2 ^ (scale - from) == 32768) ≡ b
+      → operand_words operands < level c.acts → All OperandFits operands
+      → Then c.image at (times_code b (2 ^ (scale - from))) (λ k. Checked c.image k to line) → LandedWith c memory input output at true operands p
       → DoesHere c memory input output 17 to true line p (perform c.program.limits.area (Rescale from scale) (words operands memory input output))
-  rescales_up {p} {at} b to by line from scale operands small le few is e arrives roomy fits i =
+  rescales_up {p} {at} b to line from scale operands small le few is roomy fits i =
       taking_one c memory input output 17 to true line (λ x v. put_value (rescaled x from scale) v) does operands roomy fits
     where
       does : (x : ℤ) (rest : List Operand) → FitsWord x → One c memory input output at x rest p
@@ -54,7 +54,7 @@ module _ (c : Setting) (memory : List ℤ) (input output : List ℕ) where
           let most : 2 ^ (scale - from) ≤ 2 ^ 15 = pow_mono k in
           let value : x *ℤ pos n ≡ rescaled x from scale = sym (ap (floor_scaled x) (up_is from scale le) ∙ c.rows.words.scaled_up x (scale - from)) in
           subst (λ z. DoesHere c memory input output 17 to true line p (put_value z (words rest memory input output))) value
-          (multiplied c memory input output b Overflow to n by 17 line x rest tt small is most fx e arrives (lit≤ tt) i l)
+          (multiplied c memory input output b to n 17 line x rest small is most fx (lit≤ tt) i l)
 
   -- a word rounded down to another scale always fits
   pub put_shifted : (limit to line : ℕ) {p : Watched} (z : ℤ) (w : Words) → FitsWord z
@@ -137,17 +137,16 @@ module _ (c : Setting) (memory : List ℤ) (input output : List ℕ) where
   both_fit true d z w h = refl
   both_fit false d z w h = sym (ap (λ e. put_if e Overflow z w) (h refl))
 
-  pub products_up : {p : Watched} {at : ℕ} (b : Bool) (to by1 by2 line k : ℕ) (operands : List Operand) → line < 65536 → suc k ≤ 15 → (2 ^ suc k == 32768) ≡ b
-      → test_place b (at + 1 + 2 + 2 + 3 + 2) + 2 + 3 + 2 ≡ to → (at + 1 + 2 + 2 + 3 + by1) % 65536 ≡ stop_place Overflow % 65536
-      → (test_place b (at + 1 + 2 + 2 + 3 + 2) + 2 + 3 + by2) % 65536 ≡ stop_place Overflow % 65536 → operand_words operands < level c.acts → All OperandFits operands
-      → Then c.image at (i86.Pop 3 ∷ i86.Unary 5 true (rms.Reg 3) ∷ []) (λ m. CheckThen c.image m by1 line (λ m. Then c.image m (times_code b (2 ^ suc k)) (λ m. Check c.image m by2 line)))
+  pub products_up : {p : Watched} {at : ℕ} (b : Bool) (to by1 line k : ℕ) (operands : List Operand) → line < 65536 → suc k ≤ 15 → (2 ^ suc k == 32768) ≡ b
+      → (at + 1 + 2 + 2 + 3 + by1) % 65536 ≡ stop_place Overflow % 65536 → operand_words operands < level c.acts → All OperandFits operands
+      → Then c.image at (i86.Pop 3 ∷ i86.Unary 5 true (rms.Reg 3) ∷ []) (λ m. CheckThen c.image m by1 line (λ m. Then c.image m (times_code b (2 ^ suc k)) (λ m. Checked c.image m to line)))
       → LandedWith c memory input output at true operands p
       → DoesHere c memory input output 20 to true line p (perform c.program.limits.area (Multiply (pos (suc k))) (words operands memory input output))
-  products_up {p} {at} b to by1 by2 line k operands small few is e arrives1 arrives2 roomy fits i =
+  products_up {p} {at} b to by1 line k operands small few is arrives1 roomy fits i =
       taking_two c memory input output 20 to true line (λ x y v. put_value (scaled_product x y (pos (suc k))) v) does operands roomy fits
     where
       Times : ℕ → Type 0
-      Times m = Then c.image m (times_code b (2 ^ suc k)) (λ m. Check c.image m by2 line)
+      Times m = Then c.image m (times_code b (2 ^ suc k)) (λ m. Checked c.image m to line)
 
       does : (x y : ℤ) (rest : List Operand) → FitsWord x → FitsWord y → Two c memory input output at x y rest p
           → DoesHere c memory input output 20 to true line p (put_value (scaled_product x y (pos (suc k))) (words rest memory input output))
@@ -171,10 +170,10 @@ module _ (c : Setting) (memory : List ℤ) (input output : List ℕ) where
           (check_of c.image (at + 1 + 2) by1 line Times ps.1) t
           (λ fits1 r u.
           let f1 = fits_tested whole fits1 in
-          times_tested c memory input output b (λ m. Check c.image m by2 line) to n (suc l.top) 14 17 line whole (put_value z w) is most f1 l.kept.wrote (lit≤ tt) ps.1.1.1.1
+          times_tested c memory input output b (λ m. Checked c.image m to line) to n (suc l.top) 14 17 line whole (put_value z w) is most f1 l.kept.wrote (lit≤ tt) ps.1.1.1.1
           (seen there refl (with_ax (turned_is x y fx fy f1) u))
           (λ a d f overflow q tests value t code.
-          checks c.rows c.program c.image c.g c.acts Overflow to (suc (suc l.top)) by2 line z rest memory input output tt c.library c.few some small e arrives2 tests value l.under l.kept code t)))))
+          checks_end c.rows c.program c.image c.g c.acts to (suc (suc l.top)) line z rest memory input output c.library c.few some small tests value l.under l.kept code t)))))
 
   -- ---- products scaled down
 
@@ -227,11 +226,11 @@ module _ (c : Setting) (memory : List ℤ) (input output : List ℕ) where
           done (result c memory input output to (suc (suc l.top)) (floor_div (signed H) (2 ^ j)) rest e' (shifted_is H j lh (omega arith)) l.under l.kept t)))))
 
   -- by the library
-  pub products_down : {p : Watched} {at : ℕ} (to by stop line j : ℕ) (operands : List Operand) → line < 65536 → at + 14 ≡ to → j < 15 → (at + 1 + 3 + 3 + by) % 65536 ≡ product_place % 65536
-      → (at + 1 + 3 + 3 + 2 + 3 + stop) % 65536 ≡ stop_place Overflow % 65536 → operand_words operands < level c.acts → All OperandFits operands
-      → Then c.image at (i86.Pop 3 ∷ i86.MovImm 1 (imm.Word (j + 1)) ∷ i86.Call by ∷ []) (λ k. Check c.image k stop line) → LandedWith c memory input output at true operands p
+  pub products_down : {p : Watched} {at : ℕ} (to by line j : ℕ) (operands : List Operand) → line < 65536 → j < 15 → (at + 1 + 3 + 3 + by) % 65536 ≡ product_place % 65536
+      → operand_words operands < level c.acts → All OperandFits operands
+      → Then c.image at (i86.Pop 3 ∷ i86.MovImm 1 (imm.Word (j + 1)) ∷ i86.Call by ∷ []) (λ k. Checked c.image k to line) → LandedWith c memory input output at true operands p
       → DoesHere c memory input output 32 to true line p (perform c.program.limits.area (Multiply (negsuc j)) (words operands memory input output))
-  products_down {p} {at} to by stop line j operands small e few arrives1 arrives2 roomy fits i =
+  products_down {p} {at} to by line j operands small few arrives1 roomy fits i =
       taking_two c memory input output 32 to true line (λ x y v. put_value (scaled_product x y (negsuc j)) v) does operands roomy fits
     where
       does : (x y : ℤ) (rest : List Operand) → FitsWord x → FitsWord y → Two c memory input output at x y rest p
@@ -240,7 +239,6 @@ module _ (c : Setting) (memory : List ℤ) (input output : List ℕ) where
           let z = scaled_product x y (negsuc j) in
           let w = words rest memory input output in
           let count : suc j ≡ j + 1 = omega arith in
-          let e' : at + 1 + 13 ≡ to = omega arith in
           let law : (quiet : ℕ → Bool) → InLibrary quiet → WordRoutine (Quiet quiet) c.image.bytes product_place 15 (j + 1) y x z =
           λ quiet in_library.
           subst (λ n. WordRoutine (Quiet quiet) c.image.bytes product_place 15 n y x z) count
@@ -248,4 +246,4 @@ module _ (c : Setting) (memory : List ℤ) (input output : List ℕ) where
           (c.rows.routines.product quiet c.image.bytes c.library in_library y x j fy fx few)) in
           later c.program c.image 31 to c.g true line c.acts 1 32 (put_value z w) (lit≤ tt)
           (straight c.rows (Pop 3 (suc l.top) (unsigned x) ∷ []) l.kept.wrote (i.0, tt) (l.next, tt) l.is (λ q t. done t))
-          (λ q t. by_routine c memory input output to product_place 15 (j + 1) by stop line (suc l.top) y x z rest e' arrives1 arrives2 small l.low law i.1 l.under l.kept t)
+          (λ q t. by_routine c memory input output to product_place 15 (j + 1) by line (suc l.top) y x z rest arrives1 small l.low law i.1 l.under l.kept t)

@@ -1,5 +1,6 @@
 -- The expressions, conditions, references and arguments whose orders do what they mean: what the checks of a unit give. Numbers fit a
--- word at their scale, scales are at most 15, the items that are named have words, what is called in an expression answers, and conditional expressions stand in one another's
+-- word at their scale, scales are at most 15, the items that are named have words, what is called in an expression
+-- answers, and conditional expressions stand in one another's
 -- THEN parts in no more than so many levels, since each may jump once where it ends.
 use Rattle.std.specs.Prelude.{ℕ, zero, suc, max, nat_le, nat_lt, List, [], ◌∷◌, Bool, true, false, ◌&&◌}
 use Rattle.cw_word.specs.Decimal.{decimal_floor}

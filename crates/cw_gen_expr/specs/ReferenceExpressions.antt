@@ -1,5 +1,6 @@
 -- The orders of expressions, conditions, references and arguments.
-use Rattle.std.specs.Prelude.{ℕ, zero, suc, ◌+◌, ◌-◌, ◌%◌, max, ◌==◌, nat_lt, if◌then◌else◌, ℤ, pos, negsuc, ◌-ℤ◌, List, [], ◌∷◌, ◌++◌, Bool, true, false, not, Option, Some, None, slice_get, slice_index_or}
+use Rattle.std.specs.Prelude.{ℕ, zero, suc, ◌+◌, ◌-◌, ◌%◌, max, ◌==◌, nat_lt, if◌then◌else◌, ℤ, pos, negsuc, ◌-ℤ◌, List}
+use Rattle.std.specs.Prelude.{[], ◌∷◌, ◌++◌, Bool, true, false, not, Option, Some, None, slice_get, slice_index_or}
 use Rattle.cw_word.specs.Decimal.{decimal_floor}
 use Rattle.cw_word.specs.Word.{signed, unsigned}
 use Rattle.cw_order.specs.declared.order.Order.{Order}
@@ -31,7 +32,8 @@ use Rattle.cw_unit.specs.declared.unit.Arg.TheOpen as layer
 use Rattle.cw_unit.specs.declared.unit.Arg.TheOpen.{Arg-F, Cond-F, Spot-F, Ref-F}
 use Rattle.cw_unit.specs.Scales.{answer_scale, number_scale}
 use Rattle.cw_gen_expr.specs.Pieces.{Piece, plain, followed_by, sequence, with_end}
-use Rattle.cw_gen_expr.specs.KnownValues.{of_known, of_both, known_sum, known_difference, known_negative, known_rescaled, known_product, known_quotient, known_logic, known_bits, from_lower, element_word, element_of_two_word, entry_word}
+use Rattle.cw_gen_expr.specs.KnownValues.{of_known, of_both, known_sum, known_difference, known_negative, known_rescaled, known_product, known_quotient}
+use Rattle.cw_gen_expr.specs.KnownValues.{known_logic, known_bits, from_lower, element_word, element_of_two_word, entry_word}
 
 -- ---- the body at work
 
@@ -311,9 +313,11 @@ module _ (s : Scope) where
   computed_step (layer.Less a b) = scaled (max a.natural b.natural) (λ f. two_values (a.at f) (b.at f) (order.Sub s.line ∷ []))
   computed_step (layer.Minus a) = scaled a.natural (λ f. followed_by (a.at f) (plain (order.Neg s.line ∷ [])))
   computed_step (layer.Times a b) =
-      scaled (max a.natural b.natural) (λ f. two_values (a.at a.operand) (b.at b.operand) (order.Mul (narrow (pos f -ℤ pos (a.operand + b.operand))) s.line ∷ []))
+      scaled (max a.natural b.natural) (λ f. two_values (a.at a.operand) (b.at b.operand)
+      (order.Mul (narrow (pos f -ℤ pos (a.operand + b.operand))) s.line ∷ []))
   computed_step (layer.Over a b) =
-      scaled (max a.natural b.natural) (λ f. two_values (a.at a.operand) (b.at b.operand) (order.Div (narrow (pos (f + b.operand) -ℤ pos a.operand)) s.line ∷ []))
+      scaled (max a.natural b.natural) (λ f. two_values (a.at a.operand) (b.at b.operand)
+      (order.Div (narrow (pos (f + b.operand) -ℤ pos a.operand)) s.line ∷ []))
   computed_step (layer.Choice c a b) = scaled (max a.natural b.natural) (λ f. choice_piece c (a.at f) (b.at f))
 
   abbrev pub expression_step : Expr-F Piece ConditionPiece Value Piece Reference → Value
@@ -363,11 +367,13 @@ module _ (s : Scope) where
 
   -- the orders of an expression whose value is not known, by its parts
   abbrev pub computed_piece : Expr → (scale : ℕ) → Piece
-  computed_piece e = (computed_step (map-Expr Arg Cond Expr Spot Ref Piece ConditionPiece Value Piece Reference argument_piece condition_piece value_of spot_piece reference_of (out-Expr e))).at
+  computed_piece e = (computed_step (map-Expr Arg Cond Expr Spot Ref Piece ConditionPiece Value Piece Reference
+      argument_piece condition_piece value_of spot_piece reference_of (out-Expr e))).at
 
   -- the layer of a reference, and its indexes
   abbrev pub pieces_of : Spot → Spot-F Piece ConditionPiece Value Piece Reference
-  pieces_of a = map-Spot Arg Cond Expr Spot Ref Piece ConditionPiece Value Piece Reference argument_piece condition_piece value_of spot_piece reference_of (out-Spot a)
+  pieces_of a = map-Spot Arg Cond Expr Spot Ref Piece ConditionPiece Value Piece Reference argument_piece
+      condition_piece value_of spot_piece reference_of (out-Spot a)
 
   abbrev pub indexes_of : Spot → Piece
   indexes_of a = index_piece (pieces_of a)

@@ -5,7 +5,9 @@ ghost use Rattle.cw_order.specs.declared.order.Order.TheVariants as order;
 ghost use Rattle.cw_gen_expr.specs.Pieces.{plain, sequence};
 ghost use Rattle.cw_gen_expr.specs.Output.{made, added};
 ghost use Rattle.cw_gen_expr.specs.UnitTables.{first_mark};
-ghost use Rattle.cw_gen_expr.specs.ReferenceExpressions.{Scope, expression_piece, condition_piece, argument_piece, spot_piece, bounds_orders, comparator_for, pick_mark, rescale_orders, load_orders, table_orders, form_orders, logic_order, narrow, call_order, scope_with, at_line, value_of, computed_piece, known_item, known_word, pieces_of, indexes_of};
+ghost use Rattle.cw_gen_expr.specs.ReferenceExpressions.{Scope, expression_piece, condition_piece, argument_piece, spot_piece, bounds_orders, comparator_for};
+ghost use Rattle.cw_gen_expr.specs.ReferenceExpressions.{pick_mark, rescale_orders, load_orders, table_orders, form_orders, logic_order, narrow, call_order};
+ghost use Rattle.cw_gen_expr.specs.ReferenceExpressions.{scope_with, at_line, value_of, computed_piece, known_item, known_word, pieces_of, indexes_of};
 
 use crate::known::{
     above, bits_of, combined, difference_of, negative_of, product_of, quotient_of, rescaled_to,
@@ -247,7 +249,9 @@ pub fn emit_call(
     line: u16,
     target: &Target,
 ) -> Result<(), NoMemory>
-    ensures { OnOk result (made out.new ≡ added (plain (call_order (at_line line (scope_with unit.now layout.now parameters.now)) target.now ∷ [])) (made out.old)) }
+    ensures { OnOk result (made out.new ≡ added
+        (plain (call_order (at_line line (scope_with unit.now layout.now parameters.now)) target.now ∷ []))
+        (made out.old)) }
 {
     match target {
         Target::Own(procedure) => out.push(Order::CallProc {
@@ -278,7 +282,9 @@ pub fn emit_expression(
     e: &Expr,
     scale: u8,
 ) -> Result<Option<i16>, NoMemory>
-    ensures orders { OnOk result (made out.new ≡ added (expression_piece (at_line line (scope_with unit.now layout.now parameters.now)) e.now scale) (made out.old)) }
+    ensures orders { OnOk result (made out.new
+        ≡ added (expression_piece (at_line line (scope_with unit.now layout.now parameters.now)) e.now scale)
+        (made out.old)) }
     ensures known { IfOk result (λ k. k ≡ (value_of (at_line line (scope_with unit.now layout.now parameters.now)) e.now).known scale) }
 {
     let extent = out.extent();
@@ -301,7 +307,9 @@ fn emit_computed(
     e: &Expr,
     scale: u8,
 ) -> Result<Option<i16>, NoMemory>
-    ensures orders { OnOk result (made out.new ≡ added (computed_piece (at_line line (scope_with unit.now layout.now parameters.now)) e.now scale) (made out.old)) }
+    ensures orders { OnOk result (made out.new
+        ≡ added (computed_piece (at_line line (scope_with unit.now layout.now parameters.now)) e.now scale)
+        (made out.old)) }
     ensures known { IfOk result (λ k. k ≡ (value_of (at_line line (scope_with unit.now layout.now parameters.now)) e.now).known scale) }
 {
     match e {
@@ -436,7 +444,9 @@ pub fn emit_condition(
     when: bool,
     mark: u32,
 ) -> Result<(), NoMemory>
-    ensures { OnOk result (made out.new ≡ added (condition_piece (at_line line (scope_with unit.now layout.now parameters.now)) condition.now when mark) (made out.old)) }
+    ensures { OnOk result (made out.new ≡ added
+        (condition_piece (at_line line (scope_with unit.now layout.now parameters.now)) condition.now when mark)
+        (made out.old)) }
 {
     match condition {
         Cond::Cmp(op, a, b) => {
@@ -543,7 +553,8 @@ fn emit_indexes(
     spot: &Spot,
 ) -> Result<Option<u16>, NoMemory>
     ensures orders { OnOk result (made out.new ≡ added (indexes_of (at_line line (scope_with unit.now layout.now parameters.now)) spot.now) (made out.old)) }
-    ensures known { IfOk result (λ k. k ≡ known_word (at_line line (scope_with unit.now layout.now parameters.now)) (pieces_of (at_line line (scope_with unit.now layout.now parameters.now)) spot.now)) }
+    ensures known { IfOk result (λ k. k ≡ known_word (at_line line (scope_with unit.now layout.now parameters.now))
+        (pieces_of (at_line line (scope_with unit.now layout.now parameters.now)) spot.now)) }
 {
     match spot {
         Spot::Direct(_) | Spot::Through(_) => Ok(None),
@@ -644,7 +655,9 @@ pub fn emit_arguments(
     line: u16,
     arguments: &[Arg],
 ) -> Result<(), NoMemory>
-    ensures { OnOk result (made out.new ≡ added (sequence (map (argument_piece (at_line line (scope_with unit.now layout.now parameters.now))) arguments.now)) (made out.old)) }
+    ensures { OnOk result (made out.new ≡ added
+        (sequence (map (argument_piece (at_line line (scope_with unit.now layout.now parameters.now)))
+        arguments.now)) (made out.old)) }
 {
     for argument in arguments {
         emit_argument(out, unit, layout, parameters, line, argument)?;

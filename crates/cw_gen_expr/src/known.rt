@@ -1,7 +1,8 @@
 //! What is known before a run: values of numbers alone, and words of items that such indexes name.
 ghost use Rattle.std.specs.Prelude.{◌≡◌, ◌≢◌, ◌≤ℤ◌, pos, negsuc};
 ghost use Rattle.cw_word.specs.FixedPoint.{scaled_quotient};
-ghost use Rattle.cw_gen_expr.specs.KnownValues.{of_known, of_both, fitted, known_sum, known_difference, known_negative, known_rescaled, known_product, known_quotient, known_logic, known_bits, word_inside, from_lower, element_word, element_of_two_word, entry_word};
+ghost use Rattle.cw_gen_expr.specs.KnownValues.{of_known, of_both, fitted, known_sum, known_difference, known_negative, known_rescaled, known_product, known_quotient};
+ghost use Rattle.cw_gen_expr.specs.KnownValues.{known_logic, known_bits, word_inside, from_lower, element_word, element_of_two_word, entry_word};
 
 use cw_unit::unit::LogicOp;
 use cw_word::{difference, negate, product, quotient, rescale, sum, take_bits};

@@ -103,7 +103,12 @@ impl Output {
 
     /// Places a mark here.
     pub fn set_mark(&mut self, mark: u32) -> Result<(), NoMemory>
-        ensures { OnOk result (made self.new ≡ record { orders = self.old.orders ++ order.Mark ∷ []; labels = self.old.labels; marks = set self.old.marks.items mark (length self.old.orders) }) }
+        ensures { OnOk result
+            (made self.new ≡ record {
+              orders = self.old.orders ++ order.Mark ∷ [];
+              labels = self.old.labels;
+              marks = set self.old.marks.items mark (length self.old.orders);
+            }) }
     {
         let place = self.place()?;
         if let Some(placed) = self.marks.get_mut(mark as usize) {

@@ -4,7 +4,8 @@ ghost use Rattle.cw_unit.specs.declared.unit.Expr.{out-Expr};
 ghost use Rattle.cw_unit.specs.declared.unit.Spot.{out-Spot};
 ghost use Rattle.cw_gen_unit.specs.ReferenceStatements.{only_step as spec_only_step};
 ghost use Rattle.cw_gen_unit.specs.SimpleLoops.{is_own as spec_is_own, is_static as spec_is_static, are_apart as spec_are_apart, direct_item, variable_if};
-ghost use Rattle.cw_gen_unit.specs.SimpleLoops.{whole_item, item_read as spec_item_read, unsigned_number as spec_unsigned_number, known_number as spec_known_number};
+ghost use Rattle.cw_gen_unit.specs.SimpleLoops.{whole_item, item_read as spec_item_read, unsigned_number as spec_unsigned_number};
+ghost use Rattle.cw_gen_unit.specs.SimpleLoops.{known_number as spec_known_number};
 ghost use Rattle.cw_gen_unit.specs.SimpleLoops.{item_layer, simple_of as spec_simple_of, simple_parts, simple_step as spec_simple_step};
 
 use cw_gen_expr::known::{negative_of, rescaled_to};

@@ -4,8 +4,10 @@ ghost use Rattle.cw_unit.specs.Storage.{layout_of};
 ghost use Rattle.cw_gen_expr.specs.Output.{made};
 ghost use Rattle.cw_gen_expr.specs.UnitTables.{first_mark};
 ghost use Rattle.cw_gen_expr.specs.UnitTables as tables;
-ghost use Rattle.cw_gen_unit.specs.ReferenceUnits.{body_piece, procedure_piece, procedures_piece, entries_of, procedure_labels, label_places, definition_place as spec_definition_place};
-ghost use Rattle.cw_gen_unit.specs.ReferenceUnits.{definition_places as spec_definition_places, label_marks as spec_label_marks, procedure_marks as spec_procedure_marks};
+ghost use Rattle.cw_gen_unit.specs.ReferenceUnits.{body_piece, procedure_piece, procedures_piece, entries_of, procedure_labels};
+ghost use Rattle.cw_gen_unit.specs.ReferenceUnits.{label_places, definition_place as spec_definition_place};
+ghost use Rattle.cw_gen_unit.specs.ReferenceUnits.{definition_places as spec_definition_places, label_marks as spec_label_marks};
+ghost use Rattle.cw_gen_unit.specs.ReferenceUnits.{procedure_marks as spec_procedure_marks};
 ghost use Rattle.cw_gen_unit.specs.ReferenceUnits.{switch_lists as spec_switch_lists, shared as spec_shared, unit_orders};
 ghost use Rattle.cw_gen_unit.specs.LabelPlaces.{labels_placed};
 

@@ -258,7 +258,8 @@ abbrev pub again_first : {s : Sort} → Again s → List TokenKind
 again_first (labelled p) = kinds.Name ∷ kinds.Word words.If ∷ kinds.Word words.For ∷ unnamed_first
 again_first (labelled_simple p) = kinds.Name ∷ unnamed_first
 again_first more_elems = kinds.Symbol symbols.Semicolon ∷ kinds.Word words.Preset ∷ []
-again_first places = kinds.Symbol symbols.Open ∷ kinds.Symbol symbols.Plus ∷ kinds.Symbol symbols.Minus ∷ kinds.Number ∷ kinds.Word words.Octal ∷ kinds.Literal ∷ kinds.Symbol symbols.Comma ∷ []
+again_first places = kinds.Symbol symbols.Open ∷ kinds.Symbol symbols.Plus ∷ kinds.Symbol symbols.Minus
+    ∷ kinds.Number ∷ kinds.Word words.Octal ∷ kinds.Literal ∷ kinds.Symbol symbols.Comma ∷ []
 
 abbrev pub null : {s : Sort} → Grammar s → Bool
 null (one k) = false

@@ -15,7 +15,8 @@ use Rattle.cw_grammar.specs.Reading.{Read}
 abbrev pub labels_of : List Item → List RawName × List Item
 labels_of [] = ([], [])
 labels_of (t ∷ []) = ([], t ∷ [])
-labels_of (t ∷ c ∷ us) = cond (same t.kind kinds.Name && same c.kind (kinds.Symbol symbols.Colon)) (raw_name t ∷ (labels_of us).0, (labels_of us).1) ([], t ∷ c ∷ us)
+labels_of (t ∷ c ∷ us) = cond (same t.kind kinds.Name && same c.kind (kinds.Symbol symbols.Colon))
+    (raw_name t ∷ (labels_of us).0, (labels_of us).1) ([], t ∷ c ∷ us)
 
 -- They are read without a fault.
 abbrev pub labels : List Item → Read (List RawName)

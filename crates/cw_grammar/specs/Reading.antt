@@ -1,4 +1,5 @@
--- Reading from left to right with one token of look-ahead. The readers are proved to give what it gives; what it gives is proved to be what the grammar derives.
+-- Reading from left to right with one token of look-ahead. The readers are proved to give what it gives; what it
+-- gives is proved to be what the grammar derives.
 use Rattle.std.specs.Prelude.{◌≡◌, ℕ, zero, suc, ◌+◌, Bool, true, false, cond, List, [], ◌∷◌, length, Result, Ok, Err}
 use Rattle.cw_lex.specs.declared.token.TokenKind.{TokenKind}
 use Rattle.cw_grammar.specs.declared.stop.Stop.{Stop}

@@ -1,5 +1,6 @@
 -- The grammar of expressions. Official Definition of CORAL 66, "Expressions"; the order in which MASK, UNION and DIFFER bind is this project's profile.
--- `g · h` is one text behind another, `g ∣ h` one or the other, `g ⇒ f` a text with the tree that it stands for; in `g *> h` only the second counts, in `g <* h` the first.
+-- `g · h` is one text behind another, `g ∣ h` one or the other, `g ⇒ f` a text with the tree that it stands for; in
+-- `g *> h` only the second counts, in `g <* h` the first.
 use Rattle.std.specs.Prelude.{ℕ, Bool, true, false, List, [], ◌∷◌, ◌++◌, Option, Some, None}
 use Rattle.cw_lex.specs.declared.token.TokenKind.TheVariants as kinds
 use Rattle.cw_lex.specs.declared.token.Symbol.{Symbol}
@@ -34,8 +35,12 @@ use Rattle.cw_tree.specs.declared.expression.RawPrimary.TheVariants as primary_t
 use Rattle.cw_tree.specs.declared.expression.RawRef.{RawRef}
 use Rattle.cw_tree.specs.declared.expression.RawRef.TheVariants as ref_tree
 use Rattle.cw_grammar.specs.Tokens.{Item, position, name_of, number_of, characters, literal_byte}
-use Rattle.cw_grammar.specs.Grammar.{Either, left, right, Sort, a_token, a_pair, a_list, an_option, an_either, a_position, a_name, a_number, an_octal, a_literal, an_int, a_sint, a_size, a_type, a_sign, a_factor_sign, a_compare_sign, a_bits, an_expr, a_cond, a_cand, a_cmp, a_sum, a_term, a_differ, a_union, a_mask, a_prim, a_primary, a_ref, Value, Rule, bracketed, subscript, indexed, called, located, conditional, Grammar, one, none, ◌·◌, ◌∣◌, many, ◌⇒◌, opens}
-use Rattle.cw_grammar.specs.Trees.{extended, mask_start, union_start, differ_start, term_start, mask_tree, union_tree, differ_tree, term_tree, cand_tree, cond_tree, comparison_tree, sum_tree, sum_start, more_terms, expr_of, prim_of}
+use Rattle.cw_grammar.specs.Grammar.{Either, left, right, Sort, a_token, a_pair, a_list, an_option, an_either, a_position, a_name, a_number, an_octal}
+use Rattle.cw_grammar.specs.Grammar.{a_literal, an_int, a_sint, a_size, a_type, a_sign, a_factor_sign, a_compare_sign, a_bits, an_expr, a_cond, a_cand}
+use Rattle.cw_grammar.specs.Grammar.{a_cmp, a_sum, a_term, a_differ, a_union, a_mask, a_prim, a_primary, a_ref, Value, Rule, bracketed, subscript}
+use Rattle.cw_grammar.specs.Grammar.{indexed, called, located, conditional, Grammar, one, none, ◌·◌, ◌∣◌, many, ◌⇒◌, opens}
+use Rattle.cw_grammar.specs.Trees.{extended, mask_start, union_start, differ_start, term_start, mask_tree, union_tree, differ_tree, term_tree}
+use Rattle.cw_grammar.specs.Trees.{cand_tree, cond_tree, comparison_tree, sum_tree, sum_start, more_terms, expr_of, prim_of}
 
 -- ---- forms
 
@@ -102,7 +107,8 @@ sint = optional sign · int ⇒ (λ x. record { sign = x.0; value = x.1 })
 unfoldable pub number_type : Grammar a_type
 number_type =
     word words.Integer ⇒ (λ t. type_tree.Integer (position t))
-    ∣ word words.Fixed · symbol symbols.Open · int · symbol symbols.Comma · sint · symbol symbols.Close ⇒ (λ x. type_tree.Fixed (position x.0) x.1.1.0 x.1.1.1.1.0)
+    ∣ word words.Fixed · symbol symbols.Open · int · symbol symbols.Comma · sint · symbol symbols.Close ⇒
+    (λ x. type_tree.Fixed (position x.0) x.1.1.0 x.1.1.1.1.0)
 
 -- size = "[" int "," int "]"
 unfoldable pub size : Grammar a_size

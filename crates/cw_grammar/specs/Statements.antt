@@ -1,4 +1,5 @@
--- The grammar of declarations, statements and segments. Official Definition of CORAL 66, "Segment", "Communicators", "Declarations" and "Statements"; the forms of preset lists are this project's profile.
+-- The grammar of declarations, statements and segments. Official Definition of CORAL 66, "Segment", "Communicators",
+-- "Declarations" and "Statements"; the forms of preset lists are this project's profile.
 use Rattle.std.specs.Prelude.{ℕ, Bool, true, false, List, [], ◌∷◌, ◌++◌, Option, Some, None, is_some}
 use Rattle.cw_lex.specs.declared.token.TokenKind.TheVariants as kinds
 use Rattle.cw_lex.specs.declared.token.Symbol.{Symbol}
@@ -58,8 +59,14 @@ use Rattle.cw_tree.specs.declared.segment.RawComm.{RawComm}
 use Rattle.cw_tree.specs.declared.segment.RawComm.TheVariants as comm_tree
 use Rattle.cw_tree.specs.declared.segment.Raw.{Raw}
 use Rattle.cw_grammar.specs.Tokens.{Item, position}
-use Rattle.cw_grammar.specs.Grammar.{Sort, a_token, a_pair, a_list, an_option, an_either, a_position, a_name, a_number, an_octal, a_literal, an_int, a_sint, a_size, a_type, a_sign, a_factor_sign, a_compare_sign, a_bits, an_expr, a_cond, a_cand, a_cmp, a_sum, a_term, a_differ, a_union, a_mask, a_prim, a_primary, a_ref, a_range, a_bounds, a_group, an_elem, a_place, a_presets, a_table, a_data, a_base, a_stmt, a_form, a_simple, a_felem, a_block, a_decl, a_ptag, a_proc, a_param, an_ips, a_ps, a_spec, a_citem, an_aitem, a_comm, a_raw, a_from, Value, Rule, bracketed, subscript, indexed, called, located, conditional, if_rest, else_rest, for_rest, block_rest, proc_body, Again, labelled, labelled_simple, more_elems, places, Grammar, one, none, ◌·◌, ◌∣◌, many, ◌⇒◌, opens, again}
-use Rattle.cw_grammar.specs.Rules.{word, symbol, ◌*>◌, ◌<*◌, optional, commas, name, number, octal, int, sign, sint, number_type, size, bits, reference, condition, expr, raw_literal, indexed_name}
+use Rattle.cw_grammar.specs.Grammar.{Sort, a_token, a_pair, a_list, an_option, an_either, a_position, a_name, a_number, an_octal, a_literal, an_int, a_sint, a_size}
+use Rattle.cw_grammar.specs.Grammar.{a_type, a_sign, a_factor_sign, a_compare_sign, a_bits, an_expr, a_cond, a_cand, a_cmp, a_sum, a_term, a_differ, a_union, a_mask}
+use Rattle.cw_grammar.specs.Grammar.{a_prim, a_primary, a_ref, a_range, a_bounds, a_group, an_elem, a_place, a_presets, a_table, a_data, a_base, a_stmt, a_form, a_simple}
+use Rattle.cw_grammar.specs.Grammar.{a_felem, a_block, a_decl, a_ptag, a_proc, a_param, an_ips, a_ps, a_spec, a_citem, an_aitem, a_comm, a_raw, a_from, Value, Rule}
+use Rattle.cw_grammar.specs.Grammar.{bracketed, subscript, indexed, called, located, conditional, if_rest, else_rest, for_rest, block_rest, proc_body, Again, labelled}
+use Rattle.cw_grammar.specs.Grammar.{labelled_simple, more_elems, places, Grammar, one, none, ◌·◌, ◌∣◌, many, ◌⇒◌, opens, again}
+use Rattle.cw_grammar.specs.Rules.{word, symbol, ◌*>◌, ◌<*◌, optional, commas, name, number, octal, int, sign, sint}
+use Rattle.cw_grammar.specs.Rules.{number_type, size, bits, reference, condition, expr, raw_literal, indexed_name}
 
 -- ---- forms
 

@@ -3,7 +3,8 @@ use Rattle.std.specs.Prelude.{Bool, true, List, Option}
 use Rattle.cw_lex.specs.declared.token.Symbol.TheVariants as symbols
 use Rattle.cw_lex.specs.declared.token.TokenKind.TheVariants as kinds
 use Rattle.cw_lex.specs.declared.token.Word.TheVariants as words
-use Rattle.cw_grammar.specs.Grammar.{Sort, Rule, bracketed, subscript, indexed, called, located, conditional, if_rest, else_rest, for_rest, block_rest, proc_body, Again, labelled, labelled_simple, more_elems, places, Grammar, ◌·◌, ◌∣◌, many, ◌⇒◌, opens, again}
+use Rattle.cw_grammar.specs.Grammar.{Sort, Rule, bracketed, subscript, indexed, called, located, conditional, if_rest, else_rest, for_rest, block_rest}
+use Rattle.cw_grammar.specs.Grammar.{proc_body, Again, labelled, labelled_simple, more_elems, places, Grammar, ◌·◌, ◌∣◌, many, ◌⇒◌, opens, again}
 use Rattle.cw_grammar.specs.Rules.{word, symbol, ◌*>◌, ◌<*◌, optional, commas, name, reference, condition, expr}
 use Rattle.cw_grammar.specs.Statements.{semicolons, stmt, simple, felem, decl, presets, elems_behind}
 

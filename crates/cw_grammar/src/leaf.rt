@@ -3,7 +3,8 @@ ghost use Rattle.std.specs.Prelude.{◌≡◌, ◌<◌, ◌≤◌, ◌+◌, ◌-
 ghost use Rattle.std.specs.List.{list_all, prefix_len};
 ghost use Rattle.std.specs.Char.{is_ascii_digit, is_ascii_uppercase, to_ascii_uppercase};
 ghost use Rattle.std.specs.Str.Parse.{digits_value};
-ghost use Rattle.cw_grammar.specs.Tokens.{begins_with, is_identifier, identifier, name_of, is_part, part_value, part_places, whole_part, fraction, number_of, unquoted, characters, literal_byte};
+ghost use Rattle.cw_grammar.specs.Tokens.{begins_with, is_identifier, identifier, name_of, is_part, part_value, part_places};
+ghost use Rattle.cw_grammar.specs.Tokens.{whole_part, fraction, number_of, unquoted, characters, literal_byte};
 
 use cw_lex::TokenKind;
 use cw_word::{List, Name, NoMemory, Num};

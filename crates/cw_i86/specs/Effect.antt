@@ -1,5 +1,6 @@
 -- What each instruction does.
-use Rattle.std.specs.Prelude.{ℕ, ◌+◌, ◌-◌, ◌*◌, ◌/◌, ◌%◌, ◌^◌, Bool, true, false, not, ◌&&◌, ◌||◌, nat_lt, nat_le, ◌==◌, if◌then◌else◌, Option, Some, None, ℤ, ◌*ℤ◌, bit_and, bit_or, bit_xor}
+use Rattle.std.specs.Prelude.{ℕ, ◌+◌, ◌-◌, ◌*◌, ◌/◌, ◌%◌, ◌^◌, Bool, true, false, not, ◌&&◌, ◌||◌, nat_lt, nat_le}
+use Rattle.std.specs.Prelude.{◌==◌, if◌then◌else◌, Option, Some, None, ℤ, ◌*ℤ◌, bit_and, bit_or, bit_xor}
 use Rattle.std.specs.Int.{Width, w8, w16, w32, cast_signed, cast_unsigned}
 use Rattle.std.specs.Bool.{beq}
 use Rattle.cw_i86.specs.Sums.{sum_of, sum_flags, difference_of, difference_flags, keeping_carry, logic_flags, overflows}
@@ -14,8 +15,12 @@ use Rattle.cw_i86.specs.declared.instr.Rm.{Rm}
 use Rattle.cw_i86.specs.declared.instr.Rm.TheVariants as rms
 use Rattle.cw_i86.specs.declared.instr.Imm.{Imm}
 use Rattle.cw_i86.specs.declared.instr.Instr.{Instr}
-use Rattle.cw_i86.specs.declared.instr.Instr.TheVariants.{AluRm, AluAcc, Inc, Dec, Push, Pop, JumpIf, AluImm, AluShort, TestRm, XchgRm, Mov, Lea, XchgAx, Cbw, Cwd, PushF, PopF, Sahf, Lahf, MovAcc, TestAcc, MovImm, RetAdd, Ret, MovRm, Shift as ShiftRm, Loop, In, Out, Call, Jump, JumpShort, Hlt, Cmc, Clc, Stc, TestImm, Unary, IncDec, CallRm, JumpRm, PushRm}
-use Rattle.cw_i86.specs.State.{State, data_segment, sign_extended, half_of, limit_of, imm_value, register, with_register, byte_register, with_byte_register, sized_register, with_sized_register, past, with_flags, offset_of, value_at, with_value_at, operand, with_operand, push, top_word, popped, flags_word, low_flags, flags_of_word}
+use Rattle.cw_i86.specs.declared.instr.Instr.TheVariants.{AluRm, AluAcc, Inc, Dec, Push, Pop, JumpIf, AluImm, AluShort, TestRm, XchgRm, Mov, Lea, XchgAx, Cbw, Cwd}
+use Rattle.cw_i86.specs.declared.instr.Instr.TheVariants.{PushF, PopF, Sahf, Lahf, MovAcc, TestAcc, MovImm, RetAdd, Ret, MovRm, Shift as ShiftRm, Loop, In, Out}
+use Rattle.cw_i86.specs.declared.instr.Instr.TheVariants.{Call, Jump, JumpShort, Hlt, Cmc, Clc, Stc, TestImm, Unary, IncDec, CallRm, JumpRm, PushRm}
+use Rattle.cw_i86.specs.State.{State, data_segment, sign_extended, half_of, limit_of, imm_value, register, with_register, byte_register}
+use Rattle.cw_i86.specs.State.{with_byte_register, sized_register, with_sized_register, past, with_flags, offset_of, value_at, with_value_at}
+use Rattle.cw_i86.specs.State.{operand, with_operand, push, top_word, popped, flags_word, low_flags, flags_of_word}
 
 -- ---- the eight operations: ADD OR ADC SBB AND SUB XOR CMP
 

@@ -1,5 +1,6 @@
 -- A step of the machine, a run, and what a run shows.
-use Rattle.std.specs.Prelude.{◌≡◌, ℕ, zero, suc, ◌+◌, ◌*◌, ◌/◌, ◌%◌, ◌<◌, ◌≤◌, ◌^◌, ◌==◌, ◌||◌, ◌⊎◌, Bool, false, List, [], ◌∷◌, ◌++◌, Option, Some, None, length, drop, slice_index, if◌then◌else◌}
+use Rattle.std.specs.Prelude.{◌≡◌, ℕ, zero, suc, ◌+◌, ◌*◌, ◌/◌, ◌%◌, ◌<◌, ◌≤◌, ◌^◌, ◌==◌, ◌||◌, ◌⊎◌, Bool, false, List}
+use Rattle.std.specs.Prelude.{[], ◌∷◌, ◌++◌, Option, Some, None, length, drop, slice_index, if◌then◌else◌}
 use Rattle.cw_i86.specs.Encoding.{bytes_of, IsInstr, BeginsWith}
 use Rattle.cw_i86.specs.State.{State, window, byte_register, with_byte_register, past}
 use Rattle.cw_i86.specs.Effect.{executed}

@@ -1,5 +1,6 @@
 -- Products and quotients. Half is 80h for bytes and 8000h for words.
-use Rattle.std.specs.Prelude.{ℕ, ◌+◌, ◌/◌, ◌%◌, Bool, nat_lt, ◌==◌, ◌&&◌, if◌then◌else◌, ℤ, pos, neg_ℤ, int_lt, int_div, int_rem, unsigned_abs, Option, Some, None}
+use Rattle.std.specs.Prelude.{ℕ, ◌+◌, ◌/◌, ◌%◌, Bool, nat_lt, ◌==◌, ◌&&◌, if◌then◌else◌, ℤ, pos, neg_ℤ}
+use Rattle.std.specs.Prelude.{int_lt, int_div, int_rem, unsigned_abs, Option, Some, None}
 use Rattle.cw_i86.specs.declared.flags.Flags.{Flags}
 use Rattle.std.specs.Int.{Width, cast_signed, cast_unsigned}
 use Rattle.std.specs.Option.{option_map}

@@ -1,5 +1,6 @@
 -- The state of the processor, and its parts.
-use Rattle.std.specs.Prelude.{ℕ, zero, suc, ◌+◌, ◌-◌, ◌*◌, ◌/◌, ◌%◌, ◌^◌, Bool, true, false, ◌||◌, List, [], ◌∷◌, nat_lt, ◌==◌, if◌then◌else◌, slice_index, slice_set}
+use Rattle.std.specs.Prelude.{ℕ, zero, suc, ◌+◌, ◌-◌, ◌*◌, ◌/◌, ◌%◌, ◌^◌, Bool, true, false, ◌||◌, List}
+use Rattle.std.specs.Prelude.{[], ◌∷◌, nat_lt, ◌==◌, if◌then◌else◌, slice_index, slice_set}
 use Rattle.cw_i86.specs.Sums.{bit}
 use Rattle.cw_i86.specs.Shifts.{is_odd}
 use Rattle.cw_i86.specs.declared.flags.Flags.{Flags}

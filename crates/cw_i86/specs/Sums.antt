@@ -1,5 +1,6 @@
 -- Sums, differences and logic, with their flags. A number has the width of a byte, where half is 80h, or of a word, where it is 8000h.
-use Rattle.std.specs.Prelude.{ℕ, ◌+◌, ◌-◌, ◌*◌, ◌%◌, Bool, false, nat_lt, nat_le, ◌==◌, ◌||◌, not, if◌then◌else◌, ℤ, pos, neg_ℤ, ◌+ℤ◌, ◌-ℤ◌, int_lt, int_le, bit_and, bit_or, bit_xor, count_ones}
+use Rattle.std.specs.Prelude.{ℕ, ◌+◌, ◌-◌, ◌*◌, ◌%◌, Bool, false, nat_lt, nat_le, ◌==◌, ◌||◌, not, if◌then◌else◌}
+use Rattle.std.specs.Prelude.{ℤ, pos, neg_ℤ, ◌+ℤ◌, ◌-ℤ◌, int_lt, int_le, bit_and, bit_or, bit_xor, count_ones}
 use Rattle.std.specs.Int.{from_bool}
 use Rattle.cw_i86.specs.declared.flags.Flags.{Flags}
 

@@ -1,5 +1,6 @@
 //! A store of files in memory.
-ghost use Rattle.std.specs.Prelude.{◌≡◌, ◌↔◌, ◌⊎◌, ◌+◌, ◌-◌, ◌<◌, ◌≤◌, ◌∷◌, ◌++◌, ℕ, [], length, min, drop, All, option_map, IfSome, Some, None, vec_len, vec_capacity, IfOk, OnOk, OnErr, IsErr, IsErrOf, IsTrue};
+ghost use Rattle.std.specs.Prelude.{◌≡◌, ◌↔◌, ◌⊎◌, ◌+◌, ◌-◌, ◌<◌, ◌≤◌, ◌∷◌, ◌++◌, ℕ, [], length, min, drop, All, option_map};
+ghost use Rattle.std.specs.Prelude.{IfSome, Some, None, vec_len, vec_capacity, IfOk, OnOk, OnErr, IsErr, IsErrOf, IsTrue};
 ghost use Rattle.std.specs.Io.{ReadsAtMost};
 ghost use Rattle.cw_io.specs.Count.{CountsBoth, one_more};
 ghost use Rattle.cw_io.specs.File.{as_file, IsAbsent, GivesPart, KeptOrWhole, OthersStay, AllStay};
@@ -153,7 +154,8 @@ impl Store for MemStore {
 
     fn write_all(&mut self, name: &str, bytes: &[u8]) -> Result<(), StoreFault>
         ensures whole { OnOk result (Some (file_in self.new name.now) ≡ as_file (Some (file_in self.old name.now)) bytes.now) }
-        ensures kept_or_whole { OnErr result (KeptOrWhole (λ other. Some (file_in self.old other)) (λ other. Some (file_in self.new other)) name.now bytes.now) }
+        ensures kept_or_whole { OnErr result (KeptOrWhole (λ other. Some (file_in self.old other))
+            (λ other. Some (file_in self.new other)) name.now bytes.now) }
         ensures never_missing { IsErrOf result StoreFault.Missing → ⊥ }
         ensures stay { OthersStay (λ other. Some (file_in self.old other)) (λ other. Some (file_in self.new other)) name.now }
         ensures counts { CountsBoth (schedule_of self.old).faults (schedule_of self.new).faults (absences_of self.old) (absences_of self.new) result }

@@ -1,7 +1,8 @@
 //! Declared things.
 ghost use Rattle.std.specs.Prelude.{◌≡◌, ◌+◌, ◌*◌, ◌++◌, ◌∷◌, [], OnOk};
 ghost use Rattle.cw_table.specs.Rows.{item_at};
-ghost use Rattle.cw_items.specs.Things.{capped, thing, steps_to, array_word, table_word, word_of_base, base_at, amount_or_none, moved, moved_past, named_things};
+ghost use Rattle.cw_items.specs.Things.{capped, thing, steps_to, array_word, table_word, word_of_base};
+ghost use Rattle.cw_items.specs.Things.{base_at, amount_or_none, moved, moved_past, named_things};
 ghost use Rattle.cw_items.specs.Things.{group_words, groups_things, words_of_table, data_things, parameter_things, parameters_things};
 
 use crate::thing::{Base, Owner, Sort, Thing, capped};

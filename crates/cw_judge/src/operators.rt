@@ -1,7 +1,8 @@
 //! Operators are counted.
 ghost use Rattle.std.specs.Prelude.{◌≡◌, ◌++◌, ◌∷◌, map, OnOk};
 ghost use Rattle.cw_judge.specs.Operators.{between, each, together, sign_at, factor_sign_at, bits_at, sign_if, expression_operators, primary_operators};
-ghost use Rattle.cw_judge.specs.Operators.{reference_operators, conjunction_operators, comparison_operators, condition_operators, differ_operators, mask_operators};
+ghost use Rattle.cw_judge.specs.Operators.{reference_operators, conjunction_operators, comparison_operators};
+ghost use Rattle.cw_judge.specs.Operators.{condition_operators, differ_operators, mask_operators};
 ghost use Rattle.cw_judge.specs.Operators.{prim_operators, sum_operators, term_operators, union_operators, too_many_if, few_operators};
 
 use cw_scale::fault::{Fault, Rule, keep};

@@ -1,6 +1,7 @@
 -- What is found at the front of a text, as the lexer's private functions compute it.
 -- What the items of a text are, Lexical says, and nothing here.
-use Rattle.std.specs.Prelude.{ℕ, zero, suc, ◌+◌, ◌-◌, ◌==◌, nat_lt, Bool, true, false, not, ◌&&◌, ◌||◌, List, [], ◌∷◌, length, take, drop, Option, Some, None, Result, Ok, Err, if◌then◌else◌}
+use Rattle.std.specs.Prelude.{ℕ, zero, suc, ◌+◌, ◌-◌, ◌==◌, nat_lt, Bool, true, false, not, ◌&&◌, ◌||◌, List, []}
+use Rattle.std.specs.Prelude.{◌∷◌, length, take, drop, Option, Some, None, Result, Ok, Err, if◌then◌else◌}
 use Rattle.std.specs.List.{prefix_len}
 use Rattle.std.specs.Char.{is_ascii_alphabetic, is_ascii_alphanumeric, is_ascii_digit}
 use Rattle.cw_lex.specs.declared.token.Form.{Form}
@@ -35,7 +36,9 @@ bare_comment bs = if is_comment (word_of (take (prefix_len is_ascii_alphanumeric
 
 -- behind its first apostrophe
 abbrev pub quoted_comment : List ℕ → ℕ
-quoted_comment bs = closed_comment (prefix_len is_ascii_alphanumeric bs) (is_comment (word_of (take (prefix_len is_ascii_alphanumeric bs) bs))) (drop (prefix_len is_ascii_alphanumeric bs) bs)
+quoted_comment bs = closed_comment (prefix_len is_ascii_alphanumeric bs)
+    (is_comment (word_of (take (prefix_len is_ascii_alphanumeric bs) bs)))
+    (drop (prefix_len is_ascii_alphanumeric bs) bs)
 
 abbrev pub comment_word : List ℕ → ℕ
 comment_word [] = 0
@@ -88,7 +91,8 @@ closed_word form w n all _ = None
 
 abbrev pub quoted_word : Form → List ℕ → FoundItem
 quoted_word form [] = None
-quoted_word form (c ∷ bs) = closed_word form (take (prefix_len is_ascii_alphanumeric bs) bs) (prefix_len is_ascii_alphanumeric bs) (c ∷ bs) (drop (prefix_len is_ascii_alphanumeric bs) bs)
+quoted_word form (c ∷ bs) = closed_word form (take (prefix_len is_ascii_alphanumeric bs) bs)
+    (prefix_len is_ascii_alphanumeric bs) (c ∷ bs) (drop (prefix_len is_ascii_alphanumeric bs) bs)
 
 abbrev pub fraction : List ℕ → ℕ
 fraction (c ∷ bs) = if c == 46 then (if prefix_len is_ascii_digit bs == 0 then 0 else prefix_len is_ascii_digit bs + 1) else 0

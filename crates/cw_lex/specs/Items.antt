@@ -1,5 +1,7 @@
--- The forms of items, separators and comments. Official Definition of CORAL 66, "Basic symbols", "Comment" and "Macro facility"; the limits are this project's profile.
-use Rattle.std.specs.Prelude.{◌≡◌, ◌≢◌, ℕ, ◌+◌, ◌≤◌, ◌<◌, ◌==◌, nat_le, Bool, true, false, not, ◌&&◌, ◌||◌, List, [], ◌∷◌, ◌++◌, length, drop, map, count_by, Option, Some, None, if◌then◌else◌}
+-- The forms of items, separators and comments. Official Definition of CORAL 66, "Basic symbols", "Comment" and "Macro
+-- facility"; the limits are this project's profile.
+use Rattle.std.specs.Prelude.{◌≡◌, ◌≢◌, ℕ, ◌+◌, ◌≤◌, ◌<◌, ◌==◌, nat_le, Bool, true, false, not, ◌&&◌, ◌||◌, List}
+use Rattle.std.specs.Prelude.{[], ◌∷◌, ◌++◌, length, drop, map, count_by, Option, Some, None, if◌then◌else◌}
 use Rattle.std.specs.List.{prefix_len, list_all}
 use Rattle.std.specs.Char.{is_ascii_alphabetic, is_ascii_alphanumeric, is_ascii_digit}
 use Rattle.std.specs.Str.{str_eq_ignore_ascii_case}
@@ -112,11 +114,13 @@ EndsWord w rest = prefix_len is_ascii_alphanumeric (w ++ rest) ≤ length w
 pub data AreSeparators : List ℕ → Type 0 where
   no_separator : AreSeparators []
   a_byte : {b : ℕ} {rest : List ℕ} → is_separator b ≡ true → AreSeparators rest → AreSeparators (b ∷ rest)
-  a_comment : (w body : List ℕ) {rest : List ℕ} → IsWord w words.Comment → EndsWord w body → list_all not_semicolon body ≡ true → AreSeparators rest → AreSeparators (w ++ (body ++ 59 ∷ rest))
+  a_comment : (w body : List ℕ) {rest : List ℕ} → IsWord w words.Comment → EndsWord w body
+      → list_all not_semicolon body ≡ true → AreSeparators rest → AreSeparators (w ++ (body ++ 59 ∷ rest))
 
 -- the word LITERAL, separators, and one character between brackets
 pub data IsLiteral (form : Form) : List ℕ → Type 0 where
-  of_character : (w gap : List ℕ) (b : ℕ) → IsWord w words.Literal → EndsWord w gap → AreSeparators gap → is_literal_byte form b ≡ true → IsLiteral form (w ++ (gap ++ 40 ∷ b ∷ 41 ∷ []))
+  of_character : (w gap : List ℕ) (b : ℕ) → IsWord w words.Literal → EndsWord w gap → AreSeparators gap
+      → is_literal_byte form b ≡ true → IsLiteral form (w ++ (gap ++ 40 ∷ b ∷ 41 ∷ []))
 
 -- The bytes, all of them, are an item of this kind. (The word COMMENT is one too, though no token.)
 abbrev pub IsItem : Form → List ℕ → TokenKind → Type 0

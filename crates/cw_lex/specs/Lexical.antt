@@ -48,17 +48,22 @@ is_token after_semicolon (kinds.Word words.Comment) = false
 is_token after_semicolon (kinds.Symbol symbols.Open) = not after_semicolon
 is_token after_semicolon _ = true
 
--- Between tokens: a separator; the word COMMENT and all up to the next semicolon; or, where the last token is a semicolon, a bracket and all up to the matching one.
+-- Between tokens: a separator; the word COMMENT and all up to the next semicolon; or, where the last token is a
+-- semicolon, a bracket and all up to the matching one.
 pub data IsGap (form : Form) (after_semicolon : Bool) : List ℕ → List ℕ → Type 0 where
   separator : {b : ℕ} {rest : List ℕ} → is_separator b ≡ true → IsGap form after_semicolon (b ∷ []) rest
-  comment : (w body : List ℕ) {rest : List ℕ} → IsLongest form w (body ++ 59 ∷ rest) (kinds.Word words.Comment) → list_all not_semicolon body ≡ true → IsGap form after_semicolon (w ++ (body ++ 59 ∷ [])) rest
+  comment : (w body : List ℕ) {rest : List ℕ} → IsLongest form w (body ++ 59 ∷ rest) (kinds.Word words.Comment)
+      → list_all not_semicolon body ≡ true → IsGap form after_semicolon (w ++ (body ++ 59 ∷ [])) rest
   bracket_comment : {w rest : List ℕ} → after_semicolon ≡ true → IsBracketed (40 ∷ w) → IsGap form after_semicolon (40 ∷ w) rest
 
 -- Behind before, where after_semicolon says whether the last token is a semicolon, the rest of the text has these tokens.
 pub data Lexes (form : Form) (start : Place) : List ℕ → Bool → List ℕ → List Lexeme → Type 0 where
   at_end : {before : List ℕ} {after : Bool} → Lexes form start before after [] []
-  a_gap : {before gap rest : List ℕ} {after : Bool} {ts : List Lexeme} → IsGap form after gap rest → Lexes form start (before ++ gap) after rest ts → Lexes form start before after (gap ++ rest) ts
-  a_token : {before w rest : List ℕ} {after : Bool} {kind : TokenKind} {ts : List Lexeme} → IsLongest form w rest kind → is_token after kind ≡ true → keeps_limit kind w ≡ true → Lexes form start (before ++ w) (is_semicolon kind) rest ts
+  a_gap : {before gap rest : List ℕ} {after : Bool} {ts : List Lexeme} → IsGap form after gap rest
+      → Lexes form start (before ++ gap) after rest ts → Lexes form start before after (gap ++ rest) ts
+  a_token : {before w rest : List ℕ} {after : Bool} {kind : TokenKind} {ts : List Lexeme}
+      → IsLongest form w rest kind → is_token after kind ≡ true → keeps_limit kind w ≡ true
+      → Lexes form start (before ++ w) (is_semicolon kind) rest ts
       → Lexes form start before after (w ++ rest) (record { kind = kind; line = line_behind start before; at = at_behind start before; text = w } ∷ ts)
 
 -- The problem where no item, separator or comment is possible: an open string at its quote, a bad number at a point, else a bad character.
@@ -70,11 +75,15 @@ pub data IsMissing (form : Form) : Problem → ℕ → List ℕ → Type 0 where
 
 -- What is wrong at the front of a text.
 pub data IsWrong (form : Form) (after_semicolon : Bool) : Problem → List ℕ → Type 0 where
-  no_item : {p : Problem} {b : ℕ} {rest : List ℕ} → is_separator b ≡ false → HasNoItem form (b ∷ rest) → IsMissing form p b rest → IsWrong form after_semicolon p (b ∷ rest)
+  no_item : {p : Problem} {b : ℕ} {rest : List ℕ} → is_separator b ≡ false → HasNoItem form (b ∷ rest)
+      → IsMissing form p b rest → IsWrong form after_semicolon p (b ∷ rest)
   long_name : {w rest : List ℕ} → IsLongest form w rest kinds.Name → keeps_limit kinds.Name w ≡ false → IsWrong form after_semicolon LongName (w ++ rest)
   long_number : {w rest : List ℕ} → IsLongest form w rest kinds.Number → keeps_limit kinds.Number w ≡ false → IsWrong form after_semicolon BadNumber (w ++ rest)
-  open_comment : {w rest : List ℕ} → IsLongest form w rest (kinds.Word words.Comment) → list_all not_semicolon rest ≡ true → IsWrong form after_semicolon OpenComment (w ++ rest)
-  open_bracket : {rest : List ℕ} → after_semicolon ≡ true → ((v r : List ℕ) → v ++ r ≡ rest → IsBracketed (40 ∷ v) → ⊥) → IsWrong form after_semicolon OpenComment (40 ∷ rest)
+  open_comment : {w rest : List ℕ} → IsLongest form w rest (kinds.Word words.Comment)
+      → list_all not_semicolon rest ≡ true → IsWrong form after_semicolon OpenComment (w ++ rest)
+  open_bracket : {rest : List ℕ} → after_semicolon ≡ true
+      → ((v r : List ℕ) → v ++ r ≡ rest → IsBracketed (40 ∷ v) → ⊥)
+      → IsWrong form after_semicolon OpenComment (40 ∷ rest)
 
 abbrev pub fault_at : Problem → ℕ → LexFault
 fault_at BadChar line = faults.BadChar line
@@ -85,9 +94,13 @@ fault_at OpenComment line = faults.OpenComment line
 
 -- The first fault behind before.
 pub data Fails (form : Form) (start : Place) : List ℕ → Bool → List ℕ → LexFault → Type 0 where
-  here : {before rest : List ℕ} {after : Bool} {p : Problem} → IsWrong form after p rest → Fails form start before after rest (fault_at p (line_behind start before))
-  behind_gap : {before gap rest : List ℕ} {after : Bool} {f : LexFault} → IsGap form after gap rest → Fails form start (before ++ gap) after rest f → Fails form start before after (gap ++ rest) f
-  behind_token : {before w rest : List ℕ} {after : Bool} {kind : TokenKind} {f : LexFault} → IsLongest form w rest kind → is_token after kind ≡ true → keeps_limit kind w ≡ true → Fails form start (before ++ w) (is_semicolon kind) rest f → Fails form start before after (w ++ rest) f
+  here : {before rest : List ℕ} {after : Bool} {p : Problem} → IsWrong form after p rest
+      → Fails form start before after rest (fault_at p (line_behind start before))
+  behind_gap : {before gap rest : List ℕ} {after : Bool} {f : LexFault} → IsGap form after gap rest
+      → Fails form start (before ++ gap) after rest f → Fails form start before after (gap ++ rest) f
+  behind_token : {before w rest : List ℕ} {after : Bool} {kind : TokenKind} {f : LexFault}
+      → IsLongest form w rest kind → is_token after kind ≡ true → keeps_limit kind w ≡ true
+      → Fails form start (before ++ w) (is_semicolon kind) rest f → Fails form start before after (w ++ rest) f
 
 -- The text, which begins at the place, has these tokens.
 abbrev pub Tokenizes : Form → Place → List ℕ → List Lexeme → Type 0

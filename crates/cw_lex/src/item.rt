@@ -5,7 +5,8 @@ ghost use Rattle.std.specs.List.{prefix_len};
 ghost use Rattle.std.specs.Str.{str_eq_ignore_ascii_case};
 ghost use Rattle.std.specs.Char.{is_ascii_alphanumeric, is_ascii_digit};
 ghost use Rattle.cw_lex.specs.Items.{is_separator, look_up, word_of, one_mark, two_marks, is_literal_byte, is_plain, not_semicolon};
-ghost use Rattle.cw_lex.specs.Found.{text_end, is_comment, bare_comment, quoted_comment, comment_word, comment_size, gap_size, body_text_end, literal_end, worded, bare_word, quoted_word, fraction, number, string, symbol, found};
+ghost use Rattle.cw_lex.specs.Found.{text_end, is_comment, bare_comment, quoted_comment, comment_word, comment_size, gap_size, body_text_end};
+ghost use Rattle.cw_lex.specs.Found.{literal_end, worded, bare_word, quoted_word, fraction, number, string, symbol, found};
 
 use crate::token::{Form, Symbol, TokenKind, WORDS, Word};
 

@@ -4,3 +4,4 @@ pub mod Past
 pub mod Whole
 pub mod Once
 pub mod Told
+pub mod Fronts

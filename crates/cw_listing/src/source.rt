@@ -79,9 +79,10 @@ fn behind(source: &[u8], start: u64) -> &[u8]
 fn add_line_shown(text: &mut Vec<u8>, source: &[u8], start: u64) -> Result<(), NoMemory>
     ensures { OnOk result (text.new.items ≡ text.old.items ++ line_shown source.now start) }
 {
-    let rest = behind(source, start);
-    let length = line_length(rest);
-    add_printed(text, front(front(rest, length), 100))
+    // (a line may be as long as the text: its end is looked for among the bytes that are shown)
+    let shown = front(behind(source, start), 100);
+    let length = line_length(shown);
+    add_printed(text, front(shown, length))
 }
 
 fn line_start(source: &[u8], starts: &[u64], line: u16) -> u64

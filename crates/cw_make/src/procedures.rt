@@ -1,6 +1,7 @@
 //! The procedures of a text.
 ghost use Rattle.std.specs.Prelude.{◌≡◌, ◌++◌, ◌∷◌, [], IfOk, OnOk};
-ghost use Rattle.cw_make.specs.Procedures.{param_of, each_param, params_in, params_of, is_control, controls_from, proc_of, joined, procedures_if, declaration_procs};
+ghost use Rattle.cw_make.specs.Procedures.{param_of, each_param, params_in, params_of, is_control, controls_from};
+ghost use Rattle.cw_make.specs.Procedures.{proc_of, joined, procedures_if, declaration_procs};
 ghost use Rattle.cw_make.specs.Procedures.{form_procs, simple_procs, block_procs, procedure_procs, statement_procs, procs_of};
 ghost use Rattle.cw_number.specs.things.Things.{is_recursive};
 

@@ -2,8 +2,10 @@
 ghost use Rattle.std.specs.Prelude.{◌≡◌, ◌++◌, ◌∷◌, [], IfOk, OnOk, slice_get, min};
 ghost use Rattle.cw_table.specs.Rows.{place_at};
 ghost use Rattle.cw_number.specs.things.Things.{amount_or_none};
-ghost use Rattle.cw_make_items.specs.Descriptors.{dimension, second_dimension, dimensions_of, part_form, element_of, elements_of, array_body, table_body, descriptor_at};
-ghost use Rattle.cw_make_items.specs.Descriptors.{over_base, over_thing, over_at, data_desc, word_descs, array_descs, group_descs, data_descs, label_descs, switch_descs};
+ghost use Rattle.cw_make_items.specs.Descriptors.{dimension, second_dimension, dimensions_of, part_form, element_of};
+ghost use Rattle.cw_make_items.specs.Descriptors.{elements_of, array_body, table_body, descriptor_at};
+ghost use Rattle.cw_make_items.specs.Descriptors.{over_base, over_thing, over_at, data_desc, word_descs, array_descs};
+ghost use Rattle.cw_make_items.specs.Descriptors.{group_descs, data_descs, label_descs, switch_descs};
 ghost use Rattle.cw_make_items.specs.Descriptors.{spec_desc, citem_descs, citems_descs, library_desc, library_descs, communicator_descs, descs_of};
 
 use crate::lookup::item_here;

@@ -2,7 +2,8 @@
 ghost use Rattle.std.specs.Prelude.{◌≡◌, map, IfOk};
 ghost use Rattle.cw_make_expr.specs.Made.{expression_of, condition_of, reference_of};
 ghost use Rattle.cw_make_expr.specs.Parts.{label_in};
-ghost use Rattle.cw_make_stmt.specs.Made.{line_of, ref_position, goal_of, switch_of, labels_of, mark, marked, row, conditional, repetition, felem_of, put, put_bits};
+ghost use Rattle.cw_make_stmt.specs.Made.{line_of, ref_position, goal_of, switch_of, labels_of, mark, marked};
+ghost use Rattle.cw_make_stmt.specs.Made.{row, conditional, repetition, felem_of, put, put_bits};
 ghost use Rattle.cw_make_stmt.specs.Made.{assignment_of, bits_assignment_of, assignment, bits_assignment, jump, switch_jump, answer, call_statement};
 
 use cw_amount::amount::place_amount;

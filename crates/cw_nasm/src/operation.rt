@@ -1,7 +1,8 @@
 //! The name and the operands of an instruction in NASM's syntax, and whether NASM gives back its bytes.
 ghost use Rattle.std.specs.Prelude.{◌≡◌, ◌<◌};
 ghost use Rattle.cw_i86.specs.State.{sign_extended};
-ghost use Rattle.cw_nasm.specs.Operations.{mnemonic_of, width_of, operand_of, sized, number_of, whole_number_of, direct, in_order, target, short_target, near_target};
+ghost use Rattle.cw_nasm.specs.Operations.{mnemonic_of, width_of, operand_of, sized, number_of, whole_number_of};
+ghost use Rattle.cw_nasm.specs.Operations.{direct, in_order, target, short_target, near_target};
 ghost use Rattle.cw_nasm.specs.Operations.{shift_count, operands_of, named_place, is_register, is_accumulator, is_direct, stays_within, is_given_back};
 
 use crate::names::{condition, loop_name, shift, sum, unary};

@@ -1,7 +1,8 @@
 //! Text that grows piece by piece: numbers, operands, instructions.
 ghost use Rattle.std.specs.Prelude.{◌≡◌, ◌<◌, ◌++◌, codes, decimal, flat_map, OnOk};
 ghost use Rattle.cw_i86.specs.Encoding.{IsInstr, bytes_of};
-ghost use Rattle.cw_nasm.specs.Assembly.{hex_digit, two_hex, four_hex, signed_byte, signed_word, label_of, width_text, segment_text, near_size, far_size, place_text};
+ghost use Rattle.cw_nasm.specs.Assembly.{hex_digit, two_hex, four_hex, signed_byte, signed_word, label_of};
+ghost use Rattle.cw_nasm.specs.Assembly.{width_text, segment_text, near_size, far_size, place_text};
 ghost use Rattle.cw_nasm.specs.Assembly.{operand_text, behind, operation_text, hex_byte, next_byte, bytes_text, text_by_bytes, assembly_text};
 
 use crate::names::{form, register};

@@ -9,7 +9,8 @@ use Rattle.cw_unit.specs.declared.layout.Preset.{Preset}
 use Rattle.cw_unit.specs.declared.layout.Reloc.{Reloc}
 use Rattle.cw_tmpl.specs.declared.assembling.Code.{Code as MadeCode}
 use Rattle.cw_fields.specs.Fields.{text_bytes, IsLong}
-use Rattle.cw_view.specs.Payloads.{ItemEntry, descriptor_bytes, family_bytes, item_bytes, preset_bytes, relocation_bytes, definition_bytes, body_facts_bytes, statement_bytes}
+use Rattle.cw_view.specs.Payloads.{ItemEntry, descriptor_bytes, family_bytes, item_bytes, preset_bytes, relocation_bytes}
+use Rattle.cw_view.specs.Payloads.{definition_bytes, body_facts_bytes, statement_bytes}
 use Rattle.cw_view.specs.Payloads.{FitsDescriptor, FitsFamily, FitsItem, FitsPreset, FitsRelocation, FitsDefinition, FitsBodyFacts, FitsStatement}
 use Rattle.cw_view.specs.ObjectFormat.{Record, Facts, has_base, is_placed, is_named, has_words, has_preset, is_blank, has_index, IsObjectOf, payloads}
 use Rattle.cw_obj.specs.ReferenceObject.{entries_from, definitions_of, body_of, object_records, object_bytes}

@@ -1,7 +1,9 @@
 //! Brackets that are not needed: what stands in one, and which rule it is of.
 ghost use Rattle.std.specs.Prelude.{◌≡◌, IfOk, is_some, [], ◌∷◌, ◌++◌};
 ghost use Rattle.std.specs.Option.{option_copied};
-ghost use Rattle.cw_grammar.specs.Trees.{sole, sole_term, ◌>>-◌, as_sum, as_term, as_differ, as_union, as_mask, as_prim, bracket_primary, bracket_prim, bracket_mask, bracket_union, bracket_differ, bracket_term, bracket_sum, mask_start, union_start, differ_start, term_start, sum_start, expr_of, prim_of, prim_or, terms_of};
+ghost use Rattle.cw_grammar.specs.Trees.{sole, sole_term, ◌>>-◌, as_sum, as_term, as_differ, as_union, as_mask, as_prim, bracket_primary};
+ghost use Rattle.cw_grammar.specs.Trees.{bracket_prim, bracket_mask, bracket_union, bracket_differ, bracket_term, bracket_sum, mask_start};
+ghost use Rattle.cw_grammar.specs.Trees.{union_start, differ_start, term_start, sum_start, expr_of, prim_of, prim_or, terms_of};
 
 use cw_tree::expression::{
     RawBits, RawDiffer, RawExpr, RawMask, RawPrim, RawPrimary, RawSum, RawTerm, RawUnion,

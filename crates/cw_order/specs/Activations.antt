@@ -32,7 +32,8 @@ module _ (p : OrderProgram) where
   ControlStands g acts (LabelControl to l owner) = IsThere owner acts × OwnsLabel owner g acts to l
   ControlStands g acts (SwitchControl to n owner) =
       IsThere owner acts
-      × ((gs : List Goal) (i : ℤ) (x : Goal) (l : ℕ × ℕ) → switch_at p to n ≡ Some gs → goal_at gs i ≡ Some x → label_of p to x ≡ Some l → OwnsLabel owner g acts l.0 l.1)
+      × ((gs : List Goal) (i : ℤ) (x : Goal) (l : ℕ × ℕ) → switch_at p to n ≡ Some gs → goal_at gs i ≡ Some x
+      → label_of p to x ≡ Some l → OwnsLabel owner g acts l.0 l.1)
   ControlStands g acts (ProcedureControl to q) = Unit {0}
 
   abbrev pub OperandStands : (segment : ℕ) → List OrderActivation → Operand → Type 0
@@ -80,7 +81,9 @@ module _ (p : OrderProgram) where
   -- bodies, and switches of such.
   pub record Callable : Type 0 where
     pub frames : p.limits.frames ≤ p.limits.area
-    pub enters : (g q : ℕ) (e : ProcedureEntry) (k : ℕ) → procedure_at p g q ≡ Some e → place_of p g e.mark ≡ Some k → (size : ℕ) × (order_at p g k ≡ Some (order.Enter size))
+    pub enters : (g q : ℕ) (e : ProcedureEntry) (k : ℕ) → procedure_at p g q ≡ Some e → place_of p g e.mark ≡ Some k
+        → (size : ℕ) × (order_at p g k ≡ Some (order.Enter size))
     pub labels : (g d to l : ℕ) (e : LabelEntry) → defined_at p g d ≡ Some (to, def.Label l) → label_at p to l ≡ Some e → e.in_procedure ≡ false
-    pub switches : (g d to n : ℕ) (gs : List Goal) (i : ℤ) (x : Goal) (l : ℕ × ℕ) (e : LabelEntry) → defined_at p g d ≡ Some (to, def.Switch n) → switch_at p to n ≡ Some gs → goal_at gs i ≡ Some x
+    pub switches : (g d to n : ℕ) (gs : List Goal) (i : ℤ) (x : Goal) (l : ℕ × ℕ) (e : LabelEntry)
+        → defined_at p g d ≡ Some (to, def.Switch n) → switch_at p to n ≡ Some gs → goal_at gs i ≡ Some x
         → label_of p to x ≡ Some l → label_at p l.0 l.1 ≡ Some e → e.in_procedure ≡ false

@@ -4,7 +4,8 @@ use Rattle.cw_word.specs.Word.{signed}
 use Rattle.cw_unit.specs.declared.unit.LogicOp.TheVariants as logic
 use Rattle.cw_unit.specs.declared.layout.Map.{Map}
 use Rattle.cw_unit.specs.Words.{Control, LabelControl, SwitchControl, ProcedureControl, Words, Outcome, is_below, number_of}
-use Rattle.cw_unit.specs.Operation.{Operation, Constant, Rescale, Fetch, Store, StoreBits, Add, Subtract, Negate, Multiply, Divide, Combine, Extract, Form, Taken, Indexed, Indexed2, Scaled, InBounds, ReadByte, WriteByte, holds}
+use Rattle.cw_unit.specs.Operation.{Operation, Constant, Rescale, Fetch, Store, StoreBits, Add, Subtract, Negate, Multiply, Divide, Combine}
+use Rattle.cw_unit.specs.Operation.{Extract, Form, Taken, Indexed, Indexed2, Scaled, InBounds, ReadByte, WriteByte, holds}
 use Rattle.cw_unit.specs.Step.{switch_of_def, procedure_of_def, label_of_def, with_label_owner, with_switch_owner, as_procedure, held}
 use Rattle.cw_order.specs.declared.order.Place.{Place}
 use Rattle.cw_order.specs.declared.order.Place.TheVariants as cell
@@ -12,7 +13,8 @@ use Rattle.cw_order.specs.declared.order.Order.{Order}
 use Rattle.cw_order.specs.declared.order.Order.TheVariants as order
 use Rattle.cw_order.specs.OrderProgram.{OrderProgram, defined_at}
 use Rattle.cw_order.specs.OrderState.{OrderActivation, argument_at, control_at, frame_word}
-use Rattle.cw_order.specs.OrderChanges.{index, from_base, difference, without_top, put_address, bind, Way, ToMark, way_of_one, way_of_two, to_mark_if, to_mark_in, to_mark_of_switch, comparison, set_variable, add_step, put_variable, way_past_limit, next_step, mark_of_number}
+use Rattle.cw_order.specs.OrderChanges.{index, from_base, difference, without_top, put_address, bind, Way, ToMark, way_of_one, way_of_two, to_mark_if, to_mark_in}
+use Rattle.cw_order.specs.OrderChanges.{to_mark_of_switch, comparison, set_variable, add_step, put_variable, way_past_limit, next_step, mark_of_number}
 
 -- Perform does an operation, which may stop at a line. Access does one that never stops, or not on an address that has been tested or is
 -- that of an item. Alter changes the words, and may stop; AlterWithin changes them and never stops. Branch goes on here or there, or stops at a line. GoMain

@@ -1,11 +1,13 @@
 -- What orders do to words beyond the operations of the source semantics, and how they choose the way on.
-use Rattle.std.specs.Prelude.{ℕ, zero, suc, ◌+◌, ◌-◌, nat_eq, nat_lt, min, ℤ, pos, negsuc, List, ◌∷◌, set, Bool, true, false, not, Option, Some, None, slice_get}
+use Rattle.std.specs.Prelude.{ℕ, zero, suc, ◌+◌, ◌-◌, nat_eq, nat_lt, min, ℤ, pos, negsuc, List}
+use Rattle.std.specs.Prelude.{◌∷◌, set, Bool, true, false, not, Option, Some, None, slice_get}
 use Rattle.cw_word.specs.FixedPoint.{fits_word}
 use Rattle.cw_word.specs.Word.{signed, unsigned, word_difference}
 use Rattle.cw_unit.specs.declared.unit.CompareOp.{CompareOp}
 use Rattle.cw_unit.specs.declared.unit.CompareOp.TheVariants as compare
 use Rattle.cw_unit.specs.Stop.{StopKind, AddressRange, SwitchRange}
-use Rattle.cw_unit.specs.Words.{Operand, Word, Words, Outcome, Changed, Refused, Impossible, with_operands, with_memory, put, put_if, is_below, number_of, on_one, on_two, word_at, at_address}
+use Rattle.cw_unit.specs.Words.{Operand, Word, Words, Outcome, Changed, Refused, Impossible, with_operands, with_memory}
+use Rattle.cw_unit.specs.Words.{put, put_if, is_below, number_of, on_one, on_two, word_at, at_address}
 use Rattle.cw_unit.specs.Operation.{Addressing, form_address, SetVariable, AddStep, perform, is_past}
 use Rattle.cw_order.specs.declared.order.Comparator.{Comparator}
 use Rattle.cw_order.specs.declared.order.Comparator.TheVariants as comparator

@@ -4,7 +4,8 @@ use Rattle.std.specs.Prelude.{ℕ, ◌+◌, ◌-◌, ℤ, List, [], ◌∷◌, l
 use Rattle.cw_track.specs.Machine.{Machine}
 use Rattle.cw_unit.specs.declared.unit.Goal.{Goal}
 use Rattle.cw_unit.specs.Stop.{SwitchRange, FramesFull, DepthReached, Running, Ended, Stopped, Stuck}
-use Rattle.cw_unit.specs.Words.{Control, LabelControl, SwitchControl, ProcedureControl, Operand, Word, Words, Outcome, Changed, Refused, Impossible, with_operands}
+use Rattle.cw_unit.specs.Words.{Control, LabelControl, SwitchControl, ProcedureControl, Operand, Word}
+use Rattle.cw_unit.specs.Words.{Words, Outcome, Changed, Refused, Impossible, with_operands}
 use Rattle.cw_unit.specs.Operation.{perform}
 use Rattle.cw_unit.specs.Step.{with_label_owner, goal_at}
 use Rattle.cw_unit.specs.Behaviour.{Observation}
@@ -15,7 +16,8 @@ use Rattle.cw_order.specs.OrderState.{OrderActivation, OrderState, at, operand_w
 use Rattle.cw_order.specs.OrderCosts.{weight_at}
 use Rattle.cw_order.specs.OrderChanges.{Way, Onward, ToMark, Barred, Nowhere}
 use Rattle.cw_order.specs.Loading.{loaded_after}
-use Rattle.cw_order.specs.OrderActions.{Action, Perform, Access, Alter, AlterWithin, Pass, Branch, GoMain, GoLabel, GoSwitch, Call, Enter, Return, EndBody, action_of}
+use Rattle.cw_order.specs.OrderActions.{Action, Perform, Access, Alter, AlterWithin, Pass, Branch, GoMain}
+use Rattle.cw_order.specs.OrderActions.{GoLabel, GoSwitch, Call, Enter, Return, EndBody, action_of}
 
 -- ---- steps on words
 
@@ -72,7 +74,8 @@ call_at true (Some q) to a g place loaded acts w = at to q loaded (a ∷ acts) (
 call_at _ _ to a g place loaded acts w = at g place loaded acts w Stuck
 
 -- an activation is begun once, where it is not too deep and its frame ends in the area; a stop is the caller's
-abbrev pub enter_with : (entered shallow fits : Bool) → (size : ℕ) → OrderActivation → (segment place : ℕ) → (loaded : Bool) → List OrderActivation → Words → OrderState
+abbrev pub enter_with : (entered shallow fits : Bool) → (size : ℕ) → OrderActivation → (segment place : ℕ)
+    → (loaded : Bool) → List OrderActivation → Words → OrderState
 enter_with true shallow fits size a g place loaded acts w = at g place loaded (a ∷ acts) w Stuck
 enter_with false false fits size a g place loaded acts w = at g place loaded (a ∷ acts) w (Stopped DepthReached (a.segment + 1) a.line)
 enter_with false true false size a g place loaded acts w = at g place loaded (a ∷ acts) w (Stopped FramesFull (a.segment + 1) a.line)
@@ -80,7 +83,8 @@ enter_with false true true size a g place loaded acts w =
     at g (place + 1) loaded (record a { entered = true; frame_top = a.frame_base + size } ∷ acts) w Running
 
 -- back in the caller, with the answer
-abbrev pub return_with : Bool → (answers : Bool) → List Operand → OrderActivation → (segment place : ℕ) → (loaded : Bool) → List OrderActivation → Words → OrderState
+abbrev pub return_with : Bool → (answers : Bool) → List Operand → OrderActivation → (segment place : ℕ)
+    → (loaded : Bool) → List OrderActivation → Words → OrderState
 return_with true false operands a g place loaded acts w = at a.segment a.place loaded acts (with_operands w a.operands) Running
 return_with true true (Word z ∷ rest) a g place loaded acts w =
     at a.segment a.place loaded acts (with_operands w (Word z ∷ a.operands)) Running
@@ -110,7 +114,8 @@ module _ (p : OrderProgram) where
   go_to_goal line None to owner g place loaded acts w = at g place loaded acts w (Stopped SwitchRange (g + 1) line)
   go_to_goal line (Some x) to owner g place loaded acts w = go_to (with_label_owner owner (label_of p to x)) g place loaded acts w
 
-  abbrev pub go_by_list : (line : ℕ) → Option (List Goal) → List Operand → (to owner : ℕ) → (segment place : ℕ) → (loaded : Bool) → List OrderActivation → Words → OrderState
+  abbrev pub go_by_list : (line : ℕ) → Option (List Goal) → List Operand → (to owner : ℕ) → (segment place : ℕ)
+      → (loaded : Bool) → List OrderActivation → Words → OrderState
   go_by_list line (Some gs) (Word z ∷ rest) to owner g place loaded acts w = go_to_goal line (goal_at gs z) to owner g place loaded acts w
   go_by_list line _ operands to owner g place loaded acts w = at g place loaded acts w Stuck
 

@@ -1,6 +1,7 @@
 //! The strings of expressions.
 ghost use Rattle.std.specs.Prelude.{◌≡◌, ◌++◌, ◌∷◌, [], map, min, IfOk, OnOk};
-ghost use Rattle.cw_preset.specs.Strings.{joined, characters_from, string_words, argument_rows, expression_rows, primary_rows, reference_rows, conjunction_rows};
+ghost use Rattle.cw_preset.specs.Strings.{joined, characters_from, string_words, argument_rows, expression_rows};
+ghost use Rattle.cw_preset.specs.Strings.{primary_rows, reference_rows, conjunction_rows};
 ghost use Rattle.cw_preset.specs.Strings.{comparison_rows, condition_rows, differ_rows, mask_rows, prim_rows, sum_rows, term_rows, union_rows};
 
 use cw_table::table::Row;

@@ -9,10 +9,12 @@ ghost use Rattle.cw_i86.specs.MachineRun.{Bad};
 ghost use Rattle.cw_i86.specs.declared.instr.Instr.TheVariants as i86;
 ghost use Rattle.cw_unit.specs.Stop.{Overflow, ZeroDivisor, SwitchRange, AddressRange, IndexRange};
 ghost use Rattle.cw_tmpl.specs.Mnemonics.{divide_signed};
-ghost use Rattle.cw_tmpl.specs.Library.{library_bytes, retired_place, start_place, stop_place, enter_place, read_place, set_variable_place, add_step_place, put_variable_place};
+ghost use Rattle.cw_tmpl.specs.Library.{library_bytes, retired_place, start_place, stop_place, enter_place, read_place};
+ghost use Rattle.cw_tmpl.specs.Library.{set_variable_place, add_step_place, put_variable_place};
 ghost use Rattle.cw_tmpl.specs.Library.{exhausted_place, next_step_place, product_place, quotient_down_place, quotient_up_place, enter_stop_place};
 ghost use Rattle.cw_routines.specs.Ways.{HasAll, HasWord, QuietAll};
-ghost use Rattle.cw_routines.specs.Results.{Stands, Quiet, InLibrary, StartRoutine, StopRoutine, ToldStop, EnterRoutine, begin, Beginning, leave, Leaving, ReadRoutine};
+ghost use Rattle.cw_routines.specs.Results.{Stands, Quiet, InLibrary, StartRoutine, StopRoutine, ToldStop};
+ghost use Rattle.cw_routines.specs.Results.{EnterRoutine, begin, Beginning, leave, Leaving, ReadRoutine};
 ghost use Rattle.cw_routines.specs.Results.{SetRoutine, StepRoutine, PutRoutine, ExhaustedRoutine, NextStepRoutine, WordRoutine, divisor_test, DivisorTest};
 
 use cw_run86::laws::fetching;

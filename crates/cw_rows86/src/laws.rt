@@ -21,8 +21,10 @@ ghost use Rattle.cw_run86.specs.Views.{with_overflow, word_sum, word_difference,
 ghost use Rattle.cw_run86.specs.Views.{shift_overflow, sign_of, Compared, Comparison, condition_of, words_compare};
 ghost use Rattle.cw_rows86.specs.Locations.{Location, InRegister, InData, InStack, InCode, contents, with_contents, IsWritable};
 ghost use Rattle.cw_rows86.specs.Locations.{offset_in, Denotes, in_memory, in_code, HasWord, GoesWith, Lands, same_flags};
-ghost use Rattle.cw_rows86.specs.Operations.{WordOperation, Subtract, Compare, Or, And, Xor, Up, low_of, with_low, byte_operated_on, byte_flags_after, number_of, result_of};
-ghost use Rattle.cw_rows86.specs.Operations.{flags_after, Operates, counted_to, flags_counted, Counts, Shifting, shift_number, shifted_word, flags_shifted, places_of};
+ghost use Rattle.cw_rows86.specs.Operations.{WordOperation, Subtract, Compare, Or, And, Xor, Up, low_of, with_low};
+ghost use Rattle.cw_rows86.specs.Operations.{byte_operated_on, byte_flags_after, number_of, result_of};
+ghost use Rattle.cw_rows86.specs.Operations.{flags_after, Operates, counted_to, flags_counted, Counts, Shifting};
+ghost use Rattle.cw_rows86.specs.Operations.{shift_number, shifted_word, flags_shifted, places_of};
 ghost use Rattle.cw_rows86.specs.Acts.{Act, instruction, Needs, after, flags_of, HasActs, NeedsAll, after_all, flags_of_all, behind};
 ghost use Rattle.cw_rows86.specs.AddressCode.{index_code};
 ghost use Rattle.cw_rows86.specs.Views.{view};

@@ -8,7 +8,8 @@ use Rattle.cw_i86.specs.declared.instr.Rm.TheVariants as rms
 use Rattle.cw_i86.specs.declared.instr.Imm.{Imm}
 use Rattle.cw_i86.specs.declared.instr.Imm.TheVariants.{Byte, Word}
 use Rattle.cw_i86.specs.declared.instr.Instr.{Instr}
-use Rattle.cw_i86.specs.declared.instr.Instr.TheVariants.{AluRm, AluAcc, Inc, Dec, Push, Pop, JumpIf, AluImm, AluShort, TestRm, XchgRm, Mov, Lea, XchgAx, MovAcc, TestAcc, MovImm, RetAdd, MovRm, Shift, Loop, In, Out, Call, Jump, JumpShort, TestImm, Unary, IncDec, CallRm, JumpRm, PushRm}
+use Rattle.cw_i86.specs.declared.instr.Instr.TheVariants.{AluRm, AluAcc, Inc, Dec, Push, Pop, JumpIf, AluImm, AluShort, TestRm, XchgRm, Mov, Lea, XchgAx, MovAcc, TestAcc, MovImm}
+use Rattle.cw_i86.specs.declared.instr.Instr.TheVariants.{RetAdd, MovRm, Shift, Loop, In, Out, Call, Jump, JumpShort, TestImm, Unary, IncDec, CallRm, JumpRm, PushRm}
 use Rattle.cw_i86.specs.Encoding.{bytes_of}
 use Rattle.cw_i86.specs.State.{State}
 use Rattle.cw_i86.specs.MachineRun.{code_at}

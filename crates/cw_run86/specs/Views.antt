@@ -1,6 +1,7 @@
 -- What the code of a program deals with of a processor: registers, the words of the data segment and of the stack segment at even
 -- offsets, code that nothing changes, and what was told to the ports. And what instructions do to that.
-use Rattle.std.specs.Prelude.{◌≡◌, ℕ, ◌+◌, ◌-◌, ◌*◌, ◌/◌, ◌%◌, ◌^◌, ◌<◌, ◌≤◌, nat_eq, nat_lt, nat_le, ◌==◌, Bool, true, false, List, [], ◌∷◌, length, slice_index, slice_set, ◌+ℤ◌, ◌-ℤ◌, ◌*ℤ◌, if◌then◌else◌, ℤ, int_lt, int_le, ◌&&◌, not}
+use Rattle.std.specs.Prelude.{◌≡◌, ℕ, ◌+◌, ◌-◌, ◌*◌, ◌/◌, ◌%◌, ◌^◌, ◌<◌, ◌≤◌, nat_eq, nat_lt, nat_le, ◌==◌, Bool, true, false, List, []}
+use Rattle.std.specs.Prelude.{◌∷◌, length, slice_index, slice_set, ◌+ℤ◌, ◌-ℤ◌, ◌*ℤ◌, if◌then◌else◌, ℤ, int_lt, int_le, ◌&&◌, not}
 use Rattle.std.specs.Bool.{beq}
 use Rattle.std.specs.Int.{w16, w32, cast_signed, cast_unsigned}
 use Rattle.cw_i86.specs.Encoding.{bytes_of, IsInstr}
@@ -170,7 +171,9 @@ pub record Compared (a b : ℕ) (p : Processor) : Type 0 where
 
 -- an instruction that compares two words
 abbrev pub Compares : List ℕ → (a b : ℕ) → Instr → View → Type 0
-Compares code a b i v = (p : Processor) → Sees code v p → Sees code (with_overflow (difference_overflows a b) (on i v)) (processor_step p) × Compared a b (processor_step p)
+Compares code a b i v = (p : Processor) → Sees code v p
+    → Sees code (with_overflow (difference_overflows a b) (on i v)) (processor_step p)
+    × Compared a b (processor_step p)
 
 -- the comparisons of words as signed numbers that jumps behind CMP test: JZ, JNZ, JL, JNL, JLE and JNLE
 pub data Comparison : Type 0 where

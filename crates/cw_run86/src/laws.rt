@@ -1,5 +1,6 @@
 //! Laws of the machine.
-ghost use Rattle.std.specs.Prelude.{◌≡◌, ◌≢◌, ◌≤◌, ◌<◌, ℕ, suc, ◌+◌, ◌-◌, ◌*◌, ◌/◌, ◌%◌, Bool, true, false, not, nat_lt, List, All, length, Some, slice_index, bit_and, bit_or, bit_xor};
+ghost use Rattle.std.specs.Prelude.{◌≡◌, ◌≢◌, ◌≤◌, ◌<◌, ℕ, suc, ◌+◌, ◌-◌, ◌*◌, ◌/◌, ◌%◌, Bool, true, false, not};
+ghost use Rattle.std.specs.Prelude.{nat_lt, List, All, length, Some, slice_index, bit_and, bit_or, bit_xor};
 ghost use Rattle.cw_i86.specs.Encoding.{bytes_of, IsInstr};
 ghost use Rattle.cw_i86.specs.State.{State, sign_extended};
 ghost use Rattle.cw_i86.specs.MachineRun.{Stands, Shows, IsStart, Running, end_told, taken, left_after};
@@ -11,7 +12,10 @@ ghost use Rattle.cw_i86.specs.declared.instr.Place.TheVariants as places;
 ghost use Rattle.cw_run86.specs.Fetching.{instruction_at};
 ghost use Rattle.cw_run86.specs.Processor.{Processor, processor_step, processor_after, processor_start, observed, with_given};
 ghost use Rattle.cw_run86.specs.Reaching.{IsReached};
-ghost use Rattle.cw_run86.specs.Views.{View, Sees, Has, Goes, IsTop, starting_view, register, on, with_place, with_register, with_result, with_cell, with_stack, with_told, sum_overflows, difference_overflows, word_sum, word_difference, with_other, with_memory, with_number, at_offset, Compared, Compares, Comparison, condition_of, words_compare, double_overflows, word_up, word_down, word_down_signed, product_low, product_high, product_overflows, sign_of, with_pair, with_overflow, with_input, shift_overflow};
+ghost use Rattle.cw_run86.specs.Views.{View, Sees, Has, Goes, IsTop, starting_view, register, on, with_place, with_register, with_result, with_cell, with_stack};
+ghost use Rattle.cw_run86.specs.Views.{with_told, sum_overflows, difference_overflows, word_sum, word_difference, with_other, with_memory, with_number, at_offset};
+ghost use Rattle.cw_run86.specs.Views.{Compared, Compares, Comparison, condition_of, words_compare, double_overflows, word_up, word_down, word_down_signed, product_low};
+ghost use Rattle.cw_run86.specs.Views.{product_high, product_overflows, sign_of, with_pair, with_overflow, with_input, shift_overflow};
 
 use cw_dec86::rows_read_back;
 
@@ -45,10 +49,15 @@ pub fn starting()
 
 /// Moves between registers, and of numbers to registers.
 pub fn moves()
-    ensures number { (code : List ℕ) (v : View) (r w : ℕ) → Has code v.place (i86.MovImm r (imm.Word w)) → Goes code v (with_register r w (on (i86.MovImm r (imm.Word w)) v)) }
-    ensures low_byte { (code : List ℕ) (v : View) (b : ℕ) → Has code v.place (i86.MovImm 0 (imm.Byte b)) → Goes code v (with_register 0 (register v 0 / 256 * 256 + b) (on (i86.MovImm 0 (imm.Byte b)) v)) }
-    ensures register { (code : List ℕ) (v : View) (r q : ℕ) → Has code v.place (i86.Mov true true r (rms.Reg q)) → Goes code v (with_register r (register v q) (on (i86.Mov true true r (rms.Reg q)) v)) }
-    ensures high_byte { (code : List ℕ) (v : View) → Has code v.place (i86.Mov false true 0 (rms.Reg 4)) → Goes code v (with_register 0 (register v 0 / 256 * 256 + register v 0 / 256) (on (i86.Mov false true 0 (rms.Reg 4)) v)) }
+    ensures number { (code : List ℕ) (v : View) (r w : ℕ) → Has code v.place (i86.MovImm r (imm.Word w))
+        → Goes code v (with_register r w (on (i86.MovImm r (imm.Word w)) v)) }
+    ensures low_byte { (code : List ℕ) (v : View) (b : ℕ) → Has code v.place (i86.MovImm 0 (imm.Byte b))
+        → Goes code v (with_register 0 (register v 0 / 256 * 256 + b) (on (i86.MovImm 0 (imm.Byte b)) v)) }
+    ensures register { (code : List ℕ) (v : View) (r q : ℕ) → Has code v.place (i86.Mov true true r (rms.Reg q))
+        → Goes code v (with_register r (register v q) (on (i86.Mov true true r (rms.Reg q)) v)) }
+    ensures high_byte { (code : List ℕ) (v : View) → Has code v.place (i86.Mov false true 0 (rms.Reg 4))
+        → Goes code v (with_register 0 (register v 0 / 256 * 256 + register v 0 / 256)
+        (on (i86.Mov false true 0 (rms.Reg 4)) v)) }
 {
     fetching();
 }
@@ -65,13 +74,21 @@ pub fn stacking()
 
 /// Words of the data segment through BX, and words of the stack segment through BP, by a displacement of one byte.
 pub fn memory()
-    ensures load { (code : List ℕ) (v : View) (r k : ℕ) → Has code v.place (i86.Mov true true r (rms.Mem (record { cs = false; place = places.Plain 7 }))) → k < 32768 → register v 3 ≡ 2 * k →
+    ensures load { (code : List ℕ) (v : View) (r k : ℕ)
+        → Has code v.place (i86.Mov true true r (rms.Mem (record { cs = false; place = places.Plain 7 })))
+        → k < 32768 → register v 3 ≡ 2 * k →
         Goes code v (with_register r (v.cells k) (on (i86.Mov true true r (rms.Mem (record { cs = false; place = places.Plain 7 }))) v)) }
-    ensures store { (code : List ℕ) (v : View) (r k : ℕ) → Has code v.place (i86.Mov true false r (rms.Mem (record { cs = false; place = places.Plain 7 }))) → k < 32768 → register v 3 ≡ 2 * k →
+    ensures store { (code : List ℕ) (v : View) (r k : ℕ)
+        → Has code v.place (i86.Mov true false r (rms.Mem (record { cs = false; place = places.Plain 7 })))
+        → k < 32768 → register v 3 ≡ 2 * k →
         Goes code v (with_cell k (register v r) (on (i86.Mov true false r (rms.Mem (record { cs = false; place = places.Plain 7 }))) v)) }
-    ensures load_slot { (code : List ℕ) (v : View) (r by k : ℕ) → Has code v.place (i86.Mov true true r (rms.Mem (record { cs = false; place = places.Near 6 by }))) → k < 32768 → (register v 5 + sign_extended by) % 65536 ≡ 2 * k →
+    ensures load_slot { (code : List ℕ) (v : View) (r by k : ℕ)
+        → Has code v.place (i86.Mov true true r (rms.Mem (record { cs = false; place = places.Near 6 by })))
+        → k < 32768 → (register v 5 + sign_extended by) % 65536 ≡ 2 * k →
         Goes code v (with_register r (v.stack k) (on (i86.Mov true true r (rms.Mem (record { cs = false; place = places.Near 6 by }))) v)) }
-    ensures set_slot { (code : List ℕ) (v : View) (by w k : ℕ) → Has code v.place (i86.MovRm (rms.Mem (record { cs = false; place = places.Near 6 by })) (imm.Word w)) → k < 32768 → (register v 5 + sign_extended by) % 65536 ≡ 2 * k →
+    ensures set_slot { (code : List ℕ) (v : View) (by w k : ℕ)
+        → Has code v.place (i86.MovRm (rms.Mem (record { cs = false; place = places.Near 6 by })) (imm.Word w))
+        → k < 32768 → (register v 5 + sign_extended by) % 65536 ≡ 2 * k →
         Goes code v (with_stack k w (on (i86.MovRm (rms.Mem (record { cs = false; place = places.Near 6 by })) (imm.Word w)) v)) }
 {
     fetching();
@@ -79,13 +96,21 @@ pub fn memory()
 
 /// Words of the stack segment through BP and of the data segment through BX, by a displacement of a word.
 pub fn fields()
-    ensures load_argument { (code : List ℕ) (v : View) (r by k : ℕ) → Has code v.place (i86.Mov true true r (rms.Mem (record { cs = false; place = places.Far 6 by }))) → k < 32768 → (register v 5 + by) % 65536 ≡ 2 * k →
+    ensures load_argument { (code : List ℕ) (v : View) (r by k : ℕ)
+        → Has code v.place (i86.Mov true true r (rms.Mem (record { cs = false; place = places.Far 6 by })))
+        → k < 32768 → (register v 5 + by) % 65536 ≡ 2 * k →
         Goes code v (with_register r (v.stack k) (on (i86.Mov true true r (rms.Mem (record { cs = false; place = places.Far 6 by }))) v)) }
-    ensures store_field { (code : List ℕ) (v : View) (r by k : ℕ) → Has code v.place (i86.Mov true false r (rms.Mem (record { cs = false; place = places.Far 7 by }))) → k < 32768 → (register v 3 + by) % 65536 ≡ 2 * k →
+    ensures store_field { (code : List ℕ) (v : View) (r by k : ℕ)
+        → Has code v.place (i86.Mov true false r (rms.Mem (record { cs = false; place = places.Far 7 by })))
+        → k < 32768 → (register v 3 + by) % 65536 ≡ 2 * k →
         Goes code v (with_cell k (register v r) (on (i86.Mov true false r (rms.Mem (record { cs = false; place = places.Far 7 by }))) v)) }
-    ensures load_field { (code : List ℕ) (v : View) (r by k : ℕ) → Has code v.place (i86.Mov true true r (rms.Mem (record { cs = false; place = places.Near 7 by }))) → k < 32768 → (register v 3 + sign_extended by) % 65536 ≡ 2 * k →
+    ensures load_field { (code : List ℕ) (v : View) (r by k : ℕ)
+        → Has code v.place (i86.Mov true true r (rms.Mem (record { cs = false; place = places.Near 7 by })))
+        → k < 32768 → (register v 3 + sign_extended by) % 65536 ≡ 2 * k →
         Goes code v (with_register r (v.cells k) (on (i86.Mov true true r (rms.Mem (record { cs = false; place = places.Near 7 by }))) v)) }
-    ensures store_slot { (code : List ℕ) (v : View) (r by k : ℕ) → Has code v.place (i86.Mov true false r (rms.Mem (record { cs = false; place = places.Near 6 by }))) → k < 32768 → (register v 5 + sign_extended by) % 65536 ≡ 2 * k →
+    ensures store_slot { (code : List ℕ) (v : View) (r by k : ℕ)
+        → Has code v.place (i86.Mov true false r (rms.Mem (record { cs = false; place = places.Near 6 by })))
+        → k < 32768 → (register v 5 + sign_extended by) % 65536 ≡ 2 * k →
         Goes code v (with_stack k (register v r) (on (i86.Mov true false r (rms.Mem (record { cs = false; place = places.Near 6 by }))) v)) }
 {
     fetching();
@@ -133,7 +158,8 @@ pub fn shifting()
 pub fn multiplying()
     ensures multiply { (code : List ℕ) (v : View) (r : ℕ) → Has code v.place (i86.Unary 5 true (rms.Reg r)) →
         Goes code v (with_overflow (product_overflows (register v 0) (register v r)) (with_pair (product_low (register v 0) (register v r)) (product_high (register v 0) (register v r)) (on (i86.Unary 5 true (rms.Reg r)) v))) }
-    ensures divide { (code : List ℕ) (v : View) (r : ℕ) → Has code v.place (i86.Unary 6 true (rms.Reg r)) → 0 < register v r → (65536 * register v 2 + register v 0) / register v r < 65536 →
+    ensures divide { (code : List ℕ) (v : View) (r : ℕ) → Has code v.place (i86.Unary 6 true (rms.Reg r))
+        → 0 < register v r → (65536 * register v 2 + register v 0) / register v r < 65536 →
         Goes code v (with_pair ((65536 * register v 2 + register v 0) / register v r) ((65536 * register v 2 + register v 0) % register v r) (on (i86.Unary 6 true (rms.Reg r)) v)) }
     ensures extend { (code : List ℕ) (v : View) → Has code v.place i86.Cwd → Goes code v (with_register 2 (sign_of (register v 0)) (on i86.Cwd v)) }
 {
@@ -143,13 +169,16 @@ pub fn multiplying()
 /// Jumps and calls. A call pushes the place behind it.
 pub fn jumps()
     ensures near { (code : List ℕ) (v : View) (by : ℕ) → Has code v.place (i86.Jump by) → Goes code v (with_place ((v.place + 3 + by) % 65536) v) }
-    ensures short { (code : List ℕ) (v : View) (by : ℕ) → Has code v.place (i86.JumpShort by) → Goes code v (with_place ((v.place + 2 + sign_extended by) % 65536) v) }
+    ensures short { (code : List ℕ) (v : View) (by : ℕ) → Has code v.place (i86.JumpShort by)
+        → Goes code v (with_place ((v.place + 2 + sign_extended by) % 65536) v) }
     ensures register { (code : List ℕ) (v : View) (r : ℕ) → Has code v.place (i86.JumpRm (rms.Reg r)) → Goes code v (with_place (register v r) v) }
-    ensures no_overflow { (code : List ℕ) (v : View) (by : ℕ) → Has code v.place (i86.JumpIf 1 by) → v.overflow ≡ false → Goes code v (with_place ((v.place + 2 + sign_extended by) % 65536) v) }
+    ensures no_overflow { (code : List ℕ) (v : View) (by : ℕ) → Has code v.place (i86.JumpIf 1 by)
+        → v.overflow ≡ false → Goes code v (with_place ((v.place + 2 + sign_extended by) % 65536) v) }
     ensures passes { (code : List ℕ) (v : View) (by : ℕ) → Has code v.place (i86.JumpIf 1 by) → v.overflow ≡ true → Goes code v (on (i86.JumpIf 1 by) v) }
     ensures call { (code : List ℕ) (v : View) (by n : ℕ) → Has code v.place (i86.Call by) → n < 32768 → IsTop v (suc n) →
         Goes code v (with_place ((v.place + 3 + by) % 65536) (with_register 4 (2 * n) (with_stack n ((v.place + 3) % 65536) v))) }
-    ensures back { (code : List ℕ) (v : View) (n : ℕ) → Has code v.place i86.Ret → n < 32768 → IsTop v n → Goes code v (with_place (v.stack n) (with_register 4 (2 * suc n % 65536) v)) }
+    ensures back { (code : List ℕ) (v : View) (n : ℕ) → Has code v.place i86.Ret → n < 32768 → IsTop v n
+        → Goes code v (with_place (v.stack n) (with_register 4 (2 * suc n % 65536) v)) }
 {
     fetching();
 }
@@ -182,11 +211,13 @@ pub fn numbers()
 
 /// Comparisons of words as signed numbers: CMP, what keeps its flags, and where a conditional jump behind it leads.
 pub fn comparing()
-    ensures registers { (code : List ℕ) (v : View) (r q : ℕ) → Has code v.place (with_other 7 r q) → Compares code (register v r) (register v q) (with_other 7 r q) v }
+    ensures registers { (code : List ℕ) (v : View) (r q : ℕ) → Has code v.place (with_other 7 r q)
+        → Compares code (register v r) (register v q) (with_other 7 r q) v }
     ensures offset { (code : List ℕ) (v : View) (r at k : ℕ) → Has code v.place (with_memory 7 r at) → k < 32768 → at ≡ 2 * k →
         Compares code (register v r) (v.cells k) (with_memory 7 r at) v }
     ensures number { (code : List ℕ) (v : View) (w : ℕ) → Has code v.place (with_number 7 w) → Compares code (register v 0) w (with_number 7 w) v }
-    ensures pop { (code : List ℕ) (v : View) (r a b : ℕ) (p : Processor) → Has code v.place (i86.Pop r) → Sees code v p → Compared a b p → Compared a b (processor_step p) }
+    ensures pop { (code : List ℕ) (v : View) (r a b : ℕ) (p : Processor) → Has code v.place (i86.Pop r)
+        → Sees code v p → Compared a b p → Compared a b (processor_step p) }
     ensures jumps { (code : List ℕ) (v : View) (c : Comparison) (by a b : ℕ) (p : Processor) → Has code v.place (i86.JumpIf (condition_of c) by) →
         a < 65536 → b < 65536 → words_compare c a b ≡ true → Sees code v p → Compared a b p →
         Sees code (with_place ((v.place + 2 + sign_extended by) % 65536) v) (processor_step p) }
@@ -209,7 +240,9 @@ pub fn comparing_below()
 
 /// A jump by a word of a table in the code, through BX.
 pub fn tables()
-    ensures { (code : List ℕ) (v : View) (by at to : ℕ) → Has code v.place (i86.JumpRm (rms.Mem (record { cs = true; place = places.Far 7 by }))) → (register v 3 + by) % 65536 ≡ at → at + 2 ≤ length code →
+    ensures { (code : List ℕ) (v : View) (by at to : ℕ)
+        → Has code v.place (i86.JumpRm (rms.Mem (record { cs = true; place = places.Far 7 by })))
+        → (register v 3 + by) % 65536 ≡ at → at + 2 ≤ length code →
         slice_index code at + 256 * slice_index code (at + 1) ≡ to → Goes code v (with_place to v) }
 {
     fetching();
@@ -219,10 +252,12 @@ pub fn tables()
 pub fn ports()
     ensures take { (code : List ℕ) (v : View) (port : ℕ) → Has code v.place (i86.In port) →
         Goes code v (with_input (left_after port v.input) (with_register 0 (register v 0 / 256 * 256 + taken port v.input) (on (i86.In port) v))) }
-    ensures out { (code : List ℕ) (v : View) (port : ℕ) → Has code v.place (i86.Out port) → Goes code v (with_told (with_given port (register v 0 % 256) v.told) (on (i86.Out port) v)) }
+    ensures out { (code : List ℕ) (v : View) (port : ℕ) → Has code v.place (i86.Out port)
+        → Goes code v (with_told (with_given port (register v 0 % 256) v.told) (on (i86.Out port) v)) }
     ensures halts { (code : List ℕ) (v : View) (p : Processor) → Has code v.place i86.Hlt → Sees code v p →
         observed (processor_step p) ≡ record { output = v.told.output; end = end_told v.told.kind v.told.segment (v.told.line_low + 256 * v.told.line_high) } }
-    ensures rests { (code : List ℕ) (v : View) (p : Processor) → Has code v.place i86.Hlt → Sees code v p → processor_step (processor_step p) ≡ processor_step p }
+    ensures rests { (code : List ℕ) (v : View) (p : Processor) → Has code v.place i86.Hlt → Sees code v p
+        → processor_step (processor_step p) ≡ processor_step p }
     ensures runs { (code : List ℕ) (v : View) (p : Processor) → Sees code v p → observed p ≡ record { output = v.told.output; end = Running } }
 {
     fetching();

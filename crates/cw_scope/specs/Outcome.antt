@@ -24,5 +24,7 @@ MatchesFault raw fault.NoMemory = Unit {0}
 MatchesFault raw e = (f : Fault) × (first_name_fault raw ≡ Some f) × ResolveFault e f
 
 abbrev pub Resolves : Raw → Result Named ScopeFault → Type 0
-Resolves raw (result.Ok named) = (first_name_fault raw ≡ None) × (named.raw.now ≡ raw) × (named.uses ≡ resolutions_of raw) × (named.declarations ≡ declarations_of raw) × (named.signatures ≡ signatures_of raw)
+Resolves raw (result.Ok named) = (first_name_fault raw ≡ None) × (named.raw.now ≡ raw)
+    × (named.uses ≡ resolutions_of raw) × (named.declarations ≡ declarations_of raw)
+    × (named.signatures ≡ signatures_of raw)
 Resolves raw (result.Err e) = MatchesFault raw e

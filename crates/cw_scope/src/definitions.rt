@@ -1,7 +1,8 @@
 //! Definitions of what the communicators list.
 ghost use Rattle.std.specs.Prelude.{◌≡◌, map};
 ghost use Rattle.cw_table.specs.Rows.{item_at};
-ghost use Rattle.cw_scope.specs.Definitions.{takes_nothing, takes_integer, is_integer_value, answers_integer, answers_nothing, fits_built_in, fits_built_in_if, is_own_procedure, rule_unless, broken_rule, same_specified, definition_faults, listed_faults, each_own, each_listed, defined};
+ghost use Rattle.cw_scope.specs.Definitions.{takes_nothing, takes_integer, is_integer_value, answers_integer, answers_nothing, fits_built_in, fits_built_in_if, is_own_procedure};
+ghost use Rattle.cw_scope.specs.Definitions.{rule_unless, broken_rule, same_specified, definition_faults, listed_faults, each_own, each_listed, defined};
 
 use crate::fault::{Fault, Rule, keep, keep_unless};
 use crate::judge::{is_own_label, is_own_switch};

@@ -2,7 +2,9 @@
 ghost use Rattle.std.specs.Prelude.{◌≡◌, ◌++◌, ◌∷◌, [], None, ◌==◌, map, slice_get, drop, length, OnOk, IfOk};
 ghost use Rattle.cw_scope.specs.Scope.{declared_in, declaration_of};
 ghost use Rattle.cw_scope.specs.Faults.{wrong, unless};
-ghost use Rattle.cw_scope.specs.NameRules.{within, is_reference, is_part, answers, is_procedure, is_label, is_switch, is_own_label, is_own_switch, is_data, is_answer, fits_reading, fits, undeclared_rule, use_faults, resolutions, repeat_faults, own_block, declaration_faults, all_declared, all_faults, all_resolved, said, dimensions, name_faults, name_resolutions};
+ghost use Rattle.cw_scope.specs.NameRules.{within, is_reference, is_part, answers, is_procedure, is_label, is_switch, is_own_label, is_own_switch, is_data};
+ghost use Rattle.cw_scope.specs.NameRules.{is_answer, fits_reading, fits, undeclared_rule, use_faults, resolutions, repeat_faults, own_block, declaration_faults};
+ghost use Rattle.cw_scope.specs.NameRules.{all_declared, all_faults, all_resolved, said, dimensions, name_faults, name_resolutions};
 
 use crate::fault::{Fault, Rule, keep};
 use crate::names::Names;
@@ -322,7 +324,9 @@ fn judge_block(
 ) -> Result<(), NoMemory>
     ensures blocks { OnOk result (blocks.new.items ≡ blocks.old.items) }
     ensures first { OnOk result (findings.new.first ≡ all_faults (within blocks.old.items (map said facts.now)) (map said facts.now) findings.old.first) }
-    ensures resolved { OnOk result (findings.new.resolved ≡ findings.old.resolved ++ all_resolved (within blocks.old.items (map said facts.now)) (map said facts.now)) }
+    ensures resolved { OnOk result (findings.new.resolved
+        ≡ findings.old.resolved ++ all_resolved (within blocks.old.items (map said facts.now))
+        (map said facts.now)) }
 {
     if blocks.push(declared(alloc, facts)?).is_err() {
         return Err(NoMemory);

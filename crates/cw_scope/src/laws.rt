@@ -19,5 +19,7 @@ pub fn earliest_fault()
     ensures parts { (a b : Judgement) (xs ys : List Fault) → Tells a xs → Tells b ys → Tells (both a b) (xs ++ ys) }
 
     // The faults of a text are those of its names and of its definitions, and its first fault is the earliest of them.
-    ensures text { (facts : List Fact) → (told : List Fault) × Tells (both (name_faults facts) (definitions_judged facts)) told × IsEarliest comes_before told (text_fault facts) }
+    ensures text { (facts : List Fact) → (told : List Fault)
+        × Tells (both (name_faults facts) (definitions_judged facts)) told
+        × IsEarliest comes_before told (text_fault facts) }
 {}

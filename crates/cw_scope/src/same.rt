@@ -1,6 +1,7 @@
 //! Whether specifications are the same.
 ghost use Rattle.std.specs.Prelude.{◌≡◌};
-ghost use Rattle.cw_scope.specs.Same.{same_number, spelled_alike, same_int, same_sign, same_sint, is_word, same_type, is_integer, same_answer, same_plain, each_same_plain, same_param, each_same, same_signature};
+ghost use Rattle.cw_scope.specs.Same.{same_number, spelled_alike, same_int, same_sign, same_sint, is_word, same_type, is_integer};
+ghost use Rattle.cw_scope.specs.Same.{same_answer, same_plain, each_same_plain, same_param, each_same, same_signature};
 
 use cw_amount::amount::{int_amount, sint_amount};
 use cw_facts::fact::Signature;

@@ -1,7 +1,8 @@
 //! Names, numbers, literals, strings, types and signs.
 ghost use Rattle.std.specs.Prelude.{◌≡◌, ◌++◌, ◌∷◌, [], ◌-◌, length, replicate, decimal, OnOk};
 ghost use Rattle.cw_show.specs.Spelling.{with_token, with_tokens};
-ghost use Rattle.cw_show.specs.Canonical.{name as name_token, fraction, number_text, number as number_token, literal as literal_token, doubled, string, octal_tokens};
+ghost use Rattle.cw_show.specs.Canonical.{name as name_token, fraction, number_text, number as number_token};
+ghost use Rattle.cw_show.specs.Canonical.{literal as literal_token, doubled, string, octal_tokens};
 ghost use Rattle.cw_show.specs.Canonical.{int_tokens, add_symbol, multiply_symbol, compare_symbol, sign_tokens, sint_tokens, size_tokens, type_tokens};
 
 use crate::token::{end_token, put, put_symbol, put_token, put_word};

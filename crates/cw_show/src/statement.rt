@@ -4,7 +4,8 @@ ghost use Rattle.cw_lex.specs.declared.token.Word.TheVariants as words;
 ghost use Rattle.cw_show.specs.Spelling.{word as word_token, with_token, with_tokens};
 ghost use Rattle.cw_show.specs.Canonical.{comma, listed, between, ended, semicolon};
 ghost use Rattle.cw_show.specs.ExpressionTokens.{expr_tokens, ref_tokens};
-ghost use Rattle.cw_show.specs.StatementTokens.{param_tokens, params_tokens, felem_tokens, felems_tokens, label_tokens, labels_tokens, switch_tokens, assignment_tokens};
+ghost use Rattle.cw_show.specs.StatementTokens.{param_tokens, params_tokens, felem_tokens, felems_tokens, label_tokens};
+ghost use Rattle.cw_show.specs.StatementTokens.{labels_tokens, switch_tokens, assignment_tokens};
 ghost use Rattle.cw_show.specs.StatementTokens.{control_tokens, head_tokens, decl_tokens, form_tokens, simple_tokens, block_tokens, proc_tokens, stmt_tokens};
 
 use crate::expression::{put_arguments, put_bits, put_cond, put_expr, put_index, put_ref};

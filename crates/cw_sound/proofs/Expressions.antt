@@ -1,6 +1,9 @@
 pub mod Truth
 pub mod Judging
+pub mod Several
+pub mod Schema
 pub mod Standing
+pub mod Lists
 pub mod Parts
 pub mod Nodes
 pub mod Numbers
@@ -13,6 +16,7 @@ pub mod Primaries
 pub mod References
 pub mod Conditions
 pub mod Layers
+pub mod Induction
 pub mod Trees
 pub mod Whole
 pub mod Keeping

@@ -15,8 +15,6 @@ pub mod Trees
 pub mod Listing
 pub mod ListedData
 pub mod Keeping
-pub mod KeepingExpressions
-pub mod KeepingStatements
 pub mod Sound
 pub mod Bases
 pub mod Overlays

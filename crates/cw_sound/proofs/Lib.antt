@@ -6,6 +6,7 @@ pub mod Expressions
 pub mod Statements
 pub mod Ranges
 pub mod Trees
+pub mod Kept
 pub mod Regular
 pub mod Tokens
 pub mod Units

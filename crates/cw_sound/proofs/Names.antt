@@ -32,14 +32,13 @@ pub mod Elements
 pub mod ListedParts
 pub mod ListedDeclarations
 pub mod ListedNumbers
+pub mod ListedTold
 pub mod ListedStands
 pub mod DescriptorNames
 pub mod Specified
 pub mod BuiltIns
 pub mod BuiltInNumbers
-pub mod TypeFaults
 pub mod FewParameters
 pub mod FewListed
-pub mod ExpressionFaults
 pub mod Answers
 pub mod AnswersFit

@@ -8,6 +8,4 @@ pub mod Rules
 pub mod Primaries
 pub mod References
 pub mod Conditions
-pub mod Layers
 pub mod Trees
-pub mod Whole

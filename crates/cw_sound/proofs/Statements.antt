@@ -1,4 +1,5 @@
-pub mod Declarations
+pub mod Layers
+pub mod Folds
 pub mod Keeping
 pub mod Parts
 pub mod Nodes

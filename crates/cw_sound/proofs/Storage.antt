@@ -3,6 +3,7 @@ pub mod Origins
 pub mod OwnFaults
 pub mod SameKinds
 pub mod OwnNumbers
+pub mod Definitions
 pub mod Meeting
 pub mod Passing
 pub mod Owners

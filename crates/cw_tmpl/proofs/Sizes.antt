@@ -38,11 +38,11 @@ use Rattle.cw_tmpl.specs.Names.{Names, no_names, mark_place, switch_size}
 use Rattle.cw_tmpl.specs.Blocks.{address_orders, bounds_orders, element_orders, orders_to_form, form_order, operand_orders, order_of, count_order, element_at, element_fetched, fetched_or, joined, compared_or, both_or, fetched_behind, block_alone, block_of, block_at, orders_left, left_at, column_orders, orders_in_row, orders_to_row, row_order}
 use Rattle.cw_tmpl.proofs.Shapes.{IsBlock, shape}
 use Rattle.cw_tmpl.specs.Library.{address_entry}
-use Rattle.cw_tmpl.specs.Templates.{frame_size, Forms, is_short, template, template_by, mark_words, goal_words, landing_pieces, switch_pieces, address_pieces, load_place, store_place, pieces_size, operated, block_pieces, block_size, order_size, distance, entry_pieces, shifted_up, shifted_down_signed, part_taken, operate_place, change_place, index_added, index_loaded, from_lower, indexes_between, index_below, address_tested, index_tested, element_tested, element_address, with_operand, product_with, checked, branch, call_stop, top_from_lower, top_below, formed, loop_ways_size, doubled_size, word_compared, counted, jump_of, saved, branch_by, element, column_loaded, column_below, row_summed, column_tested}
+use Rattle.cw_tmpl.specs.Templates.{rescale, rescale_before, product, product_before, quotient, quotient_before, is_checked, frame_size, Forms, is_short, template, template_by, mark_words, goal_words, landing_pieces, switch_pieces, address_pieces, load_place, store_place, pieces_size, operated, block_pieces, block_size, order_size, distance, entry_pieces, shifted_up, shifted_down_signed, part_taken, operate_place, change_place, index_added, index_loaded, from_lower, indexes_between, index_below, address_tested, index_tested, element_tested, element_address, with_operand, product_with, checked, branch, call_stop, top_from_lower, top_below, formed, loop_ways_size, doubled_size, word_compared, counted, jump_of, saved, branch_by, element, column_loaded, column_below, row_summed, column_tested}
 use Rattle.cw_tmpl.specs.Sizes.{listed_size, size_behind, sizes_behind, listed_sizes, index_size, lower_size, element_size, used_size, shift_size, part_size, size_in_list, owed, number_size, bounds_size, top_lower_size, formed_size, times_size, column_size, row_size}
 use Rattle.cw_tmpl.specs.ReferenceCode.{templates, landings, switches, places_from, places_by, entry_size, reach_of, order_places, landings_place, switches_place, names_of, mark_starts, pieces_of, switch_sizes, StandsAt}
 use Rattle.cw_tmpl.proofs.Growing.{blanks-append}
-use Rattle.cw_tmpl.proofs.Endings.{compared_long, checked_same, shorter_by}
+use Rattle.cw_tmpl.proofs.Endings.{compared_long, checked_same, ended_same, shorter_by}
 use Rattle.cw_tmpl.proofs.Lengths.{frame_few, field_loaded, field_stored, field_operated, field_changed, field_compared, first_long, rescale_long, product_scaled_long, product_down_long, appended_long, appended_one, shifted_long, part_long, store_part_long, element_long, element_of_two_long, entry_long, bind_long, bind_frame_long, special_out_long, call_special_long, go_special_long, go_switch_special_long}
 
 -- the words of a table
@@ -80,8 +80,9 @@ single_everywhere names place number false o = template_everywhere names place o
 single_everywhere names place number true (order.Add line) = refl
 single_everywhere names place number true (order.Sub line) = refl
 single_everywhere names place number true (order.Neg line) = refl
-single_everywhere names place number true (order.Mul (pos zero) line) = refl
-single_everywhere names place number true (order.Mul s line) = template_everywhere names place (order.Mul s line)
+single_everywhere names place number true (order.Rescale from to line) = ended_same (nat_le from to) (rescale line from to) (rescale_before from to) line _ _ _ _
+single_everywhere names place number true (order.Mul s line) = ended_same (is_checked s) (product line s) (product_before line s) line _ _ _ _
+single_everywhere names place number true (order.Div s line) = ended_same true (quotient line s) (quotient_before line s) line _ _ _ _
 single_everywhere names place number true (order.Jump m) = refl
 single_everywhere names place number true (order.JumpIf c m) = refl
 single_everywhere names place number true (order.LoopWay []) = template_everywhere names place (order.LoopWay [])

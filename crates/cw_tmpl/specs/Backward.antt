@@ -10,7 +10,8 @@ use Rattle.cw_tmpl.specs.Templates.{is_close, check_of}
 -- The CALL for the check of a block whose first order has this number, where the last block with a CALL of its own is given: it is named by the number
 -- of the order behind the first one of its block, which tells where that ends; 0 where there is none that serves.
 abbrev pub call_for : (longest : List ℕ) → Option Call → (number : ℕ) → (check : Option ℕ) → ℕ
-call_for longest (Some c) number (Some line) = if (c.line == line) && is_close (slice_index longest (number + 1)) (slice_index longest c.behind) then c.behind else 0
+call_for longest (Some c) number (Some line) = if (c.line == line) && is_close (slice_index longest (number + 1))
+    (slice_index longest c.behind) then c.behind else 0
 call_for longest _ number _ = 0
 
 -- the last block with a CALL of its own then

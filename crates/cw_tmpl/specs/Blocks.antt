@@ -2,7 +2,8 @@
 -- make the address of an element; the code leaves that operand where it is, and takes the word from its own instruction or from memory. Of two
 -- words of the frame that are put, the first one is pushed. The address of an element may stop, and so may the comparison of an index with bounds. A
 -- mark stands at the first order of a block alone. Where a block begins with the comparison of an index with bounds, that index is the top operand.
-use Rattle.std.specs.Prelude.{◌≡◌, ℕ, zero, suc, ◌+◌, ◌*◌, ◌-◌, ◌==◌, ◌&&◌, if◌then◌else◌, nat_lt, nat_le, int_le, ◌-ℤ◌, ℤ, pos, negsuc, Bool, true, false, List, [], ◌∷◌, ◌++◌, length, drop, Option, Some, None, slice_get}
+use Rattle.std.specs.Prelude.{◌≡◌, ℕ, zero, suc, ◌+◌, ◌*◌, ◌-◌, ◌==◌, ◌&&◌, if◌then◌else◌, nat_lt, nat_le, int_le, ◌-ℤ◌, ℤ, pos}
+use Rattle.std.specs.Prelude.{negsuc, Bool, true, false, List, [], ◌∷◌, ◌++◌, length, drop, Option, Some, None, slice_get}
 use Rattle.cw_order.specs.declared.order.Order.{Order}
 use Rattle.cw_order.specs.declared.order.Order.TheVariants as order
 use Rattle.cw_order.specs.declared.order.Place.{Place}

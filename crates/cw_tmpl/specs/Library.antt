@@ -7,7 +7,13 @@ use Rattle.cw_i86.specs.declared.instr.Instr.TheVariants as i86
 use Rattle.cw_i86.specs.declared.instr.Rm.TheVariants as rms
 use Rattle.cw_run86.specs.Views.{with_number}
 use Rattle.cw_unit.specs.Stop.{StopKind, Overflow, ZeroDivisor, SwitchRange, AddressRange, FramesFull, DepthReached, IndexRange}
-use Rattle.cw_tmpl.specs.Mnemonics.{ax, bx, cx, dx, sp, bp, si, di, al, ah, segment_slot, calls_slot, rest_slot, slot, at_bx, at_si, near_field, code_at_bx, code_behind_bx, code_at_si, code_behind_si, set_word, set_byte, load, store, move, add, add_number, add_word, subtract, subtract_word, compare, compare_word, one_of, either, negate, double, exchange, shift_up, shift_down, shift_down_signed, multiply, divide, jump_to, jump_if_overflow, jump_if_below, jump_if_not_below, jump_if_equal, jump_if_unequal, jump_if_sign, jump_if_at_most, jump_if_cx_zero, bytes_of_all}
+use Rattle.cw_tmpl.specs.Mnemonics.{ax, bx, cx, dx, sp, bp, si, di, al, ah, segment_slot, calls_slot, rest_slot}
+use Rattle.cw_tmpl.specs.Mnemonics.{slot, at_bx, at_si, near_field, code_at_bx, code_behind_bx}
+use Rattle.cw_tmpl.specs.Mnemonics.{code_at_si, code_behind_si, set_word, set_byte, load, store, move, add}
+use Rattle.cw_tmpl.specs.Mnemonics.{add_number, add_word, subtract, subtract_word, compare, compare_word}
+use Rattle.cw_tmpl.specs.Mnemonics.{one_of, either, negate, double, exchange, shift_up, shift_down, shift_down_signed}
+use Rattle.cw_tmpl.specs.Mnemonics.{multiply, divide, jump_to, jump_if_overflow, jump_if_below}
+use Rattle.cw_tmpl.specs.Mnemonics.{jump_if_not_below, jump_if_equal, jump_if_unequal, jump_if_sign, jump_if_at_most, jump_if_cx_zero, bytes_of_all}
 
 -- ---- the end, and the entries of earlier libraries
 

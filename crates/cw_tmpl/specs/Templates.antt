@@ -7,7 +7,8 @@
 -- stands, and on where the marks' code starts: both are places in the code of the segment. A jump to a mark is near, by a word; where its mark is
 -- close by, a block that ends with the jump has a short one, by a byte. A block that ends with a check for an overflow calls the stop; where an earlier
 -- block close by calls it with the same line, the check is a short jump back to that CALL.
-use Rattle.std.specs.Prelude.{ℕ, ◌*◌, zero, suc, ◌+◌, ◌-◌, ◌%◌, ◌^◌, ◌==◌, ◌&&◌, nat_lt, nat_le, ℤ, pos, negsuc, ◌-ℤ◌, Bool, true, false, List, [], ◌∷◌, ◌++◌, length, if◌then◌else◌, Option, Some, None, slice_index}
+use Rattle.std.specs.Prelude.{ℕ, ◌*◌, zero, suc, ◌+◌, ◌-◌, ◌%◌, ◌^◌, ◌==◌, ◌&&◌, nat_lt, nat_le, ℤ, pos, negsuc, ◌-ℤ◌, Bool}
+use Rattle.std.specs.Prelude.{true, false, List, [], ◌∷◌, ◌++◌, length, if◌then◌else◌, Option, Some, None, slice_index}
 use Rattle.cw_i86.specs.declared.instr.Instr.{Instr}
 use Rattle.cw_i86.specs.declared.instr.Instr.TheVariants as i86
 use Rattle.cw_run86.specs.Views.{with_number, Comparison, Equal, Unequal, Less, NotLess, AtMost, Greater, condition_of}
@@ -42,10 +43,20 @@ use Rattle.cw_tmpl.specs.declared.blocks.Use.{Use}
 use Rattle.cw_tmpl.specs.declared.blocks.Use.TheVariants as uses
 use Rattle.cw_tmpl.specs.declared.blocks.Block.{Block}
 use Rattle.cw_tmpl.specs.declared.blocks.Block.TheVariants as block
-use Rattle.cw_tmpl.specs.Mnemonics.{ax, bx, cx, dx, sp, bp, si, di, segment_slot, base_slot, base_record, base_operands, record_depth, calls_slot, rest_slot, slot, first_argument, argument, at_bx, at_si, field, set_word, load, store, move, add, subtract, compare, exchange, negate, double, both, either, one_of, shift_up, shift_down, shift_down_signed, multiply, divide_signed, jump_to, jump_if_overflow, jump_if_no_overflow, jump_if_below, jump_if_not_below, jump_if_equal, jump_if_unequal, jump_if_not_less, jump_if_at_most, jump_if_cx_zero, operate, change, increase, decrease, shift_up_once, shift_down_once, shift_down_signed_once, operate_number, compare_number, set_ax}
-use Rattle.cw_tmpl.specs.Library.{start_entry, overflow_entry, zero_divisor_entry, address_entry, switch_entry, bounds_entry, enter_entry, enter_stop_entry, read_entry, product_entry, quotient_down_entry, quotient_up_entry, set_variable_entry, add_step_entry, put_variable_entry, exhausted_entry, next_step_entry}
+use Rattle.cw_tmpl.specs.Mnemonics.{ax, bx, cx, dx, sp, bp, si, di, segment_slot, base_slot, base_record, base_operands, record_depth, calls_slot, rest_slot, slot, first_argument}
+use Rattle.cw_tmpl.specs.Mnemonics.{argument, at_bx, at_si, field, set_word, load, store, move, add, subtract, compare, exchange, negate, double, both, either, one_of}
+use Rattle.cw_tmpl.specs.Mnemonics.{shift_up, shift_down, shift_down_signed, multiply, divide_signed, jump_to, jump_if_overflow, jump_if_no_overflow, jump_if_below, jump_if_not_below}
+use Rattle.cw_tmpl.specs.Mnemonics.{jump_if_equal, jump_if_unequal, jump_if_not_less, jump_if_at_most, jump_if_cx_zero, operate, change, increase, decrease, shift_up_once}
+use Rattle.cw_tmpl.specs.Mnemonics.{shift_down_once, shift_down_signed_once, operate_number, compare_number, set_ax}
+use Rattle.cw_tmpl.specs.Library.{start_entry, overflow_entry, zero_divisor_entry, address_entry, switch_entry, bounds_entry, enter_entry}
+use Rattle.cw_tmpl.specs.Library.{enter_stop_entry, read_entry, product_entry, quotient_down_entry, quotient_up_entry, set_variable_entry}
+use Rattle.cw_tmpl.specs.Library.{add_step_entry, put_variable_entry, exhausted_entry, next_step_entry}
 use Rattle.cw_tmpl.specs.Pieces.{blanks}
 use Rattle.cw_tmpl.specs.Names.{Reach, Names, no_names, mark_place, label_start, procedure_start, switch_start, call_place, own}
+
+-- the bytes of pieces
+abbrev pub pieces_size : List Coded → ℕ
+pieces_size ps = length (blanks ps)
 
 abbrev pub call_library : ℕ → Coded
 call_library entry = coded.Call (target.LibraryAhead entry)
@@ -254,6 +265,36 @@ is_close from to = nat_le from (to + 127) && nat_le to (from + 127)
 abbrev pub checked_by : (short : Bool) → (line place to : ℕ) → List Coded
 checked_by true line place to = coded.Whole (jump_if_overflow (short_distance (place + 2) to)) ∷ []
 checked_by false line place to = checked line
+
+-- Code that begins at a place and may end with the check: where it does, and that jumps back, by what it has before it.
+abbrev pub ended_back : (ends : Bool) → (whole before : List Coded) → (line place to : ℕ) → List Coded
+ended_back true whole before line place to = before ++ checked_by true line (place + pieces_size before) to
+ended_back false whole before line place to = whole
+
+-- what a multiplication by a number, a call of a routine, a product and a quotient have before the check with which they end
+abbrev pub times_before : (top : Bool) → (n : ℕ) → List Coded
+times_before true n = coded.Whole (negate ax) ∷ coded.Whole (set_word bx n) ∷ coded.Whole (multiply bx) ∷ []
+times_before false n = coded.Whole (set_word bx n) ∷ coded.Whole (multiply bx) ∷ []
+
+abbrev pub routine_before : (entry count : ℕ) → List Coded
+routine_before entry count = coded.Whole (set_word cx count) ∷ call_library entry ∷ []
+
+abbrev pub rescale_before : (from to : ℕ) → List Coded
+rescale_before from to = times_before (2 ^ (to - from) == 32768) (2 ^ (to - from))
+
+abbrev pub product_before : (line : ℕ) → ℤ → List Coded
+product_before line (pos zero) = coded.Whole (i86.Pop bx) ∷ coded.Whole (multiply bx) ∷ []
+product_before line (pos (suc n)) = product_start line ++ times_before (2 ^ suc n == 32768) (2 ^ suc n)
+product_before line (negsuc n) = coded.Whole (i86.Pop bx) ∷ routine_before product_entry (n + 1)
+
+abbrev pub quotient_before : (line : ℕ) → ℤ → List Coded
+quotient_before line (pos n) = divisor_tested line ++ routine_before quotient_up_entry n
+quotient_before line (negsuc n) = divisor_tested line ++ routine_before quotient_down_entry (n + 1)
+
+-- whether a product ends with a check: one that is scaled far down always fits
+abbrev pub is_checked : ℤ → Bool
+is_checked (pos n) = true
+is_checked (negsuc n) = nat_lt n 15
 
 -- what a comparator compares
 abbrev pub comparison_of : Comparator → Comparison
@@ -526,12 +567,15 @@ template names place order.Mark = []
 
 -- the same where the jump to its mark is short, or its check jumps back: an order without such a jump or check has one form
 abbrev pub short_template : Names → (place number : ℕ) → Order → List Coded
-short_template names place number (order.Add line) = coded.Whole (i86.Pop bx) ∷ coded.Whole (add ax bx) ∷ checked_by true line (place + 3) (call_place names number)
+short_template names place number (order.Add line) =
+    coded.Whole (i86.Pop bx) ∷ coded.Whole (add ax bx) ∷ checked_by true line (place + 3) (call_place names number)
 short_template names place number (order.Sub line) =
     coded.Whole (move bx ax) ∷ coded.Whole (i86.Pop ax) ∷ coded.Whole (subtract ax bx) ∷ checked_by true line (place + 5) (call_place names number)
 short_template names place number (order.Neg line) = coded.Whole (negate ax) ∷ checked_by true line (place + 2) (call_place names number)
-short_template names place number (order.Mul (pos zero) line) =
-    coded.Whole (i86.Pop bx) ∷ coded.Whole (multiply bx) ∷ checked_by true line (place + 3) (call_place names number)
+short_template names place number (order.Rescale from to line) =
+    ended_back (nat_le from to) (rescale line from to) (rescale_before from to) line place (call_place names number)
+short_template names place number (order.Mul s line) = ended_back (is_checked s) (product line s) (product_before line s) line place (call_place names number)
+short_template names place number (order.Div s line) = ended_back true (quotient line s) (quotient_before line s) line place (call_place names number)
 short_template names place number (order.Jump mark) = jump_short (place + 2) (mark_place names mark) ∷ []
 short_template names place number (order.JumpIf c mark) = short_where c place (mark_place names mark)
 short_template names place number (order.LoopWay (m ∷ [])) = short_way names place m
@@ -673,22 +717,22 @@ row_address r =
 
 -- ---- blocks
 
--- the bytes of pieces
-abbrev pub pieces_size : List Coded → ℕ
-pieces_size ps = length (blanks ps)
-
 -- an operation on AX and a simple operand
 abbrev pub with_operand : (op : ℕ) → Simple → List Coded
 with_operand op s = operand_pieces s ++ operation op s ∷ []
 
 abbrev pub operated : Names → (place number : ℕ) → (short : Bool) → Simple → Use → List Coded
-operated names place number short s (uses.Add line) = with_operand 0 s ++ checked_by short line (place + pieces_size (with_operand 0 s)) (call_place names number)
-operated names place number short s (uses.Subtract line) = with_operand 5 s ++ checked_by short line (place + pieces_size (with_operand 5 s)) (call_place names number)
-operated names place number short s (uses.Multiply line) = product_with s ++ checked_by short line (place + pieces_size (product_with s)) (call_place names number)
+operated names place number short s (uses.Add line) = with_operand 0 s
+    ++ checked_by short line (place + pieces_size (with_operand 0 s)) (call_place names number)
+operated names place number short s (uses.Subtract line) = with_operand 5 s
+    ++ checked_by short line (place + pieces_size (with_operand 5 s)) (call_place names number)
+operated names place number short s (uses.Multiply line) = product_with s
+    ++ checked_by short line (place + pieces_size (product_with s)) (call_place names number)
 operated names place number short s uses.Mask = with_operand 4 s
 operated names place number short s uses.Union = with_operand 1 s
 operated names place number short s uses.Differ = with_operand 6 s
-operated names place number short s (uses.Compare c mark) = with_operand 7 s ++ branch_by short c (place + pieces_size (with_operand 7 s)) (mark_place names mark)
+operated names place number short s (uses.Compare c mark) = with_operand 7 s
+    ++ branch_by short c (place + pieces_size (with_operand 7 s)) (mark_place names mark)
 
 -- a word of the frame compared with a number
 abbrev pub word_compared : (offset number : ℕ) → List Coded
@@ -716,7 +760,8 @@ block_pieces names place number short (block.Row r) o = row_address r
 block_pieces names place number short (block.FetchBoth n m) o =
     coded.Whole (load bx (slot base_slot)) ∷ coded.Whole (load ax (field (2 * n % 65536)))
     ∷ coded.Whole (i86.Push ax) ∷ coded.Whole (load ax (field (2 * m % 65536))) ∷ []
-block_pieces names place number short (block.CompareWord n w c mark) o = word_compared n w ++ branch_by short c (place + pieces_size (word_compared n w)) (mark_place names mark)
+block_pieces names place number short (block.CompareWord n w c mark) o = word_compared n w
+    ++ branch_by short c (place + pieces_size (word_compared n w)) (mark_place names mark)
 
 -- the mark of a block's jump that can be short
 abbrev pub jump_of : Block → Order → Option ℕ
@@ -732,7 +777,9 @@ abbrev pub check_of : Block → Order → Option ℕ
 check_of block.Single (order.Add line) = Some line
 check_of block.Single (order.Sub line) = Some line
 check_of block.Single (order.Neg line) = Some line
-check_of block.Single (order.Mul (pos zero) line) = Some line
+check_of block.Single (order.Rescale from to line) = if nat_le from to then Some line else None
+check_of block.Single (order.Mul s line) = if is_checked s then Some line else None
+check_of block.Single (order.Div s line) = Some line
 check_of (block.Operate s (uses.Add line)) o = Some line
 check_of (block.Operate s (uses.Subtract line)) o = Some line
 check_of (block.Operate s (uses.Multiply line)) o = Some line
@@ -744,7 +791,9 @@ abbrev pub saved : Block → Order → ℕ
 saved block.Single (order.Add line) = 5
 saved block.Single (order.Sub line) = 5
 saved block.Single (order.Neg line) = 5
-saved block.Single (order.Mul (pos zero) line) = 5
+saved block.Single (order.Rescale from to line) = if nat_le from to then 5 else 0
+saved block.Single (order.Mul s line) = if is_checked s then 5 else 0
+saved block.Single (order.Div s line) = 5
 saved block.Single (order.Jump m) = 1
 saved block.Single (order.JumpIf c m) = 3
 saved block.Single (order.LoopWay (m ∷ [])) = 3

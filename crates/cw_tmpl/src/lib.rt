@@ -3,10 +3,12 @@
 
 mod assembling;
 mod blocks;
+mod finding;
 pub mod instructions;
 pub mod laws;
 pub mod library;
 mod names;
+mod operands;
 mod pieces;
 mod reach;
 mod rows;
@@ -16,5 +18,5 @@ pub use blocks::{Block, Bounded, Bounds, Element, Form, Simple, Test, Use, block
 pub use library::{base_code, base_entry};
 pub use names::{LANDING, Names, SEGMENT_WORD, own};
 pub use pieces::{Coded, Limit, Target};
-pub use reach::{Call, Reach, call_after, call_for, check_of};
+pub use reach::{Call, Reach, call_after, call_for, check_of, is_checked};
 pub use rows::{Column, Row};

@@ -280,7 +280,8 @@ pub fn base_code() -> &'static [u8]
 /// lead to a byte with which no instruction begins; 18 makes the base record of a segment, 19 to 23 stop with Overflow,
 /// ZeroDivisor, Address, Bounds and Switch, 25 reads a byte, 26 is a product, 27 and 28 are quotients, 29 to 31 set, step
 /// and put the control variable of a loop, 32 tests whether a loop is exhausted, 33 begins an activation, 34 does what
-/// follows the body of a loop of one element with a step, and 35 stops where code of a segment can begin no activation. None for every number past the last one.
+/// follows the body of a loop of one element with a step, and 35 stops where code of a segment can begin no
+/// activation. None for every number past the last one.
 pub fn base_entry(k: u16) -> Option<u16>
     ensures { result ≡ library_entry k }
 {

@@ -1,7 +1,7 @@
 //! Which jumps are short, and which checks jump back.
 ghost use Rattle.std.specs.Prelude.{◌≡◌, ◌<◌, slice_index};
 ghost use Rattle.cw_tmpl.specs.Backward.{call_for, call_after};
-ghost use Rattle.cw_tmpl.specs.Templates.{is_close, jump_of, check_of, has_call, is_short};
+ghost use Rattle.cw_tmpl.specs.Templates.{is_close, jump_of, is_checked, check_of, has_call, is_short};
 
 use crate::blocks::{Block, Use};
 use cw_order::Order;
@@ -65,6 +65,13 @@ fn jump_of(block: Block, order: &Order) -> Option<u32>
     }
 }
 
+/// Whether a product ends with a check: one that is scaled far down always fits.
+pub fn is_checked(power: i8) -> bool
+    ensures { result ≡ is_checked power }
+{
+    power >= -15
+}
+
 /// The line of the check with which a block ends that can jump back.
 pub fn check_of(block: Block, order: &Order) -> Option<u16>
     ensures { result ≡ check_of block order.now }
@@ -72,7 +79,9 @@ pub fn check_of(block: Block, order: &Order) -> Option<u16>
     match block {
         Block::Single => match order {
             Order::Add(line) | Order::Sub(line) | Order::Neg(line) => Some(*line),
-            Order::Mul { power: 0, line } => Some(*line),
+            Order::Rescale { from, to, line } if from <= to => Some(*line),
+            Order::Mul { power, line } if is_checked(*power) => Some(*line),
+            Order::Div { line, .. } => Some(*line),
             _ => None,
         },
         Block::Operate {

@@ -1,8 +1,10 @@
 //! Elements of two dimensions, where both indexes are compared with their bounds and an instruction names the second one.
 ghost use Rattle.std.specs.Prelude.{◌≡◌, ◌<◌, ◌+◌, ◌*◌, ◌-ℤ◌, ◌&&◌, pos, true, nat_lt, length, Some, slice_get};
-ghost use Rattle.cw_tmpl.specs.Blocks.{column_orders, orders_to_row, is_within, is_save, bounds_at, column_at, last_within, row_within, row_if, same_bound, item_of, row_made, row_formed, row_behind, row_saved, row_from, row_at};
+ghost use Rattle.cw_tmpl.specs.Blocks.{column_orders, orders_to_row, is_within, is_save, bounds_at, column_at, last_within, row_within};
+ghost use Rattle.cw_tmpl.specs.Blocks.{row_if, same_bound, item_of, row_made, row_formed, row_behind, row_saved, row_from, row_at};
 
-use crate::blocks::{Bounds, bounds_at, is_save, is_within, orders_of_address};
+use crate::blocks::{Bounds, orders_of_address};
+use crate::operands::{bounds_at, is_save, is_within};
 use cw_order::{Order, Place};
 
 /// A second index that an instruction names.
@@ -186,7 +188,8 @@ fn row_made(rows: Bounds, column: Column, columns: Bounds, item: Option<Item>) -
 /// The same behind the second index, where its comparison with bounds stands at a place.
 fn row_formed(rows: Bounds, column: Column, orders: &[Order], behind: usize) -> Option<Row>
     requires { behind < 8 }
-    ensures { result ≡ row_formed rows column (bounds_at (slice_get orders.now behind)) (slice_get orders.now (behind + 1)) (slice_get orders.now (behind + 2)) (slice_get orders.now (behind + 3)) }
+    ensures { result ≡ row_formed rows column (bounds_at (slice_get orders.now behind))
+        (slice_get orders.now (behind + 1)) (slice_get orders.now (behind + 2)) (slice_get orders.now (behind + 3)) }
 {
     let columns = bounds_at(orders, behind)?;
     if is_save(orders, behind + 1) {

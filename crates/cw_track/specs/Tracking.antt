@@ -9,7 +9,8 @@ use Rattle.cw_track.specs.Machine.{Machine, shown_after, cost}
 -- well; in return B's next step is counted too. Without that, tracking would not compose: a machine that tracks B would have
 -- a step under way that nothing pays for. Once B shows that the run is over, its further steps need not be paid for
 pub record TracksAfter {O : Type 0} (is_running : O → Bool) (initial : ℕ) (A : Machine O) (s : A.State) (B : Machine O) (t : B.State) : Type 0 where
-  pub shows_only : (k : ℕ) → (m : ℕ) × (shown_after B k t ≡ shown_after A m s) × ((cost B (suc k) t ≤ initial + cost A (suc m) s) ⊎ (is_running (shown_after B k t) ≡ false))
+  pub shows_only : (k : ℕ) → (m : ℕ) × (shown_after B k t ≡ shown_after A m s)
+      × ((cost B (suc k) t ≤ initial + cost A (suc m) s) ⊎ (is_running (shown_after B k t) ≡ false))
   pub shows_all : (m : ℕ) → (k : ℕ) × (shown_after B k t ≡ shown_after A m s) × (cost B k t ≤ initial + cost A m s)
 
 -- B tracks A from the first step on

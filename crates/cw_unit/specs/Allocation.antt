@@ -1,6 +1,7 @@
 -- Storage allocation: where the families of a list of segments stand. It needs of a segment the names of its descriptors and its
 -- families, whether they are those of a unit or those that an object tells.
-use Rattle.std.specs.Prelude.{ℕ, zero, suc, ◌+◌, min, max, nat_eq, nat_lt, ◌&&◌, List, [], ◌∷◌, ◌++◌, map, length, Bool, false, Option, Some, None, slice_get, if◌then◌else◌}
+use Rattle.std.specs.Prelude.{ℕ, zero, suc, ◌+◌, min, max, nat_eq, nat_lt, ◌&&◌, List, [], ◌∷◌, ◌++◌, map}
+use Rattle.std.specs.Prelude.{length, Bool, false, Option, Some, None, slice_get, if◌then◌else◌}
 use Rattle.std.specs.Str.{bytes_eq}
 use Rattle.cw_unit.specs.declared.unit.Unit.{Unit as SourceUnit}
 use Rattle.cw_unit.specs.declared.layout.Family.{Family}

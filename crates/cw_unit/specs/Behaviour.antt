@@ -15,7 +15,13 @@ first_body (Some u) = Run u.body Nothing
 
 abbrev pub initial_configuration : Program → (input : List ℕ) → Configuration
 initial_configuration p input =
-    at 0 (first_body (slice_get p.units 0)) [] (record { operands = []; memory = initial_memory p.units p.addresses p.limits.area; input = input; output = [] }) Running
+    at 0 (first_body (slice_get p.units 0)) []
+    (record {
+      operands = [];
+      memory = initial_memory p.units p.addresses p.limits.area;
+      input = input;
+      output = [];
+    }) Running
 
 -- what a run shows
 pub record Observation : Type 0 where

@@ -76,4 +76,5 @@ address_at p s acts i = item_address p (segment_of s acts) i (base_of acts)
 pub record FramesApart (p : Program) (acts : List Activation) : Type 0 where
   pub above : (n : ℕ) (a : Activation) → slice_get acts n ≡ Some a → p.limits.area - p.limits.frames ≤ a.frame_base
   pub below : (n : ℕ) (a : Activation) → slice_get acts n ≡ Some a → a.frame_base + frame_size_of p a.segment a.procedure ≤ p.limits.area
-  pub apart : (n m : ℕ) (a b : Activation) → n < m → slice_get acts n ≡ Some a → slice_get acts m ≡ Some b → b.frame_base + frame_size_of p b.segment b.procedure ≤ a.frame_base
+  pub apart : (n m : ℕ) (a b : Activation) → n < m → slice_get acts n ≡ Some a → slice_get acts m ≡ Some b
+      → b.frame_base + frame_size_of p b.segment b.procedure ≤ a.frame_base

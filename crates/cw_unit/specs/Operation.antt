@@ -1,5 +1,6 @@
 -- The operations on the words of a running program: each takes its operands from the operand stack and puts its result there.
-use Rattle.std.specs.Prelude.{ℕ, zero, suc, ◌+◌, ℤ, pos, negsuc, ◌+ℤ◌, ◌-ℤ◌, ◌*ℤ◌, neg_ℤ, [], ◌∷◌, ◌++◌, set, Bool, true, false, not, int_lt, int_le, ◌&&◌, Option}
+use Rattle.std.specs.Prelude.{ℕ, zero, suc, ◌+◌, ℤ, pos, negsuc, ◌+ℤ◌, ◌-ℤ◌, ◌*ℤ◌, neg_ℤ, [], ◌∷◌}
+use Rattle.std.specs.Prelude.{◌++◌, set, Bool, true, false, not, int_lt, int_le, ◌&&◌, Option}
 use Rattle.cw_word.specs.FixedPoint.{fits_word, rescaled, scaled_product, scaled_quotient}
 use Rattle.cw_word.specs.BitField.{unsigned_field}
 use Rattle.cw_word.specs.Word.{signed, unsigned}
@@ -8,7 +9,8 @@ use Rattle.cw_unit.specs.declared.unit.LogicOp.{LogicOp}
 use Rattle.cw_unit.specs.declared.unit.CompareOp.{CompareOp}
 use Rattle.cw_unit.specs.declared.unit.CompareOp.TheVariants as compare
 use Rattle.cw_unit.specs.Stop.{Overflow, ZeroDivisor, AddressRange, IndexRange}
-use Rattle.cw_unit.specs.Words.{Words, Outcome, Changed, Refused, with_memory, is_below, put, put_if, put_value, on_one, on_two, word_at, at_address, field_value, with_bits, stored_value, logic_word, byte_of, read_byte}
+use Rattle.cw_unit.specs.Words.{Words, Outcome, Changed, Refused, with_memory, is_below, put, put_if, put_value, on_one, on_two}
+use Rattle.cw_unit.specs.Words.{word_at, at_address, field_value, with_bits, stored_value, logic_word, byte_of, read_byte}
 
 -- how an address is formed: it is known, it is the operand, or it is reckoned from a base by an index less a lower bound, by two of
 -- them and the words of a row, or by the number of an entry, its words and a place in it
@@ -52,7 +54,8 @@ form_address area (Scaled base width word) w =
 
 -- Constant puts a word. Rescale takes a word of one scale to another. Fetch puts what is at an address; Store and StoreBits take an
 -- address and the word below it. Multiply and Divide scale their result by a power of two. Combine and Extract work on bits. InBounds
--- compares an index with its bounds and leaves it. Form puts an address. Keep stores a word. SetVariable and AddStep store into the control variable of a loop, whose address the loop's first
+-- compares an index with its bounds and leaves it. Form puts an address. Keep stores a word. SetVariable and AddStep
+-- store into the control variable of a loop, whose address the loop's first
 -- word holds
 pub data Operation : Type 0 where
   Constant : ℤ → Operation

@@ -1,5 +1,6 @@
 -- The steps of the source semantics: one equation of `advance` for each kind of pending work.
-use Rattle.std.specs.Prelude.{ℕ, zero, suc, ◌+◌, ◌-◌, nat_lt, nat_le, ℤ, pos, negsuc, ◌-ℤ◌, List, [], ◌∷◌, ◌++◌, length, take, drop, set, Bool, true, false, Option, Some, None, slice_get}
+use Rattle.std.specs.Prelude.{ℕ, zero, suc, ◌+◌, ◌-◌, nat_lt, nat_le, ℤ, pos, negsuc, ◌-ℤ◌, List, [], ◌∷◌, ◌++◌}
+use Rattle.std.specs.Prelude.{length, take, drop, set, Bool, true, false, Option, Some, None, slice_get}
 use Rattle.cw_word.specs.Decimal.{decimal_floor}
 use Rattle.cw_unit.specs.declared.unit.Unit.{Unit as SourceUnit}
 use Rattle.cw_unit.specs.declared.unit.Proc.{Proc}
@@ -27,11 +28,15 @@ use Rattle.cw_unit.specs.declared.unit.Arg.TheOpen.{Arg-F, Cond-F, Spot-F, Ref-F
 use Rattle.cw_unit.specs.Program.{Program, definition_of, item_address}
 use Rattle.cw_word.specs.FixedPoint.{fits_word}
 use Rattle.cw_unit.specs.Stop.{SwitchRange, AddressRange, FramesFull, DepthReached, Running, Ended, Stopped, Stuck}
-use Rattle.cw_unit.specs.Words.{Control, LabelControl, SwitchControl, ProcedureControl, Operand, Word, Held, Words, Outcome, Changed, Refused, Impossible, with_operands, with_memory, is_below, number_of, put_if, word_at}
-use Rattle.cw_unit.specs.Operation.{Addressing, Known, Taken, Indexed, Indexed2, Scaled, Constant, Form, Keep, SetVariable, AddStep, ReadByte, WriteByte, perform, is_past, holds}
-use Rattle.cw_unit.specs.Work.{Work, Nothing, Run, Eval, Address, FormAt, Do, Test, Choose, Jump, Give, Enter, Return, Leave, KeepAt, SetVar, Element, Turn, Bump, On, Loop, statement_work, expression_work, spot_work, condition_work, element_work, element_at, next_element}
+use Rattle.cw_unit.specs.Words.{Control, LabelControl, SwitchControl, ProcedureControl, Operand, Word, Held, Words, Outcome, Changed}
+use Rattle.cw_unit.specs.Words.{Refused, Impossible, with_operands, with_memory, is_below, number_of, put_if, word_at}
+use Rattle.cw_unit.specs.Operation.{Addressing, Known, Taken, Indexed, Indexed2, Scaled, Constant, Form, Keep}
+use Rattle.cw_unit.specs.Operation.{SetVariable, AddStep, ReadByte, WriteByte, perform, is_past, holds}
+use Rattle.cw_unit.specs.Work.{Work, Nothing, Run, Eval, Address, FormAt, Do, Test, Choose, Jump, Give, Enter, Return, Leave, KeepAt, SetVar, Element, Turn}
+use Rattle.cw_unit.specs.Work.{Bump, On, Loop, statement_work, expression_work, spot_work, condition_work, element_work, element_at, next_element}
 use Rattle.cw_unit.specs.LabelContinuation.{label_continuation}
-use Rattle.cw_unit.specs.Configuration.{Configuration, at, Activation, segment_of, control_at, procedure_at, frame_size_of, frame_top, answer_scale_of, address_at}
+use Rattle.cw_unit.specs.Configuration.{Configuration, at, Activation, segment_of, control_at, procedure_at}
+use Rattle.cw_unit.specs.Configuration.{frame_size_of, frame_top, answer_scale_of, address_at}
 
 -- after an operation; a stop leaves the rest of the configuration as it was
 abbrev pub after : Outcome → (segment line : ℕ) → (now next : Work) → List Activation → Words → Configuration

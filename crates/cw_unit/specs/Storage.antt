@@ -1,6 +1,7 @@
 -- Storage families. OVERLAY puts an item on words of another, its base; an item together with all that are overlaid on it, directly
 -- or through others, is a family. Here bases are followed back: where an item stands in its family, and how far the family reaches.
-use Rattle.std.specs.Prelude.{ℕ, zero, suc, ◌+◌, max, nat_eq, List, [], ◌∷◌, ◌++◌, map, take, Bool, true, false, ◌&&◌, Option, Some, None, is_none, slice_get, if◌then◌else◌}
+use Rattle.std.specs.Prelude.{ℕ, zero, suc, ◌+◌, max, nat_eq, List, [], ◌∷◌, ◌++◌, map, take, Bool, true}
+use Rattle.std.specs.Prelude.{false, ◌&&◌, Option, Some, None, is_none, slice_get, if◌then◌else◌}
 use Rattle.cw_unit.specs.declared.unit.Unit.{Unit as SourceUnit}
 use Rattle.cw_unit.specs.declared.unit.Item.{Item}
 use Rattle.cw_unit.specs.declared.unit.Proc.{Proc}

@@ -92,9 +92,11 @@ pub record Disjoint (x y : StoredItem) : Type 0 where
   -- items of one family share exactly the words in which their places there overlap
   pub overlaid : x.family ≡ y.family → (p q : ℕ) → p < x.words → q < y.words → (word_of x p ≡ word_of y q) ↔ (x.offset + p ≡ y.offset + q)
   -- items of two families share no word, unless both are absolute
-  pub apart : x.family ≢ y.family → ¬ IsInFrame x.sort → ¬ IsInFrame y.sort → (p q : ℕ) → p < x.words → q < y.words → word_of x p ≡ word_of y q → IsAbsolute x.sort × IsAbsolute y.sort
+  pub apart : x.family ≢ y.family → ¬ IsInFrame x.sort → ¬ IsInFrame y.sort → (p q : ℕ) → p < x.words → q < y.words
+      → word_of x p ≡ word_of y q → IsAbsolute x.sort × IsAbsolute y.sort
   -- nor do those of two families of one frame
-  pub apart_in_frame : x.family ≢ y.family → IsInFrame x.sort → IsInFrame y.sort → x.segment ≡ y.segment → x.frame ≡ y.frame → (p q : ℕ) → p < x.words → q < y.words → word_of x p ≢ word_of y q
+  pub apart_in_frame : x.family ≢ y.family → IsInFrame x.sort → IsInFrame y.sort → x.segment ≡ y.segment
+      → x.frame ≡ y.frame → (p q : ℕ) → p < x.words → q < y.words → word_of x p ≢ word_of y q
 
 -- what holds of one item
 pub record InPlace (us : List SourceUnit) (limits : Limits) (x : StoredItem) : Type 0 where

@@ -28,9 +28,12 @@ ghost use Rattle.cw_unit.specs.OwnSingles.{IsOwnSingle, own_layout, own_map};
 pub fn families()
     ensures roots { (u : SourceUnit) (n : ℕ) → IsStorable u → base_of u (root_of u n) ≡ None }
     ensures alone { (u : SourceUnit) (n : ℕ) → base_of u n ≡ None → (root_of u n ≡ n) × (family_offset u n ≡ 0) }
-    ensures bases { (u : SourceUnit) (n : ℕ) (b : ℕ × ℕ) → IsStorable u → base_of u n ≡ Some b → (root_of u n ≡ root_of u b.0) × (family_offset u n ≡ b.1 + family_offset u b.0) }
+    ensures bases { (u : SourceUnit) (n : ℕ) (b : ℕ × ℕ) → IsStorable u → base_of u n ≡ Some b
+        → (root_of u n ≡ root_of u b.0) × (family_offset u n ≡ b.1 + family_offset u b.0) }
     ensures reaches { (u : SourceUnit) (n : ℕ) (i : Item) → slice_get u.items n ≡ Some i → family_offset u n + i.words ≤ family_extent u (root_of u n) }
-    ensures least { (u : SourceUnit) (r m : ℕ) → ((n : ℕ) (i : Item) → slice_get u.items n ≡ Some i → root_of u n ≡ r → family_offset u n + i.words ≤ m) → family_extent u r ≤ m }
+    ensures least { (u : SourceUnit) (r m : ℕ)
+        → ((n : ℕ) (i : Item) → slice_get u.items n ≡ Some i → root_of u n ≡ r → family_offset u n + i.words ≤ m)
+        → family_extent u r ≤ m }
 {}
 
 /// A first fit is the least address that is not below the given one and at which the words meet no range.
@@ -54,17 +57,24 @@ pub fn initial_words()
 pub fn own_singles()
     ensures layout { (u : SourceUnit) → All IsOwnSingle u.items → layout_of u ≡ own_layout (length u.items) (length u.procs) }
     ensures map { (u : SourceUnit) → All IsOwnSingle u.items → storage_map (u ∷ []) ≡ own_map (length u.items) }
-    ensures addresses { (u : SourceUnit) (limits : Limits) (n base : ℕ) → All IsOwnSingle u.items → n < length u.items → item_address (program_of (u ∷ []) limits) 0 n base ≡ n }
+    ensures addresses { (u : SourceUnit) (limits : Limits) (n base : ℕ) → All IsOwnSingle u.items
+        → n < length u.items → item_address (program_of (u ∷ []) limits) 0 n base ≡ n }
     ensures memory { (u : SourceUnit) (m : Map) (area : ℕ) → All IsOwnSingle u.items → initial_memory (u ∷ []) m area ≡ replicate area (pos 0) }
-    ensures valid { (u : SourceUnit) (limits : Limits) → All IsOwnSingle u.items → length u.items + limits.frames ≤ limits.area → ValidStorageMap (u ∷ []) limits (storage_map (u ∷ [])) }
+    ensures valid { (u : SourceUnit) (limits : Limits) → All IsOwnSingle u.items
+        → length u.items + limits.frames ≤ limits.area → ValidStorageMap (u ∷ []) limits (storage_map (u ∷ [])) }
 {}
 
 /// The continuation of a label in each kind of statement that holds others.
 pub fn continuations()
     ensures lists { (l : ℕ) (ss : List Stmt) (k : Work) → label_continuation l (stmt.Seq ss) k ≡ list_continuation l ss k }
-    ensures choices { (l line : ℕ) (c : Cond) (a b : Stmt) (k : Work) → label_continuation l (stmt.If line c a b) k ≡ first_work (label_continuation l a k) (label_continuation l b k) }
-    ensures loops { (l line item : ℕ) (r : Ref) (es : List Felem) (s : Stmt) (k : Work) → label_continuation l (stmt.For line item r es s) k ≡ label_continuation l s (On (loop_of line item r es s) k) }
-    ensures labelled { (l : ℕ) (ls : List ℕ) (s : Stmt) (k : Work) → label_continuation l (stmt.Mark ls s) k ≡ work_if (has_label l ls) (Run s k) (label_continuation l s k) }
+    ensures choices { (l line : ℕ) (c : Cond) (a b : Stmt) (k : Work)
+        → label_continuation l (stmt.If line c a b) k
+        ≡ first_work (label_continuation l a k) (label_continuation l b k) }
+    ensures loops { (l line item : ℕ) (r : Ref) (es : List Felem) (s : Stmt) (k : Work)
+        → label_continuation l (stmt.For line item r es s) k
+        ≡ label_continuation l s (On (loop_of line item r es s) k) }
+    ensures labelled { (l : ℕ) (ls : List ℕ) (s : Stmt) (k : Work)
+        → label_continuation l (stmt.Mark ls s) k ≡ work_if (has_label l ls) (Run s k) (label_continuation l s k) }
 {}
 
 /// What a run of the source shows: after an end or a stop always the same, and the output only grows.

@@ -16,7 +16,8 @@ use Rattle.cw_view.specs.declared.view.View.{View}
 use Rattle.cw_view.specs.declared.fault.ObjFault.{ObjFault}
 use Rattle.cw_view.specs.declared.fault.ObjFault.TheVariants.{NotObject, BadVersion, Truncated, BadRecord, Trailing}
 use Rattle.cw_fields.specs.Fields.{◌>>=◌, text_bytes, whole, word_bytes, long_bytes, IsLong}
-use Rattle.cw_view.specs.Payloads.{ItemEntry, descriptor_bytes, FitsDescriptor, family_bytes, FitsFamily, item_bytes, FitsItem, preset_bytes, FitsPreset, relocation_bytes}
+use Rattle.cw_view.specs.Payloads.{ItemEntry, descriptor_bytes, FitsDescriptor, family_bytes, FitsFamily}
+use Rattle.cw_view.specs.Payloads.{item_bytes, FitsItem, preset_bytes, FitsPreset, relocation_bytes}
 use Rattle.cw_view.specs.Payloads.{FitsRelocation, definition_bytes, FitsDefinition, body_facts_bytes, FitsBodyFacts, statement_bytes, FitsStatement}
 use Rattle.cw_fields.specs.Names.{is_empty, name_in}
 use Rattle.cw_view.specs.Reading.{descriptor_in, family_in, item_in, preset_in, relocation_in, definition_in, body_facts_in, statement_in}

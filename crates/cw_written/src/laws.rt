@@ -7,8 +7,10 @@ ghost use Rattle.cw_grammar.specs.Grammar.{a_spec, a_citem, an_aitem, a_param, a
 ghost use Rattle.cw_grammar.specs.Statements.{preset_value, elem, table_body, item_data, ips, ps, spec, citem, unplaced_aitem, param, decl, text};
 ghost use Rattle.cw_grammar.specs.Derives.{Derives};
 ghost use Rattle.cw_written.specs.Alike.{IsAlike};
-ghost use Rattle.cw_written.specs.Written.{preset_value as written_preset_value, presets as written_presets, elem as written_elem, table_body as written_body, item_data as written_data};
-ghost use Rattle.cw_written.specs.Written.{ips as written_ips, ps as written_ps, spec as written_spec, citem as written_citem, unplaced_aitem as written_aitem, param as written_param};
+ghost use Rattle.cw_written.specs.Written.{preset_value as written_preset_value, presets as written_presets, elem as written_elem};
+ghost use Rattle.cw_written.specs.Written.{table_body as written_body, item_data as written_data};
+ghost use Rattle.cw_written.specs.Written.{ips as written_ips, ps as written_ps, spec as written_spec, citem as written_citem};
+ghost use Rattle.cw_written.specs.Written.{unplaced_aitem as written_aitem, param as written_param};
 ghost use Rattle.cw_written.specs.Written.{decl as written_decl, stmt as written_stmt, labelled_simple as written_simple};
 
 /// Each rule derives the trees that its alternatives derive, written out, from the same tokens within the same levels, and has

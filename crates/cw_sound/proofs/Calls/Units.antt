@@ -36,7 +36,8 @@ use Rattle.cw_sound.proofs.Expressions.Judging.{NoFault}
 use Rattle.cw_sound.specs.Statements.Bodies.{Body, Bodies, block_bodies}
 use Rattle.cw_sound.specs.Statements.Counted.{Counted}
 use Rattle.cw_sound.proofs.Calls.Trees.Parts.{AllFit}
-use Rattle.cw_sound.proofs.Calls.Names.Defined.{MeetsSaid, MetAt}
+use Rattle.cw_sound.proofs.Storage.Definitions.{MetAt}
+use Rattle.cw_sound.proofs.Calls.Names.Defined.{MeetsSaid}
 use Rattle.cw_sound.proofs.Calls.Names.Known.{Stood, inside, owned}
 use Rattle.cw_sound.proofs.Calls.Statements.Trees.{AllRight, block_is_right}
 
@@ -120,7 +121,7 @@ module _ (u : SourceUnit) where
   said_at d None b e f = absurd (none-some b f)
   said_at d (Some a) b e f = (a, e, same_Some a.body b f)
 
-  pub definition_fits : IsTrue (are_named u.descs) → ((x : ℕ × Def) → In x u.defined → MetAt u x.0 x.1) → (d q : ℕ) (s : Spec) (x : Proc) → body_at u d ≡ Some (bodies.Proc s) → definition_in u (name_of u d) u.defined ≡ Some (def.Proc q) → slice_get u.procs q ≡ Some x → spec_of x ≡ s
+  pub definition_fits : IsTrue (are_named u.descs) → ((x : ℕ × Def) → In x u.defined → MetAt u (MeetsSaid u) x.0 x.1) → (d q : ℕ) (s : Spec) (x : Proc) → body_at u d ≡ Some (bodies.Proc s) → definition_in u (name_of u d) u.defined ≡ Some (def.Proc q) → slice_get u.procs q ≡ Some x → spec_of x ≡ s
   definition_fits known met d q s x says defines there =
       let a = said_at d (slice_get u.descs d) (bodies.Proc s) refl says in
       let f = found_of u (name_of u d) u.defined (def.Proc q) defines in

@@ -52,9 +52,10 @@ use Rattle.cw_sound.specs.Expressions.Levels.{largest}
 use Rattle.cw_sound.proofs.Expressions.Truth.{no, both, parts, le_true}
 use Rattle.cw_sound.proofs.Expressions.Judging.{Keeps, NoFault, keeps_fine, keeps_wrong, keeps_both, both_free}
 use Rattle.cw_sound.proofs.Expressions.Numbers.{type_small}
-use Rattle.cw_sound.proofs.Expressions.Parts.{value, is_formed, Sound, Sounds, no_sound, more_sounds}
+use Rattle.cw_sound.proofs.Expressions.Parts.{value, is_formed, Sound, Sounds}
 use Rattle.cw_sound.proofs.Expressions.Nodes.{value_rolled, formed_rolled}
 use Rattle.cw_sound.proofs.Expressions.Calls.{Callable}
+use Rattle.cw_sound.proofs.Expressions.Lists.{all_none, all_more}
 
 -- ---- parameters of procedures that are arguments
 
@@ -245,10 +246,10 @@ module _ (u : SourceUnit) (who : Option ℕ) where
 
     arguments_keep : (params : List RawPs) {js : List Judged} {ms : List Made} {ls : List ℕ} → Sounds named numbers u who reading.Argument js ms ls → IsTrue (all_taken named params js) → Keeps (arguments_faults named params js)
     arguments_keep [] ss h = keeps_fine
-    arguments_keep (p ∷ more) no_sound h = keeps_fine
-    arguments_keep (p ∷ more) (more_sounds {j = j} {m = m} {l = l} {js = js} s ss) h =
+    arguments_keep (p ∷ more) all_none h = keeps_fine
+    arguments_keep (p ∷ more) (all_more {j = j} {m = m} {l = l} {js = js} s ss) h =
         let halves = parts (takes named p j.shape) (all_taken named more js) h in
-        keeps_both (argument_faults named p j) (arguments_faults named more js) (argument_keeps j m l s p halves.0) (arguments_keep more ss halves.1)
+        keeps_both (argument_keeps j m l s p halves.0) (arguments_keep more ss halves.1)
 
     pub record AllGiven (args : List Arg) (ks : List Kind) : Type 0 where
       pub built : IsTrue (all_built (map (is_argument u (has_words u who)) args))
@@ -256,10 +257,10 @@ module _ (u : SourceUnit) (who : Option ℕ) where
 
     arguments_given : (params : List RawPs) {js : List Judged} {ms : List Made} {ls : List ℕ} → Sounds named numbers u who reading.Argument js ms ls → IsTrue (all_taken named params js) → largest ls ≤ most_levels → NoFault (arguments_faults named params js)
         → AllGiven (arguments_for ms params) (map kind_specified params)
-    arguments_given [] no_sound h few free = record { built = refl; kinds = refl }
-    arguments_given [] (more_sounds s ss) h few free = no h
-    arguments_given (p ∷ more) no_sound h few free = no h
-    arguments_given (p ∷ more) (more_sounds {j = j} {m = m} {l = l} {js = js} {ms = ms} {ls = ls} s ss) h few free =
+    arguments_given [] all_none h few free = record { built = refl; kinds = refl }
+    arguments_given [] (all_more s ss) h few free = no h
+    arguments_given (p ∷ more) all_none h few free = no h
+    arguments_given (p ∷ more) (all_more {j = j} {m = m} {l = l} {js = js} {ms = ms} {ls = ls} s ss) h few free =
         let halves = parts (takes named p j.shape) (all_taken named more js) h in
         let frees = both_free (argument_faults named p j) (arguments_faults named more js) (arguments_keep more ss halves.1) free in
         let first = argument_given j m l s p halves.0 (omega (arith, few)) frees.0 in

@@ -22,7 +22,7 @@ use Rattle.cw_safety.specs.WellFormed as formed
 use Rattle.cw_built.specs.Built.{alone, at_work}
 use Rattle.cw_sound.specs.Expressions.Levels.{largest}
 use Rattle.cw_sound.proofs.Expressions.Truth.{both as both_true, max_small}
-use Rattle.cw_sound.proofs.Expressions.Judging.{Keeps, NoFault, keeps_fine, keeps_both, both_free}
+use Rattle.cw_sound.proofs.Expressions.Judging.{Keeps, NoFault, keeps_both, both_free}
 use Rattle.cw_sound.proofs.Expressions.Standing.{split}
 use Rattle.cw_sound.proofs.Expressions.Parts.{value, is_formed, Tested, Right, RightTest}
 use Rattle.cw_tree.specs.declared.leaf.RawCompareSign.{RawCompareSign}
@@ -37,9 +37,11 @@ use Rattle.cw_unit.specs.declared.unit.Arg.TheOpen.{Cond-F}
 use Rattle.cw_unit.specs.declared.unit.Arg.TheFolds.{fold-roll-Cond}
 use Rattle.cw_safety.specs.Kinds.{Kind}
 use Rattle.cw_gen_expr.proofs.Layers.{built_condition_layer}
-use Rattle.cw_sound.proofs.Expressions.Parts.{RightTests, no_test, more_tests}
+use Rattle.cw_sound.proofs.Expressions.Parts.{RightTests}
 use Rattle.cw_sound.proofs.Expressions.Rules.{Stood, nothing_result}
 use Rattle.cw_sound.proofs.Expressions.Primaries.{whole_at}
+use Rattle.cw_sound.proofs.Expressions.Lists.{All, all_keeping, all_stand, all_none, all_more}
+use Rattle.cw_sound.proofs.Expressions.Several.{each_keeps}
 
 module _ (u : SourceUnit) (who : Option ℕ) where
   condition_rolled : (x : Cond-F Arg Cond Expr Spot Ref) → is_condition u (has_words u who) (roll-Cond x) ≡ built_condition_layer u (has_words u who) x
@@ -80,21 +82,19 @@ module _ (u : SourceUnit) (who : Option ℕ) where
       let w : IsTrue (whole (value u who nothing) 0) = both_true true ((value u who nothing).at 0 most_levels) refl (n.at 0 most_levels) in
       comparison_test compare.Equal nothing nothing 0 (ap₂ max n.natural n.natural) w w n.formed n.formed
 
-  pub data AllTested : List Judged → List Cond → List ℕ → Type 0 where
-    none_tested : AllTested [] [] []
-    more_tested : {j : Judged} {c : Cond} {l : ℕ} {js : List Judged} {cs : List Cond} {ls : List ℕ} → Tested u who j c l → AllTested js cs ls → AllTested (j ∷ js) (c ∷ cs) (l ∷ ls)
+  abbrev AllTested : List Judged → List Cond → List ℕ → Type 0
+  AllTested = All Cond (Tested u who)
 
   tests_keep : {js : List Judged} {cs : List Cond} {ls : List ℕ} → AllTested js cs ls → Keeps (each_at 0 js)
-  tests_keep none_tested = keeps_fine
-  tests_keep (more_tested {j = j} {js = js} t ts) = keeps_both (j.faults 0) (each_at 0 js) (t.keeps 0) (tests_keep ts)
+  tests_keep ts = each_keeps 0 (all_keeping Cond (Tested u who) (λ j c l t. t.keeps) ts)
 
   pub data Tests : List Cond → Type 0 where
     none_tests : Tests []
     one_test : {c : Cond} {cs : List Cond} → Test c → Tests cs → Tests (c ∷ cs)
 
   tests_of : {js : List Judged} {cs : List Cond} {ls : List ℕ} → AllTested js cs ls → largest ls ≤ most_levels → NoFault (each_at 0 js) → Tests cs
-  tests_of none_tested few free = none_tests
-  tests_of (more_tested {j = j} {l = l} {js = js} {ls = ls} t ts) few free =
+  tests_of all_none few free = none_tests
+  tests_of (all_more {j = j} {l = l} {js = js} {ls = ls} t ts) few free =
       let frees = both_free (j.faults 0) (each_at 0 js) (tests_keep ts) free in
       let few_first : l ≤ most_levels = omega (arith, few) in
       one_test (record { built = t.built 0 few_first frees.0; formed = t.formed 0 few_first frees.0 }) (tests_of ts (omega (arith, few)) frees.1)
@@ -117,10 +117,7 @@ module _ (u : SourceUnit) (who : Option ℕ) where
 
   module _ (named : Named) (numbers : Numbers) where
     all_tested : {js : List Judged} {cs : List Cond} {xs : List Uses} {ls : List ℕ} → RightTests named numbers u who js cs xs ls → Stood named numbers u who (each_for reading.Value xs) → AllTested js cs ls
-    all_tested no_test h = none_tested
-    all_tested (more_tests {x = x} {xs = xs} t ts) h =
-        let halves = split named numbers u who (x reading.Value) (each_for reading.Value xs) h in
-        more_tested (t reading.Value halves.0) (all_tested ts halves.1)
+    all_tested rs h = all_stand named numbers u who Cond (λ r. Tested u who) reading.Value rs h
 
     tested_of : (j : Judged) (c : Cond) (l : ℕ) → ((f : ℕ) → Keeps (j.faults f)) → ((f : ℕ) → l ≤ most_levels → NoFault (j.faults f) → Test c) → Tested u who j c l
     tested_of j c l keeps test = record { keeps = keeps; built = λ f few free. (test f few free).built; formed = λ f few free. (test f few free).formed }
@@ -146,7 +143,7 @@ module _ (u : SourceUnit) (who : Option ℕ) where
         let top : ℕ = max j.shape.natural k.shape.natural in
         let small : top ≤ 15 = max_small j.shape.natural k.shape.natural 15 v.natural_small w.natural_small in
         tested_of (judged.comparison_step named (record { left = j; operator = o; right = k })) (comparison (comparator o.op) (m.made false) (n.made false)) (max l i)
-        (λ f. keeps_both (j.faults top) (k.faults top) (v.keeps top) (w.keeps top))
+        (λ f. keeps_both (v.keeps top) (w.keeps top))
         (λ f few free.
         let frees = both_free (j.faults top) (k.faults top) (w.keeps top) free in
         let few_left : l ≤ most_levels = omega (arith, few) in

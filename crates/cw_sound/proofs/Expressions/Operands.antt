@@ -1,13 +1,12 @@
 -- Several operands of one rule.
-use Rattle.std.proofs.Common.{◌≡◌, ℕ, ◌≤◌, max, List, [], ◌∷◌, length, Bool, true, false, IsTrue, ◌&&◌, if◌then◌else◌, Option, nat_le, refl, sym, ap₂, subst, arith}
+use Rattle.std.proofs.Common.{◌≡◌, ℕ, ◌≤◌, max, List, [], ◌∷◌, length, Bool, true, false, IsTrue, ◌&&◌, Option, nat_le, refl, sym, ap₂, subst, arith, if◌then◌else◌}
 use Rattle.cw_tree.specs.declared.leaf.MulOp.{MulOp}
 use Rattle.cw_tree.specs.declared.leaf.RawSign.{RawSign}
 use Rattle.cw_tree.specs.declared.leaf.RawFactorSign.{RawFactorSign}
 use Rattle.cw_tree.specs.declared.expression.RawBits.{RawBits}
 use Rattle.cw_amount.specs.Amounts.{place_amount, is_negative}
-use Rattle.cw_scale.specs.declared.fault.Rule.TheVariants as rule
 use Rattle.cw_scale.specs.Faults.{Judgement, both}
-use Rattle.cw_scale.specs.TypeRules.{Judged, plain, shape_from, logic_shape_from, each_at, operand_faults, is_division, can_divide, division_faults, factor_faults, scale_before, chain_faults, term_faults, scale_for, logic_faults}
+use Rattle.cw_scale.specs.TypeRules.{Judged, plain, shape_from, logic_shape_from, each_at, operand_faults, factor_faults, scale_before, chain_faults, logic_faults}
 use Rattle.cw_make_expr.specs.Parts.{within}
 use Rattle.cw_make_expr.specs.Nodes.{logic, minus, added, multiplied}
 use Rattle.cw_make_expr.specs.Made.{Made, logic_from, factors_from, terms_from, signed_term, bits_around}
@@ -17,9 +16,11 @@ use Rattle.cw_unit.specs.declared.unit.Expr.{Expr}
 use Rattle.cw_gen_expr.specs.BuiltExpressions.{most_levels}
 use Rattle.cw_sound.specs.Expressions.Levels.{largest}
 use Rattle.cw_sound.proofs.Expressions.Truth.{both as both_true, le_true, max_small}
-use Rattle.cw_sound.proofs.Expressions.Judging.{Keeps, NoFault, keeps_fine, keeps_unless, keeps_both, both_free}
-use Rattle.cw_sound.proofs.Expressions.Parts.{value, Ready, Result, Addend, Good, Valued, Values, no_value, more_values}
+use Rattle.cw_sound.proofs.Expressions.Judging.{NoFault, keeps_both, both_free}
+use Rattle.cw_sound.proofs.Expressions.Parts.{value, Ready, Result, Addend, Good, Valued, Values}
 use Rattle.cw_sound.proofs.Expressions.Nodes.{result_ready, logic_result, bits_result, multiplied_result, added_addend, minus_addend}
+use Rattle.cw_sound.proofs.Expressions.Several.{AllKeeping, each_keeps, logic_keeps, factor_keeps, chain_keeps}
+use Rattle.cw_sound.proofs.Expressions.Lists.{all_keeping, all_none, all_more}
 
 -- ---- shapes
 
@@ -35,41 +36,13 @@ pub shape_none : (js : List Judged) → logic_shape_from false (plain 0) js ≡ 
 shape_none [] = refl
 shape_none (j ∷ js) = shape_none js
 
--- ---- faults
-
-division_keeps : (b : Bool) (s : RawFactorSign) (asked f1 f2 : ℕ) → Keeps (division_faults b s asked f1 f2)
-division_keeps true s asked f1 f2 = keeps_unless (can_divide asked f1 f2) rule.ScaleRange s.at
-division_keeps false s asked f1 f2 = keeps_fine
-
-pub factor_keeps : (s : RawFactorSign) (asked f1 f2 : ℕ) → Keeps (factor_faults s asked f1 f2)
-factor_keeps s asked f1 f2 = division_keeps (is_division s.op) s asked f1 f2
-
 module _ (u : SourceUnit) (who : Option ℕ) where
   pub most_small : (n : ℕ) {js : List Judged} {ms : List Made} {ls : List ℕ} → n ≤ 15 → Values u who js ms ls → most n js ≤ 15
-  most_small n h no_value = h
-  most_small n h (more_values {j = j} v vs) = most_small (max n j.shape.natural) (max_small n j.shape.natural 15 h v.natural_small) vs
+  most_small n h all_none = h
+  most_small n h (all_more {j = j} v vs) = most_small (max n j.shape.natural) (max_small n j.shape.natural 15 h v.natural_small) vs
 
-  pub each_keeps : (f : ℕ) {js : List Judged} {ms : List Made} {ls : List ℕ} → Values u who js ms ls → Keeps (each_at f js)
-  each_keeps f no_value = keeps_fine
-  each_keeps f (more_values {j = j} {js = js} v vs) = keeps_both (j.faults f) (each_at f js) (v.keeps f) (each_keeps f vs)
-
-  pub logic_keeps : (alone : Bool) (f : ℕ) {js : List Judged} {ms : List Made} {ls : List ℕ} → Values u who js ms ls → Keeps (logic_faults alone f js)
-  logic_keeps alone f no_value = keeps_fine
-  logic_keeps alone f (more_values {j = j} {js = js} v vs) = keeps_both (j.faults (scale_for alone f j.shape.operand)) (logic_faults alone f js) (v.keeps (scale_for alone f j.shape.operand)) (logic_keeps alone f vs)
-
-  pub chain_keeps : (asked f1 before : ℕ) {js : List Judged} {ms : List Made} {ls : List ℕ} (signs : List RawFactorSign) → Values u who js ms ls → Keeps (chain_faults asked f1 before js signs)
-  chain_keeps asked f1 before signs no_value = keeps_fine
-  chain_keeps asked f1 before [] (more_values v vs) = keeps_fine
-  chain_keeps asked f1 before (s ∷ signs) (more_values {j = j} {js = js} v vs) =
-      let n : ℕ = max before j.shape.natural in
-      keeps_both (operand_faults j) (both (factor_faults s (scale_before js asked n) f1 j.shape.operand) (chain_faults asked n n js signs)) (v.keeps j.shape.operand)
-      (keeps_both (factor_faults s (scale_before js asked n) f1 j.shape.operand) (chain_faults asked n n js signs) (factor_keeps s (scale_before js asked n) f1 j.shape.operand) (chain_keeps asked n n signs vs))
-
-  pub term_keeps : (asked : ℕ) {js : List Judged} {ms : List Made} {ls : List ℕ} (signs : List RawFactorSign) → Values u who js ms ls → Keeps (term_faults asked js signs)
-  term_keeps asked signs no_value = keeps_fine
-  term_keeps asked signs (more_values {j = j} {js = js} v vs) =
-      keeps_both (j.faults (scale_before js asked j.shape.operand)) (chain_faults asked j.shape.operand j.shape.natural js signs) (v.keeps (scale_before js asked j.shape.operand))
-      (chain_keeps asked j.shape.operand j.shape.natural signs vs)
+  pub keeping : {js : List Judged} {ms : List Made} {ls : List ℕ} → Values u who js ms ls → AllKeeping js
+  keeping = all_keeping Made (Valued u who) (λ j m l v. v.keeps)
 
   -- ---- operands that are evaluated at their scales as operands
 
@@ -96,20 +69,20 @@ module _ (u : SourceUnit) (who : Option ℕ) where
       record { ready = good_ready j m l v.operand_small g; natural = g.natural true; small = v.natural_small }
 
   pub logic_operands : (f : ℕ) {js : List Judged} {ms : List Made} {ls : List ℕ} → Values u who js ms ls → largest ls ≤ most_levels → NoFault (logic_faults false f js) → Operands js ms
-  logic_operands f no_value few free = no_operand
-  logic_operands f (more_values {j = j} {m = m} {l = l} {js = js} {ls = ls} v vs) few free =
-      let halves = both_free (operand_faults j) (logic_faults false f js) (logic_keeps false f vs) free in
+  logic_operands f all_none few free = no_operand
+  logic_operands f (all_more {j = j} {m = m} {l = l} {js = js} {ls = ls} v vs) few free =
+      let halves = both_free (operand_faults j) (logic_faults false f js) (logic_keeps false f (keeping vs)) free in
       more_operands (operand_of j m l v (omega (arith, few)) halves.0) (logic_operands f vs (omega (arith, few)) halves.1)
 
   pub chain_operands : (asked f1 before : ℕ) {js : List Judged} {ms : List Made} {ls : List ℕ} (signs : List RawFactorSign) → length ms ≤ length signs → Values u who js ms ls → largest ls ≤ most_levels → NoFault (chain_faults asked f1 before js signs) → Operands js ms
-  chain_operands asked f1 before signs enough no_value few free = no_operand
-  chain_operands asked f1 before [] enough (more_values v vs) few free = absurd (omega (arith, enough))
-  chain_operands asked f1 before (s ∷ signs) enough (more_values {j = j} {m = m} {l = l} {js = js} {ls = ls} v vs) few free =
+  chain_operands asked f1 before signs enough all_none few free = no_operand
+  chain_operands asked f1 before [] enough (all_more v vs) few free = absurd (omega (arith, enough))
+  chain_operands asked f1 before (s ∷ signs) enough (all_more {j = j} {m = m} {l = l} {js = js} {ls = ls} v vs) few free =
       let n : ℕ = max before j.shape.natural in
       let rest : Judgement = chain_faults asked n n js signs in
       let sign : Judgement = factor_faults s (scale_before js asked n) f1 j.shape.operand in
-      let halves = both_free (operand_faults j) (both sign rest) (keeps_both sign rest (factor_keeps s (scale_before js asked n) f1 j.shape.operand) (chain_keeps asked n n signs vs)) free in
-      let behind = both_free sign rest (chain_keeps asked n n signs vs) halves.1 in
+      let halves = both_free (operand_faults j) (both sign rest) (keeps_both (factor_keeps s (scale_before js asked n) f1 j.shape.operand) (chain_keeps asked n n signs (keeping vs))) free in
+      let behind = both_free sign rest (chain_keeps asked n n signs (keeping vs)) halves.1 in
       more_operands (operand_of j m l v (omega (arith, few)) halves.0) (chain_operands asked n n signs (omega (arith, enough)) vs (omega (arith, few)) behind.1)
 
   -- ---- word logic, BITS and terms
@@ -154,9 +127,9 @@ module _ (u : SourceUnit) (who : Option ℕ) where
   }
 
   pub all_addends : (f n : ℕ) {js : List Judged} {ms : List Made} {ls : List ℕ} → f ≤ 15 → largest ls ≤ n → n ≤ most_levels → Values u who js ms ls → NoFault (each_at f js) → Addends f n js ms
-  all_addends f n small low few no_value free = no_addend
-  all_addends f n small low few (more_values {j = j} {m = m} {l = l} {js = js} {ls = ls} v vs) free =
-      let halves = both_free (j.faults f) (each_at f js) (each_keeps f vs) free in
+  all_addends f n small low few all_none free = no_addend
+  all_addends f n small low few (all_more {j = j} {m = m} {l = l} {js = js} {ls = ls} v vs) free =
+      let halves = both_free (j.faults f) (each_at f js) (each_keeps f (keeping vs)) free in
       more_addends (addend f l n j m (omega (arith, low)) few (v.good f small (omega (arith, low, few)) halves.0)) (all_addends f n small (omega (arith, low)) few vs halves.1)
 
   pub terms_all : (f n l : ℕ) (e : Expr) {js : List Judged} {ms : List Made} (signs : List RawSign) → f ≤ 15 → l ≤ most_levels → length ms ≤ length signs → Addend u who f n l e → Addends f l js ms → Addend u who f (most n js) l (terms_from e ms signs)

@@ -132,7 +132,7 @@ module _ (named : Named) (numbers : Numbers) (u : SourceUnit) (who : Option ℕ)
   forced_right t j m x l s r h =
       let v = (s reading.Value h).valued tt in
       let g : ℕ = fraction_of t in
-      plain_sound named numbers u who r g (λ f. both (type_judged t) (j.faults g)) (force g (m.made false)) no_argument l (type_small t) (λ f. keeps_both (type_judged t) (j.faults g) (keeps_type t) (v.keeps g))
+      plain_sound named numbers u who r g (λ f. both (type_judged t) (j.faults g)) (force g (m.made false)) no_argument l (type_small t) (λ f. keeps_both (keeps_type t) (v.keeps g))
       (λ f le few free.
       let k = v.good g (type_small t) few (both_free (type_judged t) (j.faults g) (v.keeps g) free).1 in
       force_result g (m.made false) (whole_at j m l g (type_small t) few k) (k.formed false))
@@ -225,12 +225,12 @@ module _ (named : Named) (numbers : Numbers) (u : SourceUnit) (who : Option ℕ)
       let F : ℕ → Judgement = λ f. both (jt.faults 0) (both (j.faults f) (k.faults f)) in
       compound named numbers u who r (judged.expression_step named (layer.Choice at jt j k)) (simply (choice t (m.made false) (n.made false))) (max c (max (suc l) i)) refl refl
       (record {
-        keeps = λ f. keeps_both (jt.faults 0) (both (j.faults f) (k.faults f)) (test.keeps 0) (keeps_both (j.faults f) (k.faults f) (v.keeps f) (w.keeps f));
+        keeps = λ f. keeps_both (test.keeps 0) (keeps_both (v.keeps f) (w.keeps f));
         natural_small = top;
         operand_small = top;
         place = λ e. no e;
         good = λ f small few free.
-            let frees = both_free (jt.faults 0) (both (j.faults f) (k.faults f)) (keeps_both (j.faults f) (k.faults f) (v.keeps f) (w.keeps f)) free in
+            let frees = both_free (jt.faults 0) (both (j.faults f) (k.faults f)) (keeps_both (v.keeps f) (w.keeps f)) free in
             let rest = both_free (j.faults f) (k.faults f) (w.keeps f) frees.1 in
             let few_test : c ≤ most_levels = omega (arith, few) in
             choice_good t j k m n l i c f F few (test.built 0 few_test frees.0) (test.formed 0 few_test frees.0) (v.good f small (omega (arith, few)) rest.0) (w.good f small (omega (arith, few)) rest.1);

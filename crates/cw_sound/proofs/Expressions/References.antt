@@ -24,7 +24,7 @@ use Rattle.cw_gen_expr.specs.BuiltExpressions.{most_levels}
 use Rattle.cw_sound.proofs.Expressions.Truth.{no, something, parts, either}
 use Rattle.cw_sound.proofs.Expressions.Judging.{Keeps, NoFault, keeps_both, both_free}
 use Rattle.cw_sound.proofs.Expressions.Standing.{split, use_stands}
-use Rattle.cw_sound.proofs.Expressions.Parts.{Valued, AsValue, Sound, Right, RightPlace, no_sound}
+use Rattle.cw_sound.proofs.Expressions.Parts.{Valued, AsValue, Sound, Right, RightPlace}
 use Rattle.cw_sound.proofs.Expressions.Numbers.{name_small}
 use Rattle.cw_sound.proofs.Expressions.Arguments.{call_keeps}
 use Rattle.cw_facts.specs.declared.fact.Kind.{Kind as NameKind}
@@ -33,7 +33,7 @@ use Rattle.cw_scope.specs.NameRules.{is_reference, is_part, answers, is_procedur
 use Rattle.cw_scale.specs.Arguments.{is_word_item, is_word_item_if, is_whole_if, answers_alone}
 use Rattle.cw_make_expr.specs.Nodes.{reference}
 use Rattle.cw_make_expr.specs.Parts.{number_of, is_called, field_of, handed, named_spot, indexed_spot, twice_indexed_spot}
-use Rattle.cw_make_expr.specs.Made.{value_of_name, target, item_of, place_of_name, reference_at}
+use Rattle.cw_make_expr.specs.Made.{value_of_name, target, item_of, place_of_name}
 use Rattle.cw_unit.specs.declared.unit.Spot.{Spot, roll-Spot}
 use Rattle.cw_unit.specs.declared.unit.Field.{Field}
 use Rattle.cw_sound.specs.Uses.Stands.{Stands}
@@ -44,6 +44,7 @@ use Rattle.cw_sound.proofs.Expressions.Calls.{name_good, name_value}
 use Rattle.cw_sound.proofs.Expressions.Parts.{made_of}
 use Rattle.cw_sound.proofs.Expressions.Rules.{Stood, result_valued}
 use Rattle.cw_sound.proofs.Expressions.Primaries.{whole_at}
+use Rattle.cw_sound.proofs.Expressions.Lists.{all_none}
 
 -- ---- what a name may be
 
@@ -107,7 +108,7 @@ module _ (named : Named) (numbers : Numbers) (u : SourceUnit) (who : Option ℕ)
     valued = λ h.
         result_valued named numbers u who (fraction_of_kind (kind_of named n)) (judged.name_shape n (fraction_of_kind (kind_of named n)) (is_word_item_if (kind_of named n))) (λ f. call_faults named (signature_of named n) n [])
         (value_of_name (is_called (kind_of named n)) (target named numbers n) (place_of_name named numbers n)) (handed (kind_of named n) (number_of named numbers n)) 0 refl refl (name_small (kind_of named n))
-        (λ f. call_keeps u who named numbers (signature_of named n) n no_sound)
+        (λ f. call_keeps u who named numbers (signature_of named n) n all_none)
         (λ w. (place_of_name named numbers n, ap (λ b. value_of_name b (target named numbers n) (place_of_name named numbers n)) (word_not_called (kind_of named n) w)))
         (λ f small few free. name_value named numbers u who n s.named_kind s.is_kind s.stands_as (may_have_value n r s h) free);
   }
@@ -123,7 +124,7 @@ module _ (named : Named) (numbers : Numbers) (u : SourceUnit) (who : Option ℕ)
             let s = use_stands named numbers u who n (form.Reference r 0) h in
             let p : Place u who spot = name_good named numbers u who n s.named_kind s.is_kind s.stands_as (is_place_of n r s placed) in
             record {
-              keeps = λ g. call_keeps u who named numbers (signature_of named n) n no_sound;
+              keeps = λ g. call_keeps u who named numbers (signature_of named n) n all_none;
               built = λ g few free. place_good u who spot f (field_of (kind_of named n)) p;
               formed = λ g few free. place_formed u who spot f (field_of (kind_of named n)) p;
             };
@@ -184,7 +185,7 @@ module _ (named : Named) (numbers : Numbers) (u : SourceUnit) (who : Option ℕ)
       let z = use_stands named numbers u who n (form.Reference (uses.indexed r) 2) halves.0 in
       let v = (s reading.Value sides.0).valued tt in
       let w = (t reading.Value sides.1).valued tt in (
-        λ f. keeps_both (j.faults 0) (k.faults 0) (v.keeps 0) (w.keeps 0),
+        λ f. keeps_both (v.keeps 0) (w.keeps 0),
         λ f few free.
             let frees = both_free (j.faults 0) (k.faults 0) (w.keeps 0) free in
             subst (λ (o : Option NameKind). Place u who (twice_indexed_spot o (item_of named numbers n) (m.made false) (p.made false))) (sym z.is_kind)

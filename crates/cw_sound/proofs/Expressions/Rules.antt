@@ -13,7 +13,7 @@ use Rattle.cw_scale.specs.declared.scales.Shape.{Shape}
 use Rattle.cw_scale.specs.Faults.{Judgement, fine, both}
 use Rattle.cw_scale.specs.Types.{each_bits_judged}
 use Rattle.cw_scale.specs.TypeRules as judged
-use Rattle.cw_scale.specs.TypeRules.{Judged, plain, fits_at, number_operand, shape_from, logic_shape_from, each_at, operand_faults, scale_before, chain_faults, term_faults, scale_for, logic_faults, call_faults}
+use Rattle.cw_scale.specs.TypeRules.{Judged, plain, shape_from, logic_shape_from, each_at, operand_faults, chain_faults, term_faults, scale_for, logic_faults}
 use Rattle.cw_make_expr.specs.Parts.{Numbers, no_argument}
 use Rattle.cw_make_expr.specs.Nodes.{nothing, read, logic, whole_part, whole_part_if}
 use Rattle.cw_make_expr.specs.Made.{Made, simply, operand_for, handed_if, logic_from, logic_of, factors_from, term_of, terms_from, signed_term, sum_from, sum_of, bits_around, prim_of}
@@ -29,9 +29,11 @@ use Rattle.cw_sound.specs.Expressions.Levels.{largest}
 use Rattle.cw_sound.proofs.Expressions.Truth.{no, something, lt_true, not_one, not_none, max_zero}
 use Rattle.cw_sound.proofs.Expressions.Judging.{Keeps, NoFault, keeps_fine, keeps_both, both_free, keeps_each_bits}
 use Rattle.cw_sound.proofs.Expressions.Standing.{split}
-use Rattle.cw_sound.proofs.Expressions.Parts.{value, is_formed, Ready, Result, Addend, Good, Valued, Sound, Right, Rights, none, more, Sounds, no_sound, more_sounds, Values, no_value, more_values}
+use Rattle.cw_sound.proofs.Expressions.Parts.{value, is_formed, Ready, Result, Addend, Good, Valued, Sound, Right, Rights, Sounds, Values}
 use Rattle.cw_sound.proofs.Expressions.Nodes.{value_rolled, formed_rolled, logic_result as operated, WholePart, whole_part_is}
-use Rattle.cw_sound.proofs.Expressions.Operands.{most, shape_most, shape_none, most_small, each_keeps, logic_keeps, chain_keeps, term_keeps, Operands, more_operands, operand_of, logic_operands, chain_operands, logic_all, bits_all, term_all, Addends, more_addends, all_addends, terms_all, signed_addend}
+use Rattle.cw_sound.proofs.Expressions.Operands.{most, shape_most, shape_none, most_small, Operands, more_operands, operand_of, logic_operands, chain_operands, logic_all, bits_all, term_all, Addends, more_addends, all_addends, terms_all, signed_addend, keeping}
+use Rattle.cw_sound.proofs.Expressions.Several.{each_keeps, logic_keeps, chain_keeps, term_keeps}
+use Rattle.cw_sound.proofs.Expressions.Lists.{all_stand, none, more, all_none, all_more}
 
 and_false : (b : Bool) → (b && false) ≡ false
 and_false true = refl
@@ -112,17 +114,15 @@ module _ (named : Named) (numbers : Numbers) (u : SourceUnit) (who : Option ℕ)
 
   -- ---- operands, all wanted for their values
 
+  valued : {js : List Judged} {ms : List Made} {ls : List ℕ} → Sounds named numbers u who reading.Value js ms ls → Values u who js ms ls
+  valued all_none = all_none
+  valued (all_more s ss) = all_more (s.valued tt) (valued ss)
+
   pub values : {js : List Judged} {ms : List Made} {xs : List Uses} {ls : List ℕ} → Rights named numbers u who js ms xs ls → Stood (each_for reading.Value xs) → Values u who js ms ls
-  values none h = no_value
-  values (more {x = x} {xs = xs} s rest) h =
-      let halves = split named numbers u who (x reading.Value) (each_for reading.Value xs) h in
-      more_values ((s reading.Value halves.0).valued tt) (values rest halves.1)
+  values rs h = valued (all_stand named numbers u who Made (Sound named numbers u who) reading.Value rs h)
 
   pub sounds : {js : List Judged} {ms : List Made} {xs : List Uses} {ls : List ℕ} → Rights named numbers u who js ms xs ls → Stood (each_for reading.Argument xs) → Sounds named numbers u who reading.Argument js ms ls
-  sounds none h = no_sound
-  sounds (more {x = x} {xs = xs} s rest) h =
-      let halves = split named numbers u who (x reading.Argument) (each_for reading.Argument xs) h in
-      more_sounds (s reading.Argument halves.0) (sounds rest halves.1)
+  sounds rs h = all_stand named numbers u who Made (Sound named numbers u who) reading.Argument rs h
 
   -- one alone stands for the whole
   alone_sound : (r : Reading) (j : Judged) (m : Made) (x : Uses) (l : ℕ) → Right named numbers u who j m x l → Stood (each_for r (x ∷ [])) → Sound named numbers u who r j m (largest (l ∷ []))
@@ -143,7 +143,7 @@ module _ (named : Named) (numbers : Numbers) (u : SourceUnit) (who : Option ℕ)
       let all : List Judged = j ∷ k ∷ js in
       subst (λ (s : Shape). Sound named numbers u who r (record { shape = s; faults = λ f. logic_faults false f all }) (record { made = λ operand. logic_from op (m.made true) (n ∷ ms); handed = no_argument }) (largest ls))
       (sym (shape_none all))
-      (plain_sound r 0 (λ f. logic_faults false f all) (logic_from op (m.made true) (n ∷ ms)) no_argument (largest ls) (omega arith) (λ f. logic_keeps u who false f vs)
+      (plain_sound r 0 (λ f. logic_faults false f all) (logic_from op (m.made true) (n ∷ ms)) no_argument (largest ls) (omega arith) (λ f. logic_keeps false f (keeping u who vs))
       (λ f small few free. logic_result op (logic_operands u who f vs few free)))
 
   pub logic_right : (op : LogicOp) {js : List Judged} {ms : List Made} {xs : List Uses} {ls : List ℕ} → Rights named numbers u who js ms xs ls
@@ -162,7 +162,7 @@ module _ (named : Named) (numbers : Numbers) (u : SourceUnit) (who : Option ℕ)
       → Sound named numbers u who r (record { shape = plain 0; faults = λ f. both (each_bits_judged (b ∷ bs)) (j.faults j.shape.operand) }) (record { made = λ operand. bits_around (b ∷ bs) (m.made true); handed = no_argument }) l
   bits_many r b bs j m l v =
       plain_sound r 0 (λ f. both (each_bits_judged (b ∷ bs)) (j.faults j.shape.operand)) (bits_around (b ∷ bs) (m.made true)) no_argument l (omega arith)
-      (λ f. keeps_both (each_bits_judged (b ∷ bs)) (j.faults j.shape.operand) (keeps_each_bits (b ∷ bs)) (v.keeps j.shape.operand))
+      (λ f. keeps_both (keeps_each_bits (b ∷ bs)) (v.keeps j.shape.operand))
       (λ f small few free.
       let halves = both_free (each_bits_judged (b ∷ bs)) (j.faults j.shape.operand) (v.keeps j.shape.operand) free in
       bits_all u who b bs (m.made true) (operand_of u who j m l v few halves.1).ready)
@@ -192,9 +192,9 @@ module _ (named : Named) (numbers : Numbers) (u : SourceUnit) (who : Option ℕ)
       let chain : ℕ → Judgement = λ f. chain_faults f j.shape.operand j.shape.natural (k ∷ js) (s ∷ signs) in
       let same : shape_from false (plain 0) all ≡ plain top = shape_most 0 all ∙ ap (λ (i : ℕ). plain (most (max i k.shape.natural) js)) (max_zero j.shape.natural) in
       subst (λ (z : Shape). Sound named numbers u who r (record { shape = z; faults = F }) (record { made = λ operand. e; handed = no_argument }) (largest (l ∷ ls))) (sym same)
-      (plain_sound r top F e no_argument (largest (l ∷ ls)) (most_small u who j.shape.natural v.natural_small vs) (λ f. term_keeps u who f (s ∷ signs) (more_values v vs))
+      (plain_sound r top F e no_argument (largest (l ∷ ls)) (most_small u who j.shape.natural v.natural_small vs) (λ f. term_keeps f (s ∷ signs) (keeping u who (all_more v vs)))
       (λ f small few free.
-      let halves = both_free (operand_faults j) (chain f) (chain_keeps u who f j.shape.operand j.shape.natural (s ∷ signs) vs) free in
+      let halves = both_free (operand_faults j) (chain f) (chain_keeps f j.shape.operand j.shape.natural (s ∷ signs) (keeping u who vs)) free in
       term_result s signs enough (more_operands (operand_of u who j m l v (omega (arith, few)) halves.0) (chain_operands u who f j.shape.operand j.shape.natural (s ∷ signs) (omega (arith, enough)) vs (omega (arith, few)) halves.1))))
 
   pub term_right : (signs : List RawFactorSign) {js : List Judged} {ms : List Made} {xs : List Uses} {ls : List ℕ} → length ms ≤ suc (length signs) → Rights named numbers u who js ms xs ls
@@ -252,12 +252,12 @@ module _ (named : Named) (numbers : Numbers) (u : SourceUnit) (who : Option ℕ)
       subst (λ (z : Shape). Sound named numbers u who r (record { shape = z; faults = F }) tree (largest (l ∷ ls))) (sym same)
       (compound r (record { shape = plain top; faults = F }) tree (largest (l ∷ ls)) refl refl
       (record {
-        keeps = λ f. each_keeps u who f (more_values v vs);
+        keeps = λ f. each_keeps f (keeping u who (all_more v vs));
         natural_small = small_top;
         operand_small = small_top;
         place = λ h. no h;
         good = λ f small few free.
-            summed top (largest (l ∷ ls)) f F e (sum_terms f (largest (l ∷ ls)) sign signs small few enough (all_addends u who f (largest (l ∷ ls)) small (omega arith) few (more_values v vs) free)) few;
+            summed top (largest (l ∷ ls)) f F e (sum_terms f (largest (l ∷ ls)) sign signs small few enough (all_addends u who f (largest (l ∷ ls)) small (omega arith) few (all_more v vs) free)) few;
       }))
 
   pub sum_right : (sign : Option RawSign) (signs : List RawSign) {js : List Judged} {ms : List Made} {xs : List Uses} {ls : List ℕ} → length ms ≤ suc (length signs) → Rights named numbers u who js ms xs ls
@@ -265,7 +265,7 @@ module _ (named : Named) (numbers : Numbers) (u : SourceUnit) (who : Option ℕ)
   sum_right sign signs enough none r h = nothing_sound r
   sum_right None signs enough (more {j = j} {m = m} {x = x} {l = l} s none) r h = alone_sound r j m x l s h
   sum_right (Some sign) signs enough (more {j = j} {m = m} {x = x} {l = l} s none) r h =
-      sum_many r (Some sign) signs j m [] [] l [] (omega arith) ((s reading.Value (split named numbers u who (x reading.Value) [] h).0).valued tt) no_value
+      sum_many r (Some sign) signs j m [] [] l [] (omega arith) ((s reading.Value (split named numbers u who (x reading.Value) [] h).0).valued tt) all_none
   sum_right sign signs enough (more {j = j} {m = m} {x = x} {l = l} s (more {j = k} {m = n} {x = y} {l = i} {js = js} {ms = ms} {xs = xs} {ls = ls} t rest)) r h =
       let all : List Judged = j ∷ k ∷ js in
       let halves = split named numbers u who (x reading.Value) (each_for reading.Value (y ∷ xs)) (subst (λ (b : Bool). Stood (each_for (reading_of r (b && is_none sign)) (x ∷ y ∷ xs))) (not_one x y xs) h) in

@@ -1,5 +1,5 @@
 -- Whole expressions, conditions, references and calls.
-use Rattle.std.proofs.Common.{ℕ, ◌≤◌, List, [], ◌∷◌, ◌++◌, map, false, IsTrue, Option, refl}
+use Rattle.std.proofs.Common.{ℕ, ◌≤◌, List, ◌++◌, map, false, IsTrue, Option, refl}
 use Rattle.cw_tree.specs.declared.leaf.RawName.{RawName}
 use Rattle.cw_tree.specs.declared.expression.RawExpr.{RawExpr}
 use Rattle.cw_facts.specs.declared.fact.Kind.{Kind as NameKind}
@@ -20,14 +20,14 @@ use Rattle.cw_sound.specs.Uses.Stands.{kind_specified, FactsStand}
 use Rattle.cw_sound.specs.Expressions.Readings.{is_evaluated}
 use Rattle.cw_sound.specs.Expressions.Levels.{largest, then_levels}
 use Rattle.cw_sound.specs.Expressions.Regular.{all, is_regular}
-use Rattle.cw_sound.proofs.Expressions.Truth.{no, parts}
+use Rattle.cw_sound.proofs.Expressions.Truth.{no}
 use Rattle.cw_sound.proofs.Expressions.Judging.{NoFault}
 use Rattle.cw_sound.proofs.Expressions.Standing.{split, use_stands}
-use Rattle.cw_sound.proofs.Expressions.Parts.{AsValue, Good, Rights, none, more}
+use Rattle.cw_sound.proofs.Expressions.Parts.{AsValue, Good}
 use Rattle.cw_sound.proofs.Expressions.Calls.{is_callable, Callable, may_be_called}
 use Rattle.cw_sound.proofs.Expressions.Arguments.{AllGiven, call_given}
 use Rattle.cw_sound.proofs.Expressions.Rules.{sounds}
-use Rattle.cw_sound.proofs.Expressions.Trees.{expression_is_right}
+use Rattle.cw_sound.proofs.Expressions.Trees.{expression_is_right, each_right}
 
 any_called : (k : NameKind) → IsTrue (is_procedure k) → IsTrue (is_callable false k)
 any_called (kind.Proc t) h = refl
@@ -48,16 +48,10 @@ module _ (named : Named) (numbers : Numbers) (u : SourceUnit) (who : Option ℕ)
   expression_good r e f regular wanted facts free small few =
       ((expression_is_right named numbers u who e regular r facts).valued (as_value named r (expression named e).shape.bare wanted)).good f small few free
 
-  each_right : (es : List RawExpr) → IsTrue (all (map is_regular es)) → Rights named numbers u who (map (expression named) es) (map (expression_made named numbers) es) (map expression_uses es) (map then_levels es)
-  each_right [] h = none
-  each_right (e ∷ es) h =
-      let halves = parts (is_regular e) (all (map is_regular es)) h in
-      more (expression_is_right named numbers u who e halves.0) (each_right es halves.1)
-
   pub call_good : (n : RawName) (es : List RawExpr) → IsTrue (all (map is_regular es)) → FactsStand named numbers u (uses_of n form.Call ++ argument_uses es) who → NoFault (call_faults named (signature_of named n) n (map (expression named) es)) → largest (map then_levels es) ≤ most_levels
       → (c : Callable named numbers u who false n) × AllGiven u who named numbers (arguments named numbers n (map (expression_made named numbers) es)) (map kind_specified c.params)
   call_good n es regular facts free few =
       let halves = split named numbers u who (uses_of n form.Call) (argument_uses es) facts in
       let s = use_stands named numbers u who n form.Call halves.0 in
       let c : Callable named numbers u who false n = may_be_called named numbers u who false s.named_kind n s.is_kind s.stands_as (any_called s.named_kind s.fits_use) in
-      (c, call_given u who named numbers false n c (sounds named numbers u who (each_right es regular) halves.1) few free)
+      (c, call_given u who named numbers false n c (sounds named numbers u who (each_right named numbers u who es regular) halves.1) few free)

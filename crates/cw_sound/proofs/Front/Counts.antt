@@ -28,54 +28,45 @@ use Rattle.cw_data.specs.Specifications.{few, specified_judged, plains_judged, e
 use Rattle.cw_items.specs.declared.families.Site.{Site}
 use Rattle.cw_judge.specs.Judged.{sites_of, absolute_addresses, citem_judged, citems_judged, communicator_judged, communicators_judged}
 use Rattle.cw_sound.specs.Names.Placed.{Placed}
-use Rattle.cw_sound.proofs.Names.TypeFaults.{keeps_plain, keeps_plains, keeps_procedure}
 use Rattle.cw_sound.proofs.Names.ListedRows.{declared_row}
 use Rattle.cw_sound.proofs.Names.ListedNumbers.{declarations_append}
 use Rattle.cw_sound.specs.Items.Free.{PartsFree}
 use Rattle.cw_sound.specs.Items.Items.{things_of}
-use Rattle.cw_sound.proofs.Items.Keeping.{Keeps, keeps-fine, keeps-both, keeps-unless, keeps-specs, parts-free, holds}
-use Rattle.cw_sound.proofs.Items.OnBases.{keeps-citems, keeps-communicators}
 use Rattle.cw_sound.specs.Written.Counts.{Each, HasFewPlain, SpecCounts, DataCounts, CitemCounts, CommCounts, CountsFit}
+use Rattle.cw_sound.proofs.Expressions.Judging.{Keeps, keeps_both, keeps_unless, both_free, holds}
+use Rattle.cw_sound.proofs.Items.Keeping.{keeps_specs, keeps_citems, keeps_communicators, keeps_plains, keeps_each_specified}
 
 -- ---- parameters
 
 at_most : (n : ℕ) → few n ≡ true → n ≤ 255
 at_most n h = let most : n ≤ 32 = grind (arith, nat_tests) in omega (arith, most)
 
-keeps_specified : (n : RawName) (p : RawPs) → Keeps (specified_judged n p)
-keeps_specified n (ps.Plain p) = record { nothing_before = keeps_plain n p }
-keeps_specified n (ps.Proc answer at params) = record { nothing_before = keeps_procedure answer n params }
-
-keeps_each : (n : RawName) (params : List RawPs) → Keeps (each_specified_judged n params)
-keeps_each n [] = keeps-fine
-keeps_each n (p ∷ more) = keeps-both (keeps_specified n p) (keeps_each n more)
-
 -- what a procedure with so many parameters is judged to be
 counted : (answer : Option RawType) (n : ℕ) (at : Position) (rest : Judgement) → Keeps rest → both (answer_judged answer) (both (unless (few n) rule.TooMany at) rest) None ≡ None → (n ≤ 255) × (rest None ≡ None)
 counted answer n at rest keeps free =
     let test = unless (few n) rule.TooMany at in
-    let behind = parts-free (answer_judged answer) (both test rest) (keeps-both (keeps-unless (few n) rule.TooMany at) keeps) free in
-    let halves = parts-free test rest keeps behind.1 in
+    let behind = both_free (answer_judged answer) (both test rest) (keeps_both (keeps_unless (few n) rule.TooMany at) keeps) free in
+    let halves = both_free test rest keeps behind.1 in
     (at_most n (holds (few n) rule.TooMany at halves.0), halves.1)
 
 plain_counted : (n : RawName) (p : RawPs) → specified_judged n p None ≡ None → HasFewPlain p
 plain_counted n (ps.Plain p) free = tt
-plain_counted n (ps.Proc answer at params) free = (counted answer (length params) n.at (plains_judged n params) (record { nothing_before = keeps_plains n params }) free).0
+plain_counted n (ps.Proc answer at params) free = (counted answer (length params) n.at (plains_judged n params) (keeps_plains n params) free).0
 
 plains_counted : (n : RawName) (params : List RawPs) → each_specified_judged n params None ≡ None → Each HasFewPlain params
 plains_counted n [] free = tt
 plains_counted n (p ∷ more) free =
-    let halves = parts-free (specified_judged n p) (each_specified_judged n more) (keeps_each n more) free in
+    let halves = both_free (specified_judged n p) (each_specified_judged n more) (keeps_each_specified n more) free in
     (plain_counted n p halves.0, plains_counted n more halves.1)
 
 spec_counted : (s : RawSpec) → spec_judged s None ≡ None → SpecCounts s
 spec_counted s free =
-    let c = counted s.answer (length s.params) s.name.at (each_specified_judged s.name s.params) (keeps_each s.name s.params) free in
+    let c = counted s.answer (length s.params) s.name.at (each_specified_judged s.name s.params) (keeps_each_specified s.name s.params) free in
     record { params = c.0; plain = plains_counted s.name s.params c.1 }
 
 specs_counted : (ss : List RawSpec) → specs_judged ss None ≡ None → Each SpecCounts ss
 specs_counted [] free = tt
-specs_counted (s ∷ ss) free = let halves = parts-free (spec_judged s) (specs_judged ss) (keeps-specs ss) free in (spec_counted s halves.0, specs_counted ss halves.1)
+specs_counted (s ∷ ss) free = let halves = both_free (spec_judged s) (specs_judged ss) (keeps_specs ss) free in (spec_counted s halves.0, specs_counted ss halves.1)
 
 -- ---- elements
 
@@ -116,7 +107,7 @@ module _ (named : Named) (sites : List (Row Site)) (absolute : List (Row ℕ)) w
   citems_counted [] h free = tt
   citems_counted (i ∷ is) h free =
       let part = few_parts (citem_facts i) (citems_facts is) h in
-      let halves = parts-free (citem_judged named sites absolute i) (citems_judged named sites absolute is) (keeps-citems named sites absolute is) free in
+      let halves = both_free (citem_judged named sites absolute i) (citems_judged named sites absolute is) (keeps_citems named sites absolute is) free in
       (citem_counted i part.0 halves.0, citems_counted is part.1 halves.1)
 
   communicator_counted : (c : RawComm) → Few (communicator_facts c) → communicator_judged named sites absolute c None ≡ None → CommCounts c
@@ -128,7 +119,7 @@ module _ (named : Named) (sites : List (Row Site)) (absolute : List (Row ℕ)) w
   communicators_counted [] h free = tt
   communicators_counted (c ∷ cs) h free =
       let part = few_parts (communicator_facts c) (communicators_facts cs) h in
-      let halves = parts-free (communicator_judged named sites absolute c) (communicators_judged named sites absolute cs) (keeps-communicators named sites absolute cs) free in
+      let halves = both_free (communicator_judged named sites absolute c) (communicators_judged named sites absolute cs) (keeps_communicators named sites absolute cs) free in
       (communicator_counted c part.0 halves.0, communicators_counted cs part.1 halves.1)
 
 pub counts_fit : (named : Named) → Placed named.raw.now → PartsFree named → CountsFit named.raw.now.comms

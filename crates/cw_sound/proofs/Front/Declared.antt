@@ -51,13 +51,14 @@ use Rattle.cw_items.specs.declared.thing.Base.{Base}
 use Rattle.cw_items.specs.declared.thing.Sort.TheVariants as sort
 use Rattle.cw_items.specs.declared.thing.Thing.{Thing}
 use Rattle.cw_items.specs.Things.{Things, joined as joined_things, base_at, thing, moved, moved_past, named_things, group_words, groups_things, data_things, parameter_things, parameters_things, fact_texts, texts, felem_things, felems_things, is_recursive, declaration_things, form_things, simple_things, statement_things, aitem_things, aitems_things, citem_things, citems_things, communicator_things, communicators_things, block_things, text_things}
-use Rattle.cw_sound.proofs.Items.Lists.{In, in-left, in-right, Each, each-append, each-in, from-in}
+use Rattle.cw_sound.proofs.Items.Lists.{In, in-left, in-right, each-append, each-in, from-in}
 use Rattle.cw_sound.proofs.Items.Bases.{OfData, of-data}
 use Rattle.cw_sound.specs.Names.Placed.{tokens}
 use Rattle.cw_sound.proofs.Names.ListedRows.{declared_row}
 use Rattle.cw_sound.proofs.Names.ListedNumbers.{declarations_append, tokens_append}
 use Rattle.cw_sound.proofs.Written.Titles.{block_rows}
 use Rattle.cw_sound.proofs.Front.Shapes.{decl_said, form_said, simple_said, decl_says, form_says, simple_says, block_says, proc_says, stmt_says, decl_stored, form_stored, simple_stored, decl_stores, form_stores, simple_stores, block_stores, proc_stores, stmt_stores}
+use Rattle.cw_macro.specs.Premises.{Each}
 
 abbrev declared : List Fact → List ℕ
 declared facts = tokens (text_declarations facts)

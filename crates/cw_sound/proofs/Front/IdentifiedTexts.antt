@@ -39,11 +39,11 @@ use Rattle.cw_sound.specs.Uses.Mentions.{In, Mention, Here, declares, uses, stor
 use Rattle.cw_sound.proofs.Names.Parts.{Plain, is_plain}
 use Rattle.cw_sound.proofs.Names.Rows.{rows_of, rows_in, facts_rows}
 use Rattle.cw_sound.proofs.Names.ExpressionUses.{expression_plain, condition_plain, reference_plain, arguments_plain}
-use Rattle.cw_sound.proofs.Items.Lists.{Each}
 use Rattle.cw_sound.specs.Written.Counts as counts
 use Rattle.cw_sound.specs.Written.Identified.{IsIdentified, HasIdentifiers}
 use Rattle.cw_sound.proofs.Front.Shapes.{decl_said, form_said, simple_said, decl_says, form_says, simple_says, block_says, proc_says, stmt_says}
 use Rattle.cw_sound.proofs.Front.Identified.{Identified, nothing, together, name_identified, answer_identified, use_identified, loop_identified, block_identified, names_identified, uses_identified, specification_identified, data_identified, base_identified, parameters_identified, communicators_identified}
+use Rattle.cw_macro.specs.Premises.{Each}
 
 -- ---- expressions declare nothing
 

@@ -35,12 +35,14 @@ use Rattle.cw_items.specs.declared.thing.Thing.{Thing}
 use Rattle.cw_items.specs.Things.{amount_or_none, moved, moved_past, named_things, group_words, groups_things, data_things, parameter_things, parameters_things, fact_texts, texts, felem_things, felems_things, base_at}
 use Rattle.cw_judge.specs.Declared.{declared_judged, overlaid_judged}
 use Rattle.cw_sound.specs.Items.Derived.{IsRising, facts_tokens}
-use Rattle.cw_sound.proofs.Items.Lists.{In, Each, each-append, from-in, each-in, within-in, stands-before}
-use Rattle.cw_sound.proofs.Items.Keeping.{keeps-declared, keeps-unless, parts-free, holds}
+use Rattle.cw_sound.proofs.Items.Lists.{In, each-append, from-in, each-in, within-in, stands-before}
 use Rattle.cw_sound.proofs.Items.Numbering.{token_of_thing, tokens_of_things}
 use Rattle.cw_sound.proofs.Items.Says.{declared, tokens-append, tokens-uses}
 use Rattle.cw_sound.proofs.Items.Sound.{Sound, sound-parts, base-found, in-block}
 use Rattle.cw_sound.proofs.Items.Stores.{Stores, stores-data}
+use Rattle.cw_sound.proofs.Items.Keeping.{keeps_declared}
+use Rattle.cw_sound.proofs.Expressions.Judging.{keeps_unless, both_free, holds}
+use Rattle.cw_macro.specs.Premises.{Each}
 
 -- ---- what has no base, and what has a certain one
 
@@ -194,8 +196,8 @@ module _ (all : List Thing) where
       let t = seen n.name found.0 found.1 found.2 in
       let h : (stands_before (item_at named.uses n.at.token) n.at.token && can_be_laid_on (kind_of named n) b) ≡ true =
       holds (stands_before (item_at named.uses n.at.token) n.at.token && can_be_laid_on (kind_of named n) b) rule.BadOverlay n.at
-      (parts-free (indexes_judged b) (unless (stands_before (item_at named.uses n.at.token) n.at.token && can_be_laid_on (kind_of named n) b) rule.BadOverlay n.at)
-      (keeps-unless (stands_before (item_at named.uses n.at.token) n.at.token && can_be_laid_on (kind_of named n) b) rule.BadOverlay n.at) free).1 in
+      (both_free (indexes_judged b) (unless (stands_before (item_at named.uses n.at.token) n.at.token && can_be_laid_on (kind_of named n) b) rule.BadOverlay n.at)
+      (keeps_unless (stands_before (item_at named.uses n.at.token) n.at.token && can_be_laid_on (kind_of named n) b) rule.BadOverlay n.at) free).1 in
       let l : stands_before (item_at named.uses n.at.token) n.at.token ≡ true = first-true (stands_before (item_at named.uses n.at.token) n.at.token) (can_be_laid_on (kind_of named n) b) h in
       let before : found.0.name.at.token < n.at.token = lower-of found.0.name.at.token n.at.token (sym (ap (λ (x : Option ℕ). stands_before x n.at.token) found.3) ∙ l) in
       let rising : IsRising s.first ((n.at.token ∷ []) ++ facts_tokens (data_facts d)) = subst (IsRising s.first) (tokens-append (base_facts b) (data_facts d) ∙ ap (λ (ts : List ℕ). ts ++ facts_tokens (data_facts d)) (tokens-uses n form.Base)) s.rising in
@@ -219,4 +221,4 @@ module _ (all : List Thing) where
   pub overlay-based : (named : Named) (sites : List (Row Site)) (env : Environment) (o : Option Owner) (b : RawBase) (d : RawData) → Sound named env (is_some o) (base_facts b ++ data_facts d) → EnvSeen env o → overlaid_judged named sites b d None ≡ None
       → HasBases (data_things o (Some (base_at named b)) d)
   unfolding overlaid_judged
-  overlay-based named sites env o b d s seen free = on-base named env o b d s seen (parts-free (base_judged named b) (declared_judged sites d) (keeps-declared sites d) free).0
+  overlay-based named sites env o b d s seen free = on-base named env o b d s seen (both_free (base_judged named b) (declared_judged sites d) (keeps_declared sites d) free).0

@@ -32,8 +32,10 @@ use Rattle.cw_judge.specs.Declared.{presets_judged, declared_judged}
 use Rattle.cw_make_items.specs.Types.{within, width_of}
 use Rattle.cw_preset.specs.Strings.{Words, Rows, characters_from, string_words}
 use Rattle.cw_preset.specs.Lists.{place_word, word_if, places_words, named_rows, groups_rows, word_in, element_put, element_word, stored, entry_words, entries_words, elements_words, singles_preset, groups_preset, table_preset, data_rows}
-use Rattle.cw_sound.proofs.Items.Lists.{In, in-left, in-right, Each, each-append}
-use Rattle.cw_sound.proofs.Items.Keeping.{keeps-int, keeps-scale, keeps-unless, keeps-both, keeps-elements, keeps-presets, parts-free, holds}
+use Rattle.cw_sound.proofs.Items.Lists.{In, in-left, in-right, each-append}
+use Rattle.cw_sound.proofs.Expressions.Judging.{keeps_int, keeps_scale, keeps_unless, keeps_both, both_free, holds}
+use Rattle.cw_sound.proofs.Items.Keeping.{keeps_elements, keeps_presets}
+use Rattle.cw_macro.specs.Premises.{Each}
 
 -- ---- rows beside things
 
@@ -183,34 +185,34 @@ word-within n w free e =
 element-within : (w : ℕ) (e : RawElem) → element_judged (Some w) e None ≡ None → element_word e < w
 element-within w (elem.Word n t x) free =
     let test = unless (is_within (place_amount x) (Some w)) rule.FieldRange n.at in
-    let k = keeps-unless (is_within (place_amount x) (Some w)) rule.FieldRange n.at in
-    let a = parts-free (type_judged t) (both (int_judged x) test) (keeps-both (keeps-int x) k) free in
-    let b = parts-free (int_judged x) test k a.1 in
+    let k = keeps_unless (is_within (place_amount x) (Some w)) rule.FieldRange n.at in
+    let a = both_free (type_judged t) (both (int_judged x) test) (keeps_both (keeps_int x) k) free in
+    let b = both_free (int_judged x) test k a.1 in
     word-within x w b.0 (holds (is_within (place_amount x) (Some w)) rule.FieldRange n.at b.1)
 element-within w (elem.Part n u t f x b) free =
     let fits = is_within (place_amount x) (Some w) && is_field (place_amount t) (place_amount b) in
     let test = unless fits rule.FieldRange n.at in
-    let k = keeps-unless fits rule.FieldRange n.at in
-    let p = parts-free (int_judged t) (both (scale_judged f) (both (int_judged x) (both (int_judged b) test))) (keeps-both (keeps-scale f) (keeps-both (keeps-int x) (keeps-both (keeps-int b) k))) free in
-    let q = parts-free (scale_judged f) (both (int_judged x) (both (int_judged b) test)) (keeps-both (keeps-int x) (keeps-both (keeps-int b) k)) p.1 in
-    let r = parts-free (int_judged x) (both (int_judged b) test) (keeps-both (keeps-int b) k) q.1 in
-    let s = parts-free (int_judged b) test k r.1 in
+    let k = keeps_unless fits rule.FieldRange n.at in
+    let p = both_free (int_judged t) (both (scale_judged f) (both (int_judged x) (both (int_judged b) test))) (keeps_both (keeps_scale f) (keeps_both (keeps_int x) (keeps_both (keeps_int b) k))) free in
+    let q = both_free (scale_judged f) (both (int_judged x) (both (int_judged b) test)) (keeps_both (keeps_int x) (keeps_both (keeps_int b) k)) p.1 in
+    let r = both_free (int_judged x) (both (int_judged b) test) (keeps_both (keeps_int b) k) q.1 in
+    let s = both_free (int_judged b) test k r.1 in
     word-within x w r.0 (first-true (is_within (place_amount x) (Some w)) (is_field (place_amount t) (place_amount b)) (holds fits rule.FieldRange n.at s.1))
 
 elements-within : (w : ℕ) (es : List RawElem) → elements_judged (Some w) es None ≡ None → Each (λ e. element_word e < w) es
 elements-within w [] free = tt
 elements-within w (e ∷ es) free =
-    let p = parts-free (element_judged (Some w) e) (elements_judged (Some w) es) (keeps-elements (Some w) es) free in
+    let p = both_free (element_judged (Some w) e) (elements_judged (Some w) es) (keeps_elements (Some w) es) free in
     (element-within w e p.0, elements-within w es p.1)
 
 table-below : (t : RawTable) (ps : List RawPlace) → table_judged t None ≡ None → Below (words_of_table t) (elements_words t.size t.elems ps)
 table-below t ps free =
     let good = good_size (place_amount t.size.first) (place_amount t.size.second) in
     let test = unless good rule.BadBounds t.name.at in
-    let k = keeps-unless good rule.BadBounds t.name.at in
-    let p = parts-free (size_judged t.name t.size) (elements_judged (place_amount t.size.first) t.elems) (keeps-elements (place_amount t.size.first) t.elems) free in
-    let q = parts-free (int_judged t.size.first) (both (int_judged t.size.second) test) (keeps-both (keeps-int t.size.second) k) p.0 in
-    let r = parts-free (int_judged t.size.second) test k q.1 in
+    let k = keeps_unless good rule.BadBounds t.name.at in
+    let p = both_free (size_judged t.name t.size) (elements_judged (place_amount t.size.first) t.elems) (keeps_elements (place_amount t.size.first) t.elems) free in
+    let q = both_free (int_judged t.size.first) (both (int_judged t.size.second) test) (keeps_both (keeps_int t.size.second) k) p.0 in
+    let r = both_free (int_judged t.size.second) test k q.1 in
     let w = int-free t.size.first q.0 in
     let n = int-free t.size.second r.0 in
     let g : good_size (Some w.0) (Some n.0) ≡ true = sym (ap₂ good_size w.1 n.1) ∙ holds good rule.BadBounds t.name.at r.1 in
@@ -243,4 +245,4 @@ data-fits o b (items.Arrays t gs p) free = arrays-fit o b (fraction_of t) gs p
 data-fits o b (items.Table t inside behind) free = table-fits o b t inside behind free
 
 pub declared-fits : (sites : List (Row Site)) (o : Option Owner) (b : Option Base) (d : RawData) → declared_judged sites d None ≡ None → RowsFit (data_things o b d) (data_rows d)
-declared-fits sites o b d free = data-fits o b d (parts-free (data_judged d) (presets_judged sites d) (keeps-presets sites d) free).0
+declared-fits sites o b d free = data-fits o b d (both_free (data_judged d) (presets_judged sites d) (keeps_presets sites d) free).0

@@ -26,16 +26,16 @@ use Rattle.cw_built.specs.Stored.{is_preset}
 use Rattle.cw_sound.specs.Items.Derived.{IsRising}
 use Rattle.cw_sound.specs.Items.Free.{PartsFree}
 use Rattle.cw_sound.proofs.Items.Lists.{In, in-place, each-in, not-below}
-use Rattle.cw_sound.proofs.Items.Keeping.{keeps-declared, parts-free}
 use Rattle.cw_sound.proofs.Items.Numbering.{token_of_thing, tokens_of_things, token-at, found-here, found-later}
-use Rattle.cw_sound.proofs.Items.OnBases.{keeps-citems, keeps-communicators}
 use Rattle.cw_sound.proofs.Items.Fitting.{Below, RowFits, RowsFit, fit-both, declared-fits}
 use Rattle.cw_sound.proofs.Items.FittingStatements.{block_fits}
+use Rattle.cw_sound.proofs.Items.Keeping.{keeps_declared, keeps_citems, keeps_communicators}
+use Rattle.cw_sound.proofs.Expressions.Judging.{both_free}
 
 module _ (named : Named) (sites : List (Row Site)) (absolute : List (Row ℕ)) where
   common-fits : (b : RawBase) (d : RawData) → common_overlaid_judged named sites absolute b d None ≡ None → RowsFit (data_things None (Some (base_at named b)) d) (data_rows d)
   unfolding common_overlaid_judged
-  common-fits b d free = declared-fits sites None (Some (base_at named b)) d (parts-free (common_base_judged named absolute b) (declared_judged sites d) (keeps-declared sites d) free).1
+  common-fits b d free = declared-fits sites None (Some (base_at named b)) d (both_free (common_base_judged named absolute b) (declared_judged sites d) (keeps_declared sites d) free).1
 
   citem-fits : (i : RawCitem) → citem_judged named sites absolute i None ≡ None → RowsFit (citem_things named i) (citem_rows i)
   citem-fits (citem.Data d) free = declared-fits sites None None d free
@@ -47,7 +47,7 @@ module _ (named : Named) (sites : List (Row Site)) (absolute : List (Row ℕ)) w
   citems-fit : (is : List RawCitem) → citems_judged named sites absolute is None ≡ None → RowsFit (citems_things named is) (citems_rows is)
   citems-fit [] free = tt
   citems-fit (i ∷ is) free =
-      let frees = parts-free (citem_judged named sites absolute i) (citems_judged named sites absolute is) (keeps-citems named sites absolute is) free in
+      let frees = both_free (citem_judged named sites absolute i) (citems_judged named sites absolute is) (keeps_citems named sites absolute is) free in
       fit-both (citem_things named i) (citems_things named is) (citem_rows i) (citems_rows is) (citem-fits i frees.0) (citems-fit is frees.1)
 
   communicator-fits : (c : RawComm) → communicator_judged named sites absolute c None ≡ None → RowsFit (communicator_things named c) (communicator_rows c)
@@ -58,7 +58,7 @@ module _ (named : Named) (sites : List (Row Site)) (absolute : List (Row ℕ)) w
   communicators-fit : (cs : List RawComm) → communicators_judged named sites absolute cs None ≡ None → RowsFit (communicators_things named cs) (communicators_rows cs)
   communicators-fit [] free = tt
   communicators-fit (c ∷ cs) free =
-      let frees = parts-free (communicator_judged named sites absolute c) (communicators_judged named sites absolute cs) (keeps-communicators named sites absolute cs) free in
+      let frees = both_free (communicator_judged named sites absolute c) (communicators_judged named sites absolute cs) (keeps_communicators named sites absolute cs) free in
       fit-both (communicator_things named c) (communicators_things named cs) (communicator_rows c) (communicators_rows cs) (communicator-fits c frees.0) (communicators-fit cs frees.1)
 
 text-fits : (named : Named) → PartsFree named → RowsFit (text_things named named.raw.now) (held_of named.raw.now)

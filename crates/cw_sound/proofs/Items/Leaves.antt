@@ -2,21 +2,21 @@
 use Rattle.std.proofs.Common.{◌≡◌, ℕ, List, [], ◌∷◌, ◌++◌, length, map, ◌&&◌, ◌==◌, sym, ap, subst, ◌∙◌}
 use Rattle.std.specs.Prelude.{is_none}
 use Rattle.cw_tree.specs.declared.leaf.RawName.{RawName}
-use Rattle.cw_tree.specs.declared.expression.RawExpr.{RawExpr, roll-RawExpr}
-use Rattle.cw_tree.specs.declared.expression.RawPrimary.{RawPrimary, roll-RawPrimary}
-use Rattle.cw_tree.specs.declared.expression.RawRef.{RawRef, roll-RawRef}
-use Rattle.cw_tree.specs.declared.expression.RawCand.{RawCand, roll-RawCand}
-use Rattle.cw_tree.specs.declared.expression.RawCmp.{RawCmp, roll-RawCmp}
-use Rattle.cw_tree.specs.declared.expression.RawCond.{RawCond, roll-RawCond}
-use Rattle.cw_tree.specs.declared.expression.RawDiffer.{RawDiffer, roll-RawDiffer}
-use Rattle.cw_tree.specs.declared.expression.RawMask.{RawMask, roll-RawMask}
-use Rattle.cw_tree.specs.declared.expression.RawPrim.{RawPrim, roll-RawPrim}
-use Rattle.cw_tree.specs.declared.expression.RawSum.{RawSum, roll-RawSum}
-use Rattle.cw_tree.specs.declared.expression.RawTerm.{RawTerm, roll-RawTerm}
-use Rattle.cw_tree.specs.declared.expression.RawUnion.{RawUnion, roll-RawUnion}
+use Rattle.cw_tree.specs.declared.expression.RawExpr.{RawExpr}
+use Rattle.cw_tree.specs.declared.expression.RawPrimary.{RawPrimary}
+use Rattle.cw_tree.specs.declared.expression.RawRef.{RawRef}
+use Rattle.cw_tree.specs.declared.expression.RawCand.{RawCand}
+use Rattle.cw_tree.specs.declared.expression.RawCmp.{RawCmp}
+use Rattle.cw_tree.specs.declared.expression.RawCond.{RawCond}
+use Rattle.cw_tree.specs.declared.expression.RawDiffer.{RawDiffer}
+use Rattle.cw_tree.specs.declared.expression.RawMask.{RawMask}
+use Rattle.cw_tree.specs.declared.expression.RawPrim.{RawPrim}
+use Rattle.cw_tree.specs.declared.expression.RawSum.{RawSum}
+use Rattle.cw_tree.specs.declared.expression.RawTerm.{RawTerm}
+use Rattle.cw_tree.specs.declared.expression.RawUnion.{RawUnion}
 use Rattle.cw_tree.specs.declared.expression.RawExpr.TheOpen as layer
 use Rattle.cw_tree.specs.declared.expression.RawExpr.TheOpen.{RawExpr-F, RawPrimary-F, RawRef-F, RawCand-F, RawCmp-F, RawCond-F, RawDiffer-F, RawMask-F, RawPrim-F, RawSum-F, RawTerm-F, RawUnion-F}
-use Rattle.cw_tree.specs.declared.expression.RawExpr.TheFolds.{map-RawExpr, fold-roll-RawExpr, map-RawPrimary, fold-roll-RawPrimary, map-RawRef, fold-roll-RawRef, map-RawCand, fold-roll-RawCand, map-RawCmp, fold-roll-RawCmp, map-RawCond, fold-roll-RawCond, map-RawDiffer, fold-roll-RawDiffer, map-RawMask, fold-roll-RawMask, map-RawPrim, fold-roll-RawPrim, map-RawSum, fold-roll-RawSum, map-RawTerm, fold-roll-RawTerm, map-RawUnion, fold-roll-RawUnion, ind-RawExpr, ind-RawRef, ind-RawCond}
+use Rattle.cw_tree.specs.declared.expression.RawExpr.TheFolds.{map-RawExpr, fold-roll-RawExpr, map-RawPrimary, fold-roll-RawPrimary, map-RawRef, fold-roll-RawRef, map-RawCand, fold-roll-RawCand, map-RawCmp, fold-roll-RawCmp, map-RawCond, fold-roll-RawCond, map-RawDiffer, fold-roll-RawDiffer, map-RawMask, fold-roll-RawMask, map-RawPrim, fold-roll-RawPrim, map-RawSum, fold-roll-RawSum, map-RawTerm, fold-roll-RawTerm, map-RawUnion, fold-roll-RawUnion}
 use Rattle.cw_facts.specs.declared.fact.Fact.{Fact, out-Fact}
 use Rattle.cw_facts.specs.declared.fact.Fact.TheVariants as fact
 use Rattle.cw_facts.specs.declared.fact.Fact.TheViews.{out-roll-Fact}
@@ -27,8 +27,10 @@ use Rattle.cw_facts.specs.declared.fact.Reading.{Reading}
 use Rattle.cw_facts.specs.declared.fact.Reading.TheVariants as reading
 use Rattle.cw_tree.specs.declared.leaf.Position.{Position}
 use Rattle.cw_facts.specs.Uses.{Uses, uses_of, reading_of, indexed, each_for, argument_uses, expression_step, expression_uses, primary_step, primary_uses, reference_step, reference_uses, conjunction_step, conjunction_uses, comparison_step, comparison_uses, condition_step, condition_uses, differ_step, differ_uses, mask_step, mask_uses, prim_step, prim_uses, sum_step, sum_uses, term_step, term_uses, union_step, union_uses}
-use Rattle.cw_sound.proofs.Items.Lists.{Each, each-append}
+use Rattle.cw_sound.proofs.Items.Lists.{each-append}
 use Rattle.cw_sound.proofs.Items.Leaf.{IsLeaf, IsLeafLayer}
+use Rattle.cw_macro.specs.Premises.{Each}
+use Rattle.cw_sound.proofs.Expressions.Schema.{Known, WithExpr, WithPrimary, WithRef, WithCand, WithCmp, WithCond, WithDiffer, WithMask, WithPrim, WithSum, WithTerm, WithUnion, ExprParts, PrimaryParts, RefParts, CandParts, CmpParts, CondParts, DifferParts, MaskParts, PrimParts, SumParts, TermParts, UnionParts, expr_layer, primary_layer, ref_layer, cand_layer, cmp_layer, cond_layer, differ_layer, mask_layer, prim_layer, sum_layer, term_layer, union_layer, Rules, each_expr, each_ref, each_cond}
 
 abbrev pub AreLeaves : Uses → Type 0
 AreLeaves u = (r : Reading) → Each IsLeaf (u r)
@@ -82,131 +84,111 @@ RawTermLeaves x = AreLeaves (term_uses x)
 abbrev RawUnionLeaves : RawUnion → Type 0
 RawUnionLeaves x = AreLeaves (union_uses x)
 
+abbrev known : Known
+known = record {
+  Expr = RawExprLeaves;
+  Primary = RawPrimaryLeaves;
+  Ref = RawRefLeaves;
+  Cand = RawCandLeaves;
+  Cmp = RawCmpLeaves;
+  Cond = RawCondLeaves;
+  Differ = RawDifferLeaves;
+  Mask = RawMaskLeaves;
+  Prim = RawPrimLeaves;
+  Sum = RawSumLeaves;
+  Term = RawTermLeaves;
+  Union = RawUnionLeaves;
+}
+
 abbrev expression_made : RawExpr-F RawExpr RawPrimary RawRef RawCand RawCmp RawCond RawDiffer RawMask RawPrim RawSum RawTerm RawUnion → Uses
 expression_made x = expression_step (map-RawExpr RawExpr RawPrimary RawRef RawCand RawCmp RawCond RawDiffer RawMask RawPrim RawSum RawTerm RawUnion Uses Uses Uses Uses Uses Uses Uses Uses Uses Uses Uses Uses expression_uses primary_uses reference_uses conjunction_uses comparison_uses condition_uses differ_uses mask_uses prim_uses sum_uses term_uses union_uses x)
-
-abbrev expression_parts : RawExpr-F ((x : RawExpr) × RawExprLeaves x) ((x : RawPrimary) × RawPrimaryLeaves x) ((x : RawRef) × RawRefLeaves x) ((x : RawCand) × RawCandLeaves x) ((x : RawCmp) × RawCmpLeaves x) ((x : RawCond) × RawCondLeaves x) ((x : RawDiffer) × RawDifferLeaves x) ((x : RawMask) × RawMaskLeaves x) ((x : RawPrim) × RawPrimLeaves x) ((x : RawSum) × RawSumLeaves x) ((x : RawTerm) × RawTermLeaves x) ((x : RawUnion) × RawUnionLeaves x) → RawExpr-F RawExpr RawPrimary RawRef RawCand RawCmp RawCond RawDiffer RawMask RawPrim RawSum RawTerm RawUnion
-expression_parts y = map-RawExpr ((x : RawExpr) × RawExprLeaves x) ((x : RawPrimary) × RawPrimaryLeaves x) ((x : RawRef) × RawRefLeaves x) ((x : RawCand) × RawCandLeaves x) ((x : RawCmp) × RawCmpLeaves x) ((x : RawCond) × RawCondLeaves x) ((x : RawDiffer) × RawDifferLeaves x) ((x : RawMask) × RawMaskLeaves x) ((x : RawPrim) × RawPrimLeaves x) ((x : RawSum) × RawSumLeaves x) ((x : RawTerm) × RawTermLeaves x) ((x : RawUnion) × RawUnionLeaves x) RawExpr RawPrimary RawRef RawCand RawCmp RawCond RawDiffer RawMask RawPrim RawSum RawTerm RawUnion (λ e. e.0) (λ e. e.0) (λ e. e.0) (λ e. e.0) (λ e. e.0) (λ e. e.0) (λ e. e.0) (λ e. e.0) (λ e. e.0) (λ e. e.0) (λ e. e.0) (λ e. e.0) y
 
 abbrev primary_made : RawPrimary-F RawExpr RawPrimary RawRef RawCand RawCmp RawCond RawDiffer RawMask RawPrim RawSum RawTerm RawUnion → Uses
 primary_made x = primary_step (map-RawPrimary RawExpr RawPrimary RawRef RawCand RawCmp RawCond RawDiffer RawMask RawPrim RawSum RawTerm RawUnion Uses Uses Uses Uses Uses Uses Uses Uses Uses Uses Uses Uses expression_uses primary_uses reference_uses conjunction_uses comparison_uses condition_uses differ_uses mask_uses prim_uses sum_uses term_uses union_uses x)
 
-abbrev primary_parts : RawPrimary-F ((x : RawExpr) × RawExprLeaves x) ((x : RawPrimary) × RawPrimaryLeaves x) ((x : RawRef) × RawRefLeaves x) ((x : RawCand) × RawCandLeaves x) ((x : RawCmp) × RawCmpLeaves x) ((x : RawCond) × RawCondLeaves x) ((x : RawDiffer) × RawDifferLeaves x) ((x : RawMask) × RawMaskLeaves x) ((x : RawPrim) × RawPrimLeaves x) ((x : RawSum) × RawSumLeaves x) ((x : RawTerm) × RawTermLeaves x) ((x : RawUnion) × RawUnionLeaves x) → RawPrimary-F RawExpr RawPrimary RawRef RawCand RawCmp RawCond RawDiffer RawMask RawPrim RawSum RawTerm RawUnion
-primary_parts y = map-RawPrimary ((x : RawExpr) × RawExprLeaves x) ((x : RawPrimary) × RawPrimaryLeaves x) ((x : RawRef) × RawRefLeaves x) ((x : RawCand) × RawCandLeaves x) ((x : RawCmp) × RawCmpLeaves x) ((x : RawCond) × RawCondLeaves x) ((x : RawDiffer) × RawDifferLeaves x) ((x : RawMask) × RawMaskLeaves x) ((x : RawPrim) × RawPrimLeaves x) ((x : RawSum) × RawSumLeaves x) ((x : RawTerm) × RawTermLeaves x) ((x : RawUnion) × RawUnionLeaves x) RawExpr RawPrimary RawRef RawCand RawCmp RawCond RawDiffer RawMask RawPrim RawSum RawTerm RawUnion (λ e. e.0) (λ e. e.0) (λ e. e.0) (λ e. e.0) (λ e. e.0) (λ e. e.0) (λ e. e.0) (λ e. e.0) (λ e. e.0) (λ e. e.0) (λ e. e.0) (λ e. e.0) y
-
 abbrev reference_made : RawRef-F RawExpr RawPrimary RawRef RawCand RawCmp RawCond RawDiffer RawMask RawPrim RawSum RawTerm RawUnion → Uses
 reference_made x = reference_step (map-RawRef RawExpr RawPrimary RawRef RawCand RawCmp RawCond RawDiffer RawMask RawPrim RawSum RawTerm RawUnion Uses Uses Uses Uses Uses Uses Uses Uses Uses Uses Uses Uses expression_uses primary_uses reference_uses conjunction_uses comparison_uses condition_uses differ_uses mask_uses prim_uses sum_uses term_uses union_uses x)
-
-abbrev reference_parts : RawRef-F ((x : RawExpr) × RawExprLeaves x) ((x : RawPrimary) × RawPrimaryLeaves x) ((x : RawRef) × RawRefLeaves x) ((x : RawCand) × RawCandLeaves x) ((x : RawCmp) × RawCmpLeaves x) ((x : RawCond) × RawCondLeaves x) ((x : RawDiffer) × RawDifferLeaves x) ((x : RawMask) × RawMaskLeaves x) ((x : RawPrim) × RawPrimLeaves x) ((x : RawSum) × RawSumLeaves x) ((x : RawTerm) × RawTermLeaves x) ((x : RawUnion) × RawUnionLeaves x) → RawRef-F RawExpr RawPrimary RawRef RawCand RawCmp RawCond RawDiffer RawMask RawPrim RawSum RawTerm RawUnion
-reference_parts y = map-RawRef ((x : RawExpr) × RawExprLeaves x) ((x : RawPrimary) × RawPrimaryLeaves x) ((x : RawRef) × RawRefLeaves x) ((x : RawCand) × RawCandLeaves x) ((x : RawCmp) × RawCmpLeaves x) ((x : RawCond) × RawCondLeaves x) ((x : RawDiffer) × RawDifferLeaves x) ((x : RawMask) × RawMaskLeaves x) ((x : RawPrim) × RawPrimLeaves x) ((x : RawSum) × RawSumLeaves x) ((x : RawTerm) × RawTermLeaves x) ((x : RawUnion) × RawUnionLeaves x) RawExpr RawPrimary RawRef RawCand RawCmp RawCond RawDiffer RawMask RawPrim RawSum RawTerm RawUnion (λ e. e.0) (λ e. e.0) (λ e. e.0) (λ e. e.0) (λ e. e.0) (λ e. e.0) (λ e. e.0) (λ e. e.0) (λ e. e.0) (λ e. e.0) (λ e. e.0) (λ e. e.0) y
 
 abbrev conjunction_made : RawCand-F RawExpr RawPrimary RawRef RawCand RawCmp RawCond RawDiffer RawMask RawPrim RawSum RawTerm RawUnion → Uses
 conjunction_made x = conjunction_step (map-RawCand RawExpr RawPrimary RawRef RawCand RawCmp RawCond RawDiffer RawMask RawPrim RawSum RawTerm RawUnion Uses Uses Uses Uses Uses Uses Uses Uses Uses Uses Uses Uses expression_uses primary_uses reference_uses conjunction_uses comparison_uses condition_uses differ_uses mask_uses prim_uses sum_uses term_uses union_uses x)
 
-abbrev conjunction_parts : RawCand-F ((x : RawExpr) × RawExprLeaves x) ((x : RawPrimary) × RawPrimaryLeaves x) ((x : RawRef) × RawRefLeaves x) ((x : RawCand) × RawCandLeaves x) ((x : RawCmp) × RawCmpLeaves x) ((x : RawCond) × RawCondLeaves x) ((x : RawDiffer) × RawDifferLeaves x) ((x : RawMask) × RawMaskLeaves x) ((x : RawPrim) × RawPrimLeaves x) ((x : RawSum) × RawSumLeaves x) ((x : RawTerm) × RawTermLeaves x) ((x : RawUnion) × RawUnionLeaves x) → RawCand-F RawExpr RawPrimary RawRef RawCand RawCmp RawCond RawDiffer RawMask RawPrim RawSum RawTerm RawUnion
-conjunction_parts y = map-RawCand ((x : RawExpr) × RawExprLeaves x) ((x : RawPrimary) × RawPrimaryLeaves x) ((x : RawRef) × RawRefLeaves x) ((x : RawCand) × RawCandLeaves x) ((x : RawCmp) × RawCmpLeaves x) ((x : RawCond) × RawCondLeaves x) ((x : RawDiffer) × RawDifferLeaves x) ((x : RawMask) × RawMaskLeaves x) ((x : RawPrim) × RawPrimLeaves x) ((x : RawSum) × RawSumLeaves x) ((x : RawTerm) × RawTermLeaves x) ((x : RawUnion) × RawUnionLeaves x) RawExpr RawPrimary RawRef RawCand RawCmp RawCond RawDiffer RawMask RawPrim RawSum RawTerm RawUnion (λ e. e.0) (λ e. e.0) (λ e. e.0) (λ e. e.0) (λ e. e.0) (λ e. e.0) (λ e. e.0) (λ e. e.0) (λ e. e.0) (λ e. e.0) (λ e. e.0) (λ e. e.0) y
-
 abbrev comparison_made : RawCmp-F RawExpr RawPrimary RawRef RawCand RawCmp RawCond RawDiffer RawMask RawPrim RawSum RawTerm RawUnion → Uses
 comparison_made x = comparison_step (map-RawCmp RawExpr RawPrimary RawRef RawCand RawCmp RawCond RawDiffer RawMask RawPrim RawSum RawTerm RawUnion Uses Uses Uses Uses Uses Uses Uses Uses Uses Uses Uses Uses expression_uses primary_uses reference_uses conjunction_uses comparison_uses condition_uses differ_uses mask_uses prim_uses sum_uses term_uses union_uses x)
-
-abbrev comparison_parts : RawCmp-F ((x : RawExpr) × RawExprLeaves x) ((x : RawPrimary) × RawPrimaryLeaves x) ((x : RawRef) × RawRefLeaves x) ((x : RawCand) × RawCandLeaves x) ((x : RawCmp) × RawCmpLeaves x) ((x : RawCond) × RawCondLeaves x) ((x : RawDiffer) × RawDifferLeaves x) ((x : RawMask) × RawMaskLeaves x) ((x : RawPrim) × RawPrimLeaves x) ((x : RawSum) × RawSumLeaves x) ((x : RawTerm) × RawTermLeaves x) ((x : RawUnion) × RawUnionLeaves x) → RawCmp-F RawExpr RawPrimary RawRef RawCand RawCmp RawCond RawDiffer RawMask RawPrim RawSum RawTerm RawUnion
-comparison_parts y = map-RawCmp ((x : RawExpr) × RawExprLeaves x) ((x : RawPrimary) × RawPrimaryLeaves x) ((x : RawRef) × RawRefLeaves x) ((x : RawCand) × RawCandLeaves x) ((x : RawCmp) × RawCmpLeaves x) ((x : RawCond) × RawCondLeaves x) ((x : RawDiffer) × RawDifferLeaves x) ((x : RawMask) × RawMaskLeaves x) ((x : RawPrim) × RawPrimLeaves x) ((x : RawSum) × RawSumLeaves x) ((x : RawTerm) × RawTermLeaves x) ((x : RawUnion) × RawUnionLeaves x) RawExpr RawPrimary RawRef RawCand RawCmp RawCond RawDiffer RawMask RawPrim RawSum RawTerm RawUnion (λ e. e.0) (λ e. e.0) (λ e. e.0) (λ e. e.0) (λ e. e.0) (λ e. e.0) (λ e. e.0) (λ e. e.0) (λ e. e.0) (λ e. e.0) (λ e. e.0) (λ e. e.0) y
 
 abbrev condition_made : RawCond-F RawExpr RawPrimary RawRef RawCand RawCmp RawCond RawDiffer RawMask RawPrim RawSum RawTerm RawUnion → Uses
 condition_made x = condition_step (map-RawCond RawExpr RawPrimary RawRef RawCand RawCmp RawCond RawDiffer RawMask RawPrim RawSum RawTerm RawUnion Uses Uses Uses Uses Uses Uses Uses Uses Uses Uses Uses Uses expression_uses primary_uses reference_uses conjunction_uses comparison_uses condition_uses differ_uses mask_uses prim_uses sum_uses term_uses union_uses x)
 
-abbrev condition_parts : RawCond-F ((x : RawExpr) × RawExprLeaves x) ((x : RawPrimary) × RawPrimaryLeaves x) ((x : RawRef) × RawRefLeaves x) ((x : RawCand) × RawCandLeaves x) ((x : RawCmp) × RawCmpLeaves x) ((x : RawCond) × RawCondLeaves x) ((x : RawDiffer) × RawDifferLeaves x) ((x : RawMask) × RawMaskLeaves x) ((x : RawPrim) × RawPrimLeaves x) ((x : RawSum) × RawSumLeaves x) ((x : RawTerm) × RawTermLeaves x) ((x : RawUnion) × RawUnionLeaves x) → RawCond-F RawExpr RawPrimary RawRef RawCand RawCmp RawCond RawDiffer RawMask RawPrim RawSum RawTerm RawUnion
-condition_parts y = map-RawCond ((x : RawExpr) × RawExprLeaves x) ((x : RawPrimary) × RawPrimaryLeaves x) ((x : RawRef) × RawRefLeaves x) ((x : RawCand) × RawCandLeaves x) ((x : RawCmp) × RawCmpLeaves x) ((x : RawCond) × RawCondLeaves x) ((x : RawDiffer) × RawDifferLeaves x) ((x : RawMask) × RawMaskLeaves x) ((x : RawPrim) × RawPrimLeaves x) ((x : RawSum) × RawSumLeaves x) ((x : RawTerm) × RawTermLeaves x) ((x : RawUnion) × RawUnionLeaves x) RawExpr RawPrimary RawRef RawCand RawCmp RawCond RawDiffer RawMask RawPrim RawSum RawTerm RawUnion (λ e. e.0) (λ e. e.0) (λ e. e.0) (λ e. e.0) (λ e. e.0) (λ e. e.0) (λ e. e.0) (λ e. e.0) (λ e. e.0) (λ e. e.0) (λ e. e.0) (λ e. e.0) y
-
 abbrev differ_made : RawDiffer-F RawExpr RawPrimary RawRef RawCand RawCmp RawCond RawDiffer RawMask RawPrim RawSum RawTerm RawUnion → Uses
 differ_made x = differ_step (map-RawDiffer RawExpr RawPrimary RawRef RawCand RawCmp RawCond RawDiffer RawMask RawPrim RawSum RawTerm RawUnion Uses Uses Uses Uses Uses Uses Uses Uses Uses Uses Uses Uses expression_uses primary_uses reference_uses conjunction_uses comparison_uses condition_uses differ_uses mask_uses prim_uses sum_uses term_uses union_uses x)
-
-abbrev differ_parts : RawDiffer-F ((x : RawExpr) × RawExprLeaves x) ((x : RawPrimary) × RawPrimaryLeaves x) ((x : RawRef) × RawRefLeaves x) ((x : RawCand) × RawCandLeaves x) ((x : RawCmp) × RawCmpLeaves x) ((x : RawCond) × RawCondLeaves x) ((x : RawDiffer) × RawDifferLeaves x) ((x : RawMask) × RawMaskLeaves x) ((x : RawPrim) × RawPrimLeaves x) ((x : RawSum) × RawSumLeaves x) ((x : RawTerm) × RawTermLeaves x) ((x : RawUnion) × RawUnionLeaves x) → RawDiffer-F RawExpr RawPrimary RawRef RawCand RawCmp RawCond RawDiffer RawMask RawPrim RawSum RawTerm RawUnion
-differ_parts y = map-RawDiffer ((x : RawExpr) × RawExprLeaves x) ((x : RawPrimary) × RawPrimaryLeaves x) ((x : RawRef) × RawRefLeaves x) ((x : RawCand) × RawCandLeaves x) ((x : RawCmp) × RawCmpLeaves x) ((x : RawCond) × RawCondLeaves x) ((x : RawDiffer) × RawDifferLeaves x) ((x : RawMask) × RawMaskLeaves x) ((x : RawPrim) × RawPrimLeaves x) ((x : RawSum) × RawSumLeaves x) ((x : RawTerm) × RawTermLeaves x) ((x : RawUnion) × RawUnionLeaves x) RawExpr RawPrimary RawRef RawCand RawCmp RawCond RawDiffer RawMask RawPrim RawSum RawTerm RawUnion (λ e. e.0) (λ e. e.0) (λ e. e.0) (λ e. e.0) (λ e. e.0) (λ e. e.0) (λ e. e.0) (λ e. e.0) (λ e. e.0) (λ e. e.0) (λ e. e.0) (λ e. e.0) y
 
 abbrev mask_made : RawMask-F RawExpr RawPrimary RawRef RawCand RawCmp RawCond RawDiffer RawMask RawPrim RawSum RawTerm RawUnion → Uses
 mask_made x = mask_step (map-RawMask RawExpr RawPrimary RawRef RawCand RawCmp RawCond RawDiffer RawMask RawPrim RawSum RawTerm RawUnion Uses Uses Uses Uses Uses Uses Uses Uses Uses Uses Uses Uses expression_uses primary_uses reference_uses conjunction_uses comparison_uses condition_uses differ_uses mask_uses prim_uses sum_uses term_uses union_uses x)
 
-abbrev mask_parts : RawMask-F ((x : RawExpr) × RawExprLeaves x) ((x : RawPrimary) × RawPrimaryLeaves x) ((x : RawRef) × RawRefLeaves x) ((x : RawCand) × RawCandLeaves x) ((x : RawCmp) × RawCmpLeaves x) ((x : RawCond) × RawCondLeaves x) ((x : RawDiffer) × RawDifferLeaves x) ((x : RawMask) × RawMaskLeaves x) ((x : RawPrim) × RawPrimLeaves x) ((x : RawSum) × RawSumLeaves x) ((x : RawTerm) × RawTermLeaves x) ((x : RawUnion) × RawUnionLeaves x) → RawMask-F RawExpr RawPrimary RawRef RawCand RawCmp RawCond RawDiffer RawMask RawPrim RawSum RawTerm RawUnion
-mask_parts y = map-RawMask ((x : RawExpr) × RawExprLeaves x) ((x : RawPrimary) × RawPrimaryLeaves x) ((x : RawRef) × RawRefLeaves x) ((x : RawCand) × RawCandLeaves x) ((x : RawCmp) × RawCmpLeaves x) ((x : RawCond) × RawCondLeaves x) ((x : RawDiffer) × RawDifferLeaves x) ((x : RawMask) × RawMaskLeaves x) ((x : RawPrim) × RawPrimLeaves x) ((x : RawSum) × RawSumLeaves x) ((x : RawTerm) × RawTermLeaves x) ((x : RawUnion) × RawUnionLeaves x) RawExpr RawPrimary RawRef RawCand RawCmp RawCond RawDiffer RawMask RawPrim RawSum RawTerm RawUnion (λ e. e.0) (λ e. e.0) (λ e. e.0) (λ e. e.0) (λ e. e.0) (λ e. e.0) (λ e. e.0) (λ e. e.0) (λ e. e.0) (λ e. e.0) (λ e. e.0) (λ e. e.0) y
-
 abbrev prim_made : RawPrim-F RawExpr RawPrimary RawRef RawCand RawCmp RawCond RawDiffer RawMask RawPrim RawSum RawTerm RawUnion → Uses
 prim_made x = prim_step (map-RawPrim RawExpr RawPrimary RawRef RawCand RawCmp RawCond RawDiffer RawMask RawPrim RawSum RawTerm RawUnion Uses Uses Uses Uses Uses Uses Uses Uses Uses Uses Uses Uses expression_uses primary_uses reference_uses conjunction_uses comparison_uses condition_uses differ_uses mask_uses prim_uses sum_uses term_uses union_uses x)
-
-abbrev prim_parts : RawPrim-F ((x : RawExpr) × RawExprLeaves x) ((x : RawPrimary) × RawPrimaryLeaves x) ((x : RawRef) × RawRefLeaves x) ((x : RawCand) × RawCandLeaves x) ((x : RawCmp) × RawCmpLeaves x) ((x : RawCond) × RawCondLeaves x) ((x : RawDiffer) × RawDifferLeaves x) ((x : RawMask) × RawMaskLeaves x) ((x : RawPrim) × RawPrimLeaves x) ((x : RawSum) × RawSumLeaves x) ((x : RawTerm) × RawTermLeaves x) ((x : RawUnion) × RawUnionLeaves x) → RawPrim-F RawExpr RawPrimary RawRef RawCand RawCmp RawCond RawDiffer RawMask RawPrim RawSum RawTerm RawUnion
-prim_parts y = map-RawPrim ((x : RawExpr) × RawExprLeaves x) ((x : RawPrimary) × RawPrimaryLeaves x) ((x : RawRef) × RawRefLeaves x) ((x : RawCand) × RawCandLeaves x) ((x : RawCmp) × RawCmpLeaves x) ((x : RawCond) × RawCondLeaves x) ((x : RawDiffer) × RawDifferLeaves x) ((x : RawMask) × RawMaskLeaves x) ((x : RawPrim) × RawPrimLeaves x) ((x : RawSum) × RawSumLeaves x) ((x : RawTerm) × RawTermLeaves x) ((x : RawUnion) × RawUnionLeaves x) RawExpr RawPrimary RawRef RawCand RawCmp RawCond RawDiffer RawMask RawPrim RawSum RawTerm RawUnion (λ e. e.0) (λ e. e.0) (λ e. e.0) (λ e. e.0) (λ e. e.0) (λ e. e.0) (λ e. e.0) (λ e. e.0) (λ e. e.0) (λ e. e.0) (λ e. e.0) (λ e. e.0) y
 
 abbrev sum_made : RawSum-F RawExpr RawPrimary RawRef RawCand RawCmp RawCond RawDiffer RawMask RawPrim RawSum RawTerm RawUnion → Uses
 sum_made x = sum_step (map-RawSum RawExpr RawPrimary RawRef RawCand RawCmp RawCond RawDiffer RawMask RawPrim RawSum RawTerm RawUnion Uses Uses Uses Uses Uses Uses Uses Uses Uses Uses Uses Uses expression_uses primary_uses reference_uses conjunction_uses comparison_uses condition_uses differ_uses mask_uses prim_uses sum_uses term_uses union_uses x)
 
-abbrev sum_parts : RawSum-F ((x : RawExpr) × RawExprLeaves x) ((x : RawPrimary) × RawPrimaryLeaves x) ((x : RawRef) × RawRefLeaves x) ((x : RawCand) × RawCandLeaves x) ((x : RawCmp) × RawCmpLeaves x) ((x : RawCond) × RawCondLeaves x) ((x : RawDiffer) × RawDifferLeaves x) ((x : RawMask) × RawMaskLeaves x) ((x : RawPrim) × RawPrimLeaves x) ((x : RawSum) × RawSumLeaves x) ((x : RawTerm) × RawTermLeaves x) ((x : RawUnion) × RawUnionLeaves x) → RawSum-F RawExpr RawPrimary RawRef RawCand RawCmp RawCond RawDiffer RawMask RawPrim RawSum RawTerm RawUnion
-sum_parts y = map-RawSum ((x : RawExpr) × RawExprLeaves x) ((x : RawPrimary) × RawPrimaryLeaves x) ((x : RawRef) × RawRefLeaves x) ((x : RawCand) × RawCandLeaves x) ((x : RawCmp) × RawCmpLeaves x) ((x : RawCond) × RawCondLeaves x) ((x : RawDiffer) × RawDifferLeaves x) ((x : RawMask) × RawMaskLeaves x) ((x : RawPrim) × RawPrimLeaves x) ((x : RawSum) × RawSumLeaves x) ((x : RawTerm) × RawTermLeaves x) ((x : RawUnion) × RawUnionLeaves x) RawExpr RawPrimary RawRef RawCand RawCmp RawCond RawDiffer RawMask RawPrim RawSum RawTerm RawUnion (λ e. e.0) (λ e. e.0) (λ e. e.0) (λ e. e.0) (λ e. e.0) (λ e. e.0) (λ e. e.0) (λ e. e.0) (λ e. e.0) (λ e. e.0) (λ e. e.0) (λ e. e.0) y
-
 abbrev term_made : RawTerm-F RawExpr RawPrimary RawRef RawCand RawCmp RawCond RawDiffer RawMask RawPrim RawSum RawTerm RawUnion → Uses
 term_made x = term_step (map-RawTerm RawExpr RawPrimary RawRef RawCand RawCmp RawCond RawDiffer RawMask RawPrim RawSum RawTerm RawUnion Uses Uses Uses Uses Uses Uses Uses Uses Uses Uses Uses Uses expression_uses primary_uses reference_uses conjunction_uses comparison_uses condition_uses differ_uses mask_uses prim_uses sum_uses term_uses union_uses x)
-
-abbrev term_parts : RawTerm-F ((x : RawExpr) × RawExprLeaves x) ((x : RawPrimary) × RawPrimaryLeaves x) ((x : RawRef) × RawRefLeaves x) ((x : RawCand) × RawCandLeaves x) ((x : RawCmp) × RawCmpLeaves x) ((x : RawCond) × RawCondLeaves x) ((x : RawDiffer) × RawDifferLeaves x) ((x : RawMask) × RawMaskLeaves x) ((x : RawPrim) × RawPrimLeaves x) ((x : RawSum) × RawSumLeaves x) ((x : RawTerm) × RawTermLeaves x) ((x : RawUnion) × RawUnionLeaves x) → RawTerm-F RawExpr RawPrimary RawRef RawCand RawCmp RawCond RawDiffer RawMask RawPrim RawSum RawTerm RawUnion
-term_parts y = map-RawTerm ((x : RawExpr) × RawExprLeaves x) ((x : RawPrimary) × RawPrimaryLeaves x) ((x : RawRef) × RawRefLeaves x) ((x : RawCand) × RawCandLeaves x) ((x : RawCmp) × RawCmpLeaves x) ((x : RawCond) × RawCondLeaves x) ((x : RawDiffer) × RawDifferLeaves x) ((x : RawMask) × RawMaskLeaves x) ((x : RawPrim) × RawPrimLeaves x) ((x : RawSum) × RawSumLeaves x) ((x : RawTerm) × RawTermLeaves x) ((x : RawUnion) × RawUnionLeaves x) RawExpr RawPrimary RawRef RawCand RawCmp RawCond RawDiffer RawMask RawPrim RawSum RawTerm RawUnion (λ e. e.0) (λ e. e.0) (λ e. e.0) (λ e. e.0) (λ e. e.0) (λ e. e.0) (λ e. e.0) (λ e. e.0) (λ e. e.0) (λ e. e.0) (λ e. e.0) (λ e. e.0) y
 
 abbrev union_made : RawUnion-F RawExpr RawPrimary RawRef RawCand RawCmp RawCond RawDiffer RawMask RawPrim RawSum RawTerm RawUnion → Uses
 union_made x = union_step (map-RawUnion RawExpr RawPrimary RawRef RawCand RawCmp RawCond RawDiffer RawMask RawPrim RawSum RawTerm RawUnion Uses Uses Uses Uses Uses Uses Uses Uses Uses Uses Uses Uses expression_uses primary_uses reference_uses conjunction_uses comparison_uses condition_uses differ_uses mask_uses prim_uses sum_uses term_uses union_uses x)
 
-abbrev union_parts : RawUnion-F ((x : RawExpr) × RawExprLeaves x) ((x : RawPrimary) × RawPrimaryLeaves x) ((x : RawRef) × RawRefLeaves x) ((x : RawCand) × RawCandLeaves x) ((x : RawCmp) × RawCmpLeaves x) ((x : RawCond) × RawCondLeaves x) ((x : RawDiffer) × RawDifferLeaves x) ((x : RawMask) × RawMaskLeaves x) ((x : RawPrim) × RawPrimLeaves x) ((x : RawSum) × RawSumLeaves x) ((x : RawTerm) × RawTermLeaves x) ((x : RawUnion) × RawUnionLeaves x) → RawUnion-F RawExpr RawPrimary RawRef RawCand RawCmp RawCond RawDiffer RawMask RawPrim RawSum RawTerm RawUnion
-union_parts y = map-RawUnion ((x : RawExpr) × RawExprLeaves x) ((x : RawPrimary) × RawPrimaryLeaves x) ((x : RawRef) × RawRefLeaves x) ((x : RawCand) × RawCandLeaves x) ((x : RawCmp) × RawCmpLeaves x) ((x : RawCond) × RawCondLeaves x) ((x : RawDiffer) × RawDifferLeaves x) ((x : RawMask) × RawMaskLeaves x) ((x : RawPrim) × RawPrimLeaves x) ((x : RawSum) × RawSumLeaves x) ((x : RawTerm) × RawTermLeaves x) ((x : RawUnion) × RawUnionLeaves x) RawExpr RawPrimary RawRef RawCand RawCmp RawCond RawDiffer RawMask RawPrim RawSum RawTerm RawUnion (λ e. e.0) (λ e. e.0) (λ e. e.0) (λ e. e.0) (λ e. e.0) (λ e. e.0) (λ e. e.0) (λ e. e.0) (λ e. e.0) (λ e. e.0) (λ e. e.0) (λ e. e.0) y
-
-each-expression : (xs : List ((x : RawExpr) × RawExprLeaves x)) (r : Reading) → Each IsLeaf (each_for r (map expression_uses (map (λ e. e.0) xs)))
+each-expression : (xs : List (WithExpr known)) (r : Reading) → Each IsLeaf (each_for r (map expression_uses (map (λ e. e.0) xs)))
 each-expression [] r = tt
 each-expression (x ∷ xs) r = both-leaves (expression_uses x.0 r) (each_for r (map expression_uses (map (λ e. e.0) xs))) (x.1 r) (each-expression xs r)
 
-each-primary : (xs : List ((x : RawPrimary) × RawPrimaryLeaves x)) (r : Reading) → Each IsLeaf (each_for r (map primary_uses (map (λ e. e.0) xs)))
+each-primary : (xs : List (WithPrimary known)) (r : Reading) → Each IsLeaf (each_for r (map primary_uses (map (λ e. e.0) xs)))
 each-primary [] r = tt
 each-primary (x ∷ xs) r = both-leaves (primary_uses x.0 r) (each_for r (map primary_uses (map (λ e. e.0) xs))) (x.1 r) (each-primary xs r)
 
-each-reference : (xs : List ((x : RawRef) × RawRefLeaves x)) (r : Reading) → Each IsLeaf (each_for r (map reference_uses (map (λ e. e.0) xs)))
+each-reference : (xs : List (WithRef known)) (r : Reading) → Each IsLeaf (each_for r (map reference_uses (map (λ e. e.0) xs)))
 each-reference [] r = tt
 each-reference (x ∷ xs) r = both-leaves (reference_uses x.0 r) (each_for r (map reference_uses (map (λ e. e.0) xs))) (x.1 r) (each-reference xs r)
 
-each-conjunction : (xs : List ((x : RawCand) × RawCandLeaves x)) (r : Reading) → Each IsLeaf (each_for r (map conjunction_uses (map (λ e. e.0) xs)))
+each-conjunction : (xs : List (WithCand known)) (r : Reading) → Each IsLeaf (each_for r (map conjunction_uses (map (λ e. e.0) xs)))
 each-conjunction [] r = tt
 each-conjunction (x ∷ xs) r = both-leaves (conjunction_uses x.0 r) (each_for r (map conjunction_uses (map (λ e. e.0) xs))) (x.1 r) (each-conjunction xs r)
 
-each-comparison : (xs : List ((x : RawCmp) × RawCmpLeaves x)) (r : Reading) → Each IsLeaf (each_for r (map comparison_uses (map (λ e. e.0) xs)))
+each-comparison : (xs : List (WithCmp known)) (r : Reading) → Each IsLeaf (each_for r (map comparison_uses (map (λ e. e.0) xs)))
 each-comparison [] r = tt
 each-comparison (x ∷ xs) r = both-leaves (comparison_uses x.0 r) (each_for r (map comparison_uses (map (λ e. e.0) xs))) (x.1 r) (each-comparison xs r)
 
-each-condition : (xs : List ((x : RawCond) × RawCondLeaves x)) (r : Reading) → Each IsLeaf (each_for r (map condition_uses (map (λ e. e.0) xs)))
+each-condition : (xs : List (WithCond known)) (r : Reading) → Each IsLeaf (each_for r (map condition_uses (map (λ e. e.0) xs)))
 each-condition [] r = tt
 each-condition (x ∷ xs) r = both-leaves (condition_uses x.0 r) (each_for r (map condition_uses (map (λ e. e.0) xs))) (x.1 r) (each-condition xs r)
 
-each-differ : (xs : List ((x : RawDiffer) × RawDifferLeaves x)) (r : Reading) → Each IsLeaf (each_for r (map differ_uses (map (λ e. e.0) xs)))
+each-differ : (xs : List (WithDiffer known)) (r : Reading) → Each IsLeaf (each_for r (map differ_uses (map (λ e. e.0) xs)))
 each-differ [] r = tt
 each-differ (x ∷ xs) r = both-leaves (differ_uses x.0 r) (each_for r (map differ_uses (map (λ e. e.0) xs))) (x.1 r) (each-differ xs r)
 
-each-mask : (xs : List ((x : RawMask) × RawMaskLeaves x)) (r : Reading) → Each IsLeaf (each_for r (map mask_uses (map (λ e. e.0) xs)))
+each-mask : (xs : List (WithMask known)) (r : Reading) → Each IsLeaf (each_for r (map mask_uses (map (λ e. e.0) xs)))
 each-mask [] r = tt
 each-mask (x ∷ xs) r = both-leaves (mask_uses x.0 r) (each_for r (map mask_uses (map (λ e. e.0) xs))) (x.1 r) (each-mask xs r)
 
-each-prim : (xs : List ((x : RawPrim) × RawPrimLeaves x)) (r : Reading) → Each IsLeaf (each_for r (map prim_uses (map (λ e. e.0) xs)))
+each-prim : (xs : List (WithPrim known)) (r : Reading) → Each IsLeaf (each_for r (map prim_uses (map (λ e. e.0) xs)))
 each-prim [] r = tt
 each-prim (x ∷ xs) r = both-leaves (prim_uses x.0 r) (each_for r (map prim_uses (map (λ e. e.0) xs))) (x.1 r) (each-prim xs r)
 
-each-sum : (xs : List ((x : RawSum) × RawSumLeaves x)) (r : Reading) → Each IsLeaf (each_for r (map sum_uses (map (λ e. e.0) xs)))
+each-sum : (xs : List (WithSum known)) (r : Reading) → Each IsLeaf (each_for r (map sum_uses (map (λ e. e.0) xs)))
 each-sum [] r = tt
 each-sum (x ∷ xs) r = both-leaves (sum_uses x.0 r) (each_for r (map sum_uses (map (λ e. e.0) xs))) (x.1 r) (each-sum xs r)
 
-each-term : (xs : List ((x : RawTerm) × RawTermLeaves x)) (r : Reading) → Each IsLeaf (each_for r (map term_uses (map (λ e. e.0) xs)))
+each-term : (xs : List (WithTerm known)) (r : Reading) → Each IsLeaf (each_for r (map term_uses (map (λ e. e.0) xs)))
 each-term [] r = tt
 each-term (x ∷ xs) r = both-leaves (term_uses x.0 r) (each_for r (map term_uses (map (λ e. e.0) xs))) (x.1 r) (each-term xs r)
 
-each-union : (xs : List ((x : RawUnion) × RawUnionLeaves x)) (r : Reading) → Each IsLeaf (each_for r (map union_uses (map (λ e. e.0) xs)))
+each-union : (xs : List (WithUnion known)) (r : Reading) → Each IsLeaf (each_for r (map union_uses (map (λ e. e.0) xs)))
 each-union [] r = tt
 each-union (x ∷ xs) r = both-leaves (union_uses x.0 r) (each_for r (map union_uses (map (λ e. e.0) xs))) (x.1 r) (each-union xs r)
 
-expression-leaves : (y : RawExpr-F ((x : RawExpr) × RawExprLeaves x) ((x : RawPrimary) × RawPrimaryLeaves x) ((x : RawRef) × RawRefLeaves x) ((x : RawCand) × RawCandLeaves x) ((x : RawCmp) × RawCmpLeaves x) ((x : RawCond) × RawCondLeaves x) ((x : RawDiffer) × RawDifferLeaves x) ((x : RawMask) × RawMaskLeaves x) ((x : RawPrim) × RawPrimLeaves x) ((x : RawSum) × RawSumLeaves x) ((x : RawTerm) × RawTermLeaves x) ((x : RawUnion) × RawUnionLeaves x)) → AreLeaves (expression_made (expression_parts y))
+expression-leaves : (y : ExprParts known) → AreLeaves (expression_made (expr_layer known y))
 expression-leaves (layer.Choice at test a b) r = both-leaves (condition_uses test.0 reading.Value) (expression_uses a.0 reading.Value ++ expression_uses b.0 reading.Value) (test.1 reading.Value) (both-leaves (expression_uses a.0 reading.Value) (expression_uses b.0 reading.Value) (a.1 reading.Value) (b.1 reading.Value))
 expression-leaves (layer.Sum s) r = s.1 r
 
-primary-leaves : (y : RawPrimary-F ((x : RawExpr) × RawExprLeaves x) ((x : RawPrimary) × RawPrimaryLeaves x) ((x : RawRef) × RawRefLeaves x) ((x : RawCand) × RawCandLeaves x) ((x : RawCmp) × RawCmpLeaves x) ((x : RawCond) × RawCondLeaves x) ((x : RawDiffer) × RawDifferLeaves x) ((x : RawMask) × RawMaskLeaves x) ((x : RawPrim) × RawPrimLeaves x) ((x : RawSum) × RawSumLeaves x) ((x : RawTerm) × RawTermLeaves x) ((x : RawUnion) × RawUnionLeaves x)) → AreLeaves (primary_made (primary_parts y))
+primary-leaves : (y : PrimaryParts known) → AreLeaves (primary_made (primary_layer known y))
 primary-leaves (layer.Number n) r = tt
 primary-leaves (layer.Octal n) r = tt
 primary-leaves (layer.Literal c) r = tt
@@ -217,84 +199,64 @@ primary-leaves (layer.Bracket at e) r = e.1 reading.Value
 primary-leaves (layer.Ref x) r = x.1 r
 primary-leaves (layer.Call n xs) r = both-leaves (uses_of n form.CallValue) (each_for reading.Argument (map expression_uses (map (λ e. e.0) xs))) (use-leaf n form.CallValue) (each-expression xs reading.Argument)
 
-reference-leaves : (y : RawRef-F ((x : RawExpr) × RawExprLeaves x) ((x : RawPrimary) × RawPrimaryLeaves x) ((x : RawRef) × RawRefLeaves x) ((x : RawCand) × RawCandLeaves x) ((x : RawCmp) × RawCmpLeaves x) ((x : RawCond) × RawCondLeaves x) ((x : RawDiffer) × RawDifferLeaves x) ((x : RawMask) × RawMaskLeaves x) ((x : RawPrim) × RawPrimLeaves x) ((x : RawSum) × RawSumLeaves x) ((x : RawTerm) × RawTermLeaves x) ((x : RawUnion) × RawUnionLeaves x)) → AreLeaves (reference_made (reference_parts y))
+reference-leaves : (y : RefParts known) → AreLeaves (reference_made (ref_layer known y))
 reference-leaves (layer.Name n) r = use-leaf n (form.Reference r 0)
 reference-leaves (layer.One n e) r = both-leaves (uses_of n (form.Reference (indexed r) 1)) (expression_uses e.0 reading.Value) (use-leaf n (form.Reference (indexed r) 1)) (e.1 reading.Value)
 reference-leaves (layer.Two n e g) r =
     both-leaves (uses_of n (form.Reference (indexed r) 2)) (expression_uses e.0 reading.Value ++ expression_uses g.0 reading.Value) (use-leaf n (form.Reference (indexed r) 2)) (both-leaves (expression_uses e.0 reading.Value) (expression_uses g.0 reading.Value) (e.1 reading.Value) (g.1 reading.Value))
 reference-leaves (layer.Bare at e) r = e.1 reading.Value
 
-conjunction-leaves : (y : RawCand-F ((x : RawExpr) × RawExprLeaves x) ((x : RawPrimary) × RawPrimaryLeaves x) ((x : RawRef) × RawRefLeaves x) ((x : RawCand) × RawCandLeaves x) ((x : RawCmp) × RawCmpLeaves x) ((x : RawCond) × RawCondLeaves x) ((x : RawDiffer) × RawDifferLeaves x) ((x : RawMask) × RawMaskLeaves x) ((x : RawPrim) × RawPrimLeaves x) ((x : RawSum) × RawSumLeaves x) ((x : RawTerm) × RawTermLeaves x) ((x : RawUnion) × RawUnionLeaves x)) → AreLeaves (conjunction_made (conjunction_parts y))
+conjunction-leaves : (y : CandParts known) → AreLeaves (conjunction_made (cand_layer known y))
 conjunction-leaves c r = each-comparison c.operands reading.Value
 
-comparison-leaves : (y : RawCmp-F ((x : RawExpr) × RawExprLeaves x) ((x : RawPrimary) × RawPrimaryLeaves x) ((x : RawRef) × RawRefLeaves x) ((x : RawCand) × RawCandLeaves x) ((x : RawCmp) × RawCmpLeaves x) ((x : RawCond) × RawCondLeaves x) ((x : RawDiffer) × RawDifferLeaves x) ((x : RawMask) × RawMaskLeaves x) ((x : RawPrim) × RawPrimLeaves x) ((x : RawSum) × RawSumLeaves x) ((x : RawTerm) × RawTermLeaves x) ((x : RawUnion) × RawUnionLeaves x)) → AreLeaves (comparison_made (comparison_parts y))
+comparison-leaves : (y : CmpParts known) → AreLeaves (comparison_made (cmp_layer known y))
 comparison-leaves c r = both-leaves (sum_uses c.left.0 reading.Value) (sum_uses c.right.0 reading.Value) (c.left.1 reading.Value) (c.right.1 reading.Value)
 
-condition-leaves : (y : RawCond-F ((x : RawExpr) × RawExprLeaves x) ((x : RawPrimary) × RawPrimaryLeaves x) ((x : RawRef) × RawRefLeaves x) ((x : RawCand) × RawCandLeaves x) ((x : RawCmp) × RawCmpLeaves x) ((x : RawCond) × RawCondLeaves x) ((x : RawDiffer) × RawDifferLeaves x) ((x : RawMask) × RawMaskLeaves x) ((x : RawPrim) × RawPrimLeaves x) ((x : RawSum) × RawSumLeaves x) ((x : RawTerm) × RawTermLeaves x) ((x : RawUnion) × RawUnionLeaves x)) → AreLeaves (condition_made (condition_parts y))
+condition-leaves : (y : CondParts known) → AreLeaves (condition_made (cond_layer known y))
 condition-leaves c r = each-conjunction c.operands reading.Value
 
-differ-leaves : (y : RawDiffer-F ((x : RawExpr) × RawExprLeaves x) ((x : RawPrimary) × RawPrimaryLeaves x) ((x : RawRef) × RawRefLeaves x) ((x : RawCand) × RawCandLeaves x) ((x : RawCmp) × RawCmpLeaves x) ((x : RawCond) × RawCondLeaves x) ((x : RawDiffer) × RawDifferLeaves x) ((x : RawMask) × RawMaskLeaves x) ((x : RawPrim) × RawPrimLeaves x) ((x : RawSum) × RawSumLeaves x) ((x : RawTerm) × RawTermLeaves x) ((x : RawUnion) × RawUnionLeaves x)) → AreLeaves (differ_made (differ_parts y))
+differ-leaves : (y : DifferParts known) → AreLeaves (differ_made (differ_layer known y))
 differ-leaves e r = each-union e.operands (reading_of r (length (map union_uses (map (λ x. x.0) e.operands)) == 1))
 
-mask-leaves : (y : RawMask-F ((x : RawExpr) × RawExprLeaves x) ((x : RawPrimary) × RawPrimaryLeaves x) ((x : RawRef) × RawRefLeaves x) ((x : RawCand) × RawCandLeaves x) ((x : RawCmp) × RawCmpLeaves x) ((x : RawCond) × RawCondLeaves x) ((x : RawDiffer) × RawDifferLeaves x) ((x : RawMask) × RawMaskLeaves x) ((x : RawPrim) × RawPrimLeaves x) ((x : RawSum) × RawSumLeaves x) ((x : RawTerm) × RawTermLeaves x) ((x : RawUnion) × RawUnionLeaves x)) → AreLeaves (mask_made (mask_parts y))
+mask-leaves : (y : MaskParts known) → AreLeaves (mask_made (mask_layer known y))
 mask-leaves e r = each-prim e.operands (reading_of r (length (map prim_uses (map (λ x. x.0) e.operands)) == 1))
 
-prim-leaves : (y : RawPrim-F ((x : RawExpr) × RawExprLeaves x) ((x : RawPrimary) × RawPrimaryLeaves x) ((x : RawRef) × RawRefLeaves x) ((x : RawCand) × RawCandLeaves x) ((x : RawCmp) × RawCmpLeaves x) ((x : RawCond) × RawCondLeaves x) ((x : RawDiffer) × RawDifferLeaves x) ((x : RawMask) × RawMaskLeaves x) ((x : RawPrim) × RawPrimLeaves x) ((x : RawSum) × RawSumLeaves x) ((x : RawTerm) × RawTermLeaves x) ((x : RawUnion) × RawUnionLeaves x)) → AreLeaves (prim_made (prim_parts y))
+prim-leaves : (y : PrimParts known) → AreLeaves (prim_made (prim_layer known y))
 prim-leaves e r = e.primary.1 (reading_of r (length e.bits == 0))
 
-sum-leaves : (y : RawSum-F ((x : RawExpr) × RawExprLeaves x) ((x : RawPrimary) × RawPrimaryLeaves x) ((x : RawRef) × RawRefLeaves x) ((x : RawCand) × RawCandLeaves x) ((x : RawCmp) × RawCmpLeaves x) ((x : RawCond) × RawCondLeaves x) ((x : RawDiffer) × RawDifferLeaves x) ((x : RawMask) × RawMaskLeaves x) ((x : RawPrim) × RawPrimLeaves x) ((x : RawSum) × RawSumLeaves x) ((x : RawTerm) × RawTermLeaves x) ((x : RawUnion) × RawUnionLeaves x)) → AreLeaves (sum_made (sum_parts y))
+sum-leaves : (y : SumParts known) → AreLeaves (sum_made (sum_layer known y))
 sum-leaves e r = each-term e.operands (reading_of r (length (map term_uses (map (λ x. x.0) e.operands)) == 1 && is_none e.sign))
 
-term-leaves : (y : RawTerm-F ((x : RawExpr) × RawExprLeaves x) ((x : RawPrimary) × RawPrimaryLeaves x) ((x : RawRef) × RawRefLeaves x) ((x : RawCand) × RawCandLeaves x) ((x : RawCmp) × RawCmpLeaves x) ((x : RawCond) × RawCondLeaves x) ((x : RawDiffer) × RawDifferLeaves x) ((x : RawMask) × RawMaskLeaves x) ((x : RawPrim) × RawPrimLeaves x) ((x : RawSum) × RawSumLeaves x) ((x : RawTerm) × RawTermLeaves x) ((x : RawUnion) × RawUnionLeaves x)) → AreLeaves (term_made (term_parts y))
+term-leaves : (y : TermParts known) → AreLeaves (term_made (term_layer known y))
 term-leaves e r = each-differ e.operands (reading_of r (length (map differ_uses (map (λ x. x.0) e.operands)) == 1))
 
-union-leaves : (y : RawUnion-F ((x : RawExpr) × RawExprLeaves x) ((x : RawPrimary) × RawPrimaryLeaves x) ((x : RawRef) × RawRefLeaves x) ((x : RawCand) × RawCandLeaves x) ((x : RawCmp) × RawCmpLeaves x) ((x : RawCond) × RawCondLeaves x) ((x : RawDiffer) × RawDifferLeaves x) ((x : RawMask) × RawMaskLeaves x) ((x : RawPrim) × RawPrimLeaves x) ((x : RawSum) × RawSumLeaves x) ((x : RawTerm) × RawTermLeaves x) ((x : RawUnion) × RawUnionLeaves x)) → AreLeaves (union_made (union_parts y))
+union-leaves : (y : UnionParts known) → AreLeaves (union_made (union_layer known y))
 union-leaves e r = each-mask e.operands (reading_of r (length (map mask_uses (map (λ x. x.0) e.operands)) == 1))
 
-expression-case : (x : RawExpr-F RawExpr RawPrimary RawRef RawCand RawCmp RawCond RawDiffer RawMask RawPrim RawSum RawTerm RawUnion) (y : RawExpr-F ((x : RawExpr) × RawExprLeaves x) ((x : RawPrimary) × RawPrimaryLeaves x) ((x : RawRef) × RawRefLeaves x) ((x : RawCand) × RawCandLeaves x) ((x : RawCmp) × RawCmpLeaves x) ((x : RawCond) × RawCondLeaves x) ((x : RawDiffer) × RawDifferLeaves x) ((x : RawMask) × RawMaskLeaves x) ((x : RawPrim) × RawPrimLeaves x) ((x : RawSum) × RawSumLeaves x) ((x : RawTerm) × RawTermLeaves x) ((x : RawUnion) × RawUnionLeaves x)) → expression_parts y ≡ x → RawExprLeaves (roll-RawExpr x)
-expression-case x y is = subst AreLeaves (sym (fold-roll-RawExpr Uses Uses Uses Uses Uses Uses Uses Uses Uses Uses Uses Uses expression_step primary_step reference_step conjunction_step comparison_step condition_step differ_step mask_step prim_step sum_step term_step union_step x)) (subst (λ z. AreLeaves (expression_made z)) is (expression-leaves y))
-
-primary-case : (x : RawPrimary-F RawExpr RawPrimary RawRef RawCand RawCmp RawCond RawDiffer RawMask RawPrim RawSum RawTerm RawUnion) (y : RawPrimary-F ((x : RawExpr) × RawExprLeaves x) ((x : RawPrimary) × RawPrimaryLeaves x) ((x : RawRef) × RawRefLeaves x) ((x : RawCand) × RawCandLeaves x) ((x : RawCmp) × RawCmpLeaves x) ((x : RawCond) × RawCondLeaves x) ((x : RawDiffer) × RawDifferLeaves x) ((x : RawMask) × RawMaskLeaves x) ((x : RawPrim) × RawPrimLeaves x) ((x : RawSum) × RawSumLeaves x) ((x : RawTerm) × RawTermLeaves x) ((x : RawUnion) × RawUnionLeaves x)) → primary_parts y ≡ x → RawPrimaryLeaves (roll-RawPrimary x)
-primary-case x y is = subst AreLeaves (sym (fold-roll-RawPrimary Uses Uses Uses Uses Uses Uses Uses Uses Uses Uses Uses Uses expression_step primary_step reference_step conjunction_step comparison_step condition_step differ_step mask_step prim_step sum_step term_step union_step x)) (subst (λ z. AreLeaves (primary_made z)) is (primary-leaves y))
-
-reference-case : (x : RawRef-F RawExpr RawPrimary RawRef RawCand RawCmp RawCond RawDiffer RawMask RawPrim RawSum RawTerm RawUnion) (y : RawRef-F ((x : RawExpr) × RawExprLeaves x) ((x : RawPrimary) × RawPrimaryLeaves x) ((x : RawRef) × RawRefLeaves x) ((x : RawCand) × RawCandLeaves x) ((x : RawCmp) × RawCmpLeaves x) ((x : RawCond) × RawCondLeaves x) ((x : RawDiffer) × RawDifferLeaves x) ((x : RawMask) × RawMaskLeaves x) ((x : RawPrim) × RawPrimLeaves x) ((x : RawSum) × RawSumLeaves x) ((x : RawTerm) × RawTermLeaves x) ((x : RawUnion) × RawUnionLeaves x)) → reference_parts y ≡ x → RawRefLeaves (roll-RawRef x)
-reference-case x y is = subst AreLeaves (sym (fold-roll-RawRef Uses Uses Uses Uses Uses Uses Uses Uses Uses Uses Uses Uses expression_step primary_step reference_step conjunction_step comparison_step condition_step differ_step mask_step prim_step sum_step term_step union_step x)) (subst (λ z. AreLeaves (reference_made z)) is (reference-leaves y))
-
-conjunction-case : (x : RawCand-F RawExpr RawPrimary RawRef RawCand RawCmp RawCond RawDiffer RawMask RawPrim RawSum RawTerm RawUnion) (y : RawCand-F ((x : RawExpr) × RawExprLeaves x) ((x : RawPrimary) × RawPrimaryLeaves x) ((x : RawRef) × RawRefLeaves x) ((x : RawCand) × RawCandLeaves x) ((x : RawCmp) × RawCmpLeaves x) ((x : RawCond) × RawCondLeaves x) ((x : RawDiffer) × RawDifferLeaves x) ((x : RawMask) × RawMaskLeaves x) ((x : RawPrim) × RawPrimLeaves x) ((x : RawSum) × RawSumLeaves x) ((x : RawTerm) × RawTermLeaves x) ((x : RawUnion) × RawUnionLeaves x)) → conjunction_parts y ≡ x → RawCandLeaves (roll-RawCand x)
-conjunction-case x y is = subst AreLeaves (sym (fold-roll-RawCand Uses Uses Uses Uses Uses Uses Uses Uses Uses Uses Uses Uses expression_step primary_step reference_step conjunction_step comparison_step condition_step differ_step mask_step prim_step sum_step term_step union_step x)) (subst (λ z. AreLeaves (conjunction_made z)) is (conjunction-leaves y))
-
-comparison-case : (x : RawCmp-F RawExpr RawPrimary RawRef RawCand RawCmp RawCond RawDiffer RawMask RawPrim RawSum RawTerm RawUnion) (y : RawCmp-F ((x : RawExpr) × RawExprLeaves x) ((x : RawPrimary) × RawPrimaryLeaves x) ((x : RawRef) × RawRefLeaves x) ((x : RawCand) × RawCandLeaves x) ((x : RawCmp) × RawCmpLeaves x) ((x : RawCond) × RawCondLeaves x) ((x : RawDiffer) × RawDifferLeaves x) ((x : RawMask) × RawMaskLeaves x) ((x : RawPrim) × RawPrimLeaves x) ((x : RawSum) × RawSumLeaves x) ((x : RawTerm) × RawTermLeaves x) ((x : RawUnion) × RawUnionLeaves x)) → comparison_parts y ≡ x → RawCmpLeaves (roll-RawCmp x)
-comparison-case x y is = subst AreLeaves (sym (fold-roll-RawCmp Uses Uses Uses Uses Uses Uses Uses Uses Uses Uses Uses Uses expression_step primary_step reference_step conjunction_step comparison_step condition_step differ_step mask_step prim_step sum_step term_step union_step x)) (subst (λ z. AreLeaves (comparison_made z)) is (comparison-leaves y))
-
-condition-case : (x : RawCond-F RawExpr RawPrimary RawRef RawCand RawCmp RawCond RawDiffer RawMask RawPrim RawSum RawTerm RawUnion) (y : RawCond-F ((x : RawExpr) × RawExprLeaves x) ((x : RawPrimary) × RawPrimaryLeaves x) ((x : RawRef) × RawRefLeaves x) ((x : RawCand) × RawCandLeaves x) ((x : RawCmp) × RawCmpLeaves x) ((x : RawCond) × RawCondLeaves x) ((x : RawDiffer) × RawDifferLeaves x) ((x : RawMask) × RawMaskLeaves x) ((x : RawPrim) × RawPrimLeaves x) ((x : RawSum) × RawSumLeaves x) ((x : RawTerm) × RawTermLeaves x) ((x : RawUnion) × RawUnionLeaves x)) → condition_parts y ≡ x → RawCondLeaves (roll-RawCond x)
-condition-case x y is = subst AreLeaves (sym (fold-roll-RawCond Uses Uses Uses Uses Uses Uses Uses Uses Uses Uses Uses Uses expression_step primary_step reference_step conjunction_step comparison_step condition_step differ_step mask_step prim_step sum_step term_step union_step x)) (subst (λ z. AreLeaves (condition_made z)) is (condition-leaves y))
-
-differ-case : (x : RawDiffer-F RawExpr RawPrimary RawRef RawCand RawCmp RawCond RawDiffer RawMask RawPrim RawSum RawTerm RawUnion) (y : RawDiffer-F ((x : RawExpr) × RawExprLeaves x) ((x : RawPrimary) × RawPrimaryLeaves x) ((x : RawRef) × RawRefLeaves x) ((x : RawCand) × RawCandLeaves x) ((x : RawCmp) × RawCmpLeaves x) ((x : RawCond) × RawCondLeaves x) ((x : RawDiffer) × RawDifferLeaves x) ((x : RawMask) × RawMaskLeaves x) ((x : RawPrim) × RawPrimLeaves x) ((x : RawSum) × RawSumLeaves x) ((x : RawTerm) × RawTermLeaves x) ((x : RawUnion) × RawUnionLeaves x)) → differ_parts y ≡ x → RawDifferLeaves (roll-RawDiffer x)
-differ-case x y is = subst AreLeaves (sym (fold-roll-RawDiffer Uses Uses Uses Uses Uses Uses Uses Uses Uses Uses Uses Uses expression_step primary_step reference_step conjunction_step comparison_step condition_step differ_step mask_step prim_step sum_step term_step union_step x)) (subst (λ z. AreLeaves (differ_made z)) is (differ-leaves y))
-
-mask-case : (x : RawMask-F RawExpr RawPrimary RawRef RawCand RawCmp RawCond RawDiffer RawMask RawPrim RawSum RawTerm RawUnion) (y : RawMask-F ((x : RawExpr) × RawExprLeaves x) ((x : RawPrimary) × RawPrimaryLeaves x) ((x : RawRef) × RawRefLeaves x) ((x : RawCand) × RawCandLeaves x) ((x : RawCmp) × RawCmpLeaves x) ((x : RawCond) × RawCondLeaves x) ((x : RawDiffer) × RawDifferLeaves x) ((x : RawMask) × RawMaskLeaves x) ((x : RawPrim) × RawPrimLeaves x) ((x : RawSum) × RawSumLeaves x) ((x : RawTerm) × RawTermLeaves x) ((x : RawUnion) × RawUnionLeaves x)) → mask_parts y ≡ x → RawMaskLeaves (roll-RawMask x)
-mask-case x y is = subst AreLeaves (sym (fold-roll-RawMask Uses Uses Uses Uses Uses Uses Uses Uses Uses Uses Uses Uses expression_step primary_step reference_step conjunction_step comparison_step condition_step differ_step mask_step prim_step sum_step term_step union_step x)) (subst (λ z. AreLeaves (mask_made z)) is (mask-leaves y))
-
-prim-case : (x : RawPrim-F RawExpr RawPrimary RawRef RawCand RawCmp RawCond RawDiffer RawMask RawPrim RawSum RawTerm RawUnion) (y : RawPrim-F ((x : RawExpr) × RawExprLeaves x) ((x : RawPrimary) × RawPrimaryLeaves x) ((x : RawRef) × RawRefLeaves x) ((x : RawCand) × RawCandLeaves x) ((x : RawCmp) × RawCmpLeaves x) ((x : RawCond) × RawCondLeaves x) ((x : RawDiffer) × RawDifferLeaves x) ((x : RawMask) × RawMaskLeaves x) ((x : RawPrim) × RawPrimLeaves x) ((x : RawSum) × RawSumLeaves x) ((x : RawTerm) × RawTermLeaves x) ((x : RawUnion) × RawUnionLeaves x)) → prim_parts y ≡ x → RawPrimLeaves (roll-RawPrim x)
-prim-case x y is = subst AreLeaves (sym (fold-roll-RawPrim Uses Uses Uses Uses Uses Uses Uses Uses Uses Uses Uses Uses expression_step primary_step reference_step conjunction_step comparison_step condition_step differ_step mask_step prim_step sum_step term_step union_step x)) (subst (λ z. AreLeaves (prim_made z)) is (prim-leaves y))
-
-sum-case : (x : RawSum-F RawExpr RawPrimary RawRef RawCand RawCmp RawCond RawDiffer RawMask RawPrim RawSum RawTerm RawUnion) (y : RawSum-F ((x : RawExpr) × RawExprLeaves x) ((x : RawPrimary) × RawPrimaryLeaves x) ((x : RawRef) × RawRefLeaves x) ((x : RawCand) × RawCandLeaves x) ((x : RawCmp) × RawCmpLeaves x) ((x : RawCond) × RawCondLeaves x) ((x : RawDiffer) × RawDifferLeaves x) ((x : RawMask) × RawMaskLeaves x) ((x : RawPrim) × RawPrimLeaves x) ((x : RawSum) × RawSumLeaves x) ((x : RawTerm) × RawTermLeaves x) ((x : RawUnion) × RawUnionLeaves x)) → sum_parts y ≡ x → RawSumLeaves (roll-RawSum x)
-sum-case x y is = subst AreLeaves (sym (fold-roll-RawSum Uses Uses Uses Uses Uses Uses Uses Uses Uses Uses Uses Uses expression_step primary_step reference_step conjunction_step comparison_step condition_step differ_step mask_step prim_step sum_step term_step union_step x)) (subst (λ z. AreLeaves (sum_made z)) is (sum-leaves y))
-
-term-case : (x : RawTerm-F RawExpr RawPrimary RawRef RawCand RawCmp RawCond RawDiffer RawMask RawPrim RawSum RawTerm RawUnion) (y : RawTerm-F ((x : RawExpr) × RawExprLeaves x) ((x : RawPrimary) × RawPrimaryLeaves x) ((x : RawRef) × RawRefLeaves x) ((x : RawCand) × RawCandLeaves x) ((x : RawCmp) × RawCmpLeaves x) ((x : RawCond) × RawCondLeaves x) ((x : RawDiffer) × RawDifferLeaves x) ((x : RawMask) × RawMaskLeaves x) ((x : RawPrim) × RawPrimLeaves x) ((x : RawSum) × RawSumLeaves x) ((x : RawTerm) × RawTermLeaves x) ((x : RawUnion) × RawUnionLeaves x)) → term_parts y ≡ x → RawTermLeaves (roll-RawTerm x)
-term-case x y is = subst AreLeaves (sym (fold-roll-RawTerm Uses Uses Uses Uses Uses Uses Uses Uses Uses Uses Uses Uses expression_step primary_step reference_step conjunction_step comparison_step condition_step differ_step mask_step prim_step sum_step term_step union_step x)) (subst (λ z. AreLeaves (term_made z)) is (term-leaves y))
-
-union-case : (x : RawUnion-F RawExpr RawPrimary RawRef RawCand RawCmp RawCond RawDiffer RawMask RawPrim RawSum RawTerm RawUnion) (y : RawUnion-F ((x : RawExpr) × RawExprLeaves x) ((x : RawPrimary) × RawPrimaryLeaves x) ((x : RawRef) × RawRefLeaves x) ((x : RawCand) × RawCandLeaves x) ((x : RawCmp) × RawCmpLeaves x) ((x : RawCond) × RawCondLeaves x) ((x : RawDiffer) × RawDifferLeaves x) ((x : RawMask) × RawMaskLeaves x) ((x : RawPrim) × RawPrimLeaves x) ((x : RawSum) × RawSumLeaves x) ((x : RawTerm) × RawTermLeaves x) ((x : RawUnion) × RawUnionLeaves x)) → union_parts y ≡ x → RawUnionLeaves (roll-RawUnion x)
-union-case x y is = subst AreLeaves (sym (fold-roll-RawUnion Uses Uses Uses Uses Uses Uses Uses Uses Uses Uses Uses Uses expression_step primary_step reference_step conjunction_step comparison_step condition_step differ_step mask_step prim_step sum_step term_step union_step x)) (subst (λ z. AreLeaves (union_made z)) is (union-leaves y))
+rules : Rules known
+rules = record {
+  expr = λ y. subst AreLeaves (sym (fold-roll-RawExpr Uses Uses Uses Uses Uses Uses Uses Uses Uses Uses Uses Uses expression_step primary_step reference_step conjunction_step comparison_step condition_step differ_step mask_step prim_step sum_step term_step union_step (expr_layer known y))) (expression-leaves y);
+  primary = λ y. subst AreLeaves (sym (fold-roll-RawPrimary Uses Uses Uses Uses Uses Uses Uses Uses Uses Uses Uses Uses expression_step primary_step reference_step conjunction_step comparison_step condition_step differ_step mask_step prim_step sum_step term_step union_step (primary_layer known y))) (primary-leaves y);
+  ref = λ y. subst AreLeaves (sym (fold-roll-RawRef Uses Uses Uses Uses Uses Uses Uses Uses Uses Uses Uses Uses expression_step primary_step reference_step conjunction_step comparison_step condition_step differ_step mask_step prim_step sum_step term_step union_step (ref_layer known y))) (reference-leaves y);
+  cand = λ y. subst AreLeaves (sym (fold-roll-RawCand Uses Uses Uses Uses Uses Uses Uses Uses Uses Uses Uses Uses expression_step primary_step reference_step conjunction_step comparison_step condition_step differ_step mask_step prim_step sum_step term_step union_step (cand_layer known y))) (conjunction-leaves y);
+  cmp = λ y. subst AreLeaves (sym (fold-roll-RawCmp Uses Uses Uses Uses Uses Uses Uses Uses Uses Uses Uses Uses expression_step primary_step reference_step conjunction_step comparison_step condition_step differ_step mask_step prim_step sum_step term_step union_step (cmp_layer known y))) (comparison-leaves y);
+  cond = λ y. subst AreLeaves (sym (fold-roll-RawCond Uses Uses Uses Uses Uses Uses Uses Uses Uses Uses Uses Uses expression_step primary_step reference_step conjunction_step comparison_step condition_step differ_step mask_step prim_step sum_step term_step union_step (cond_layer known y))) (condition-leaves y);
+  differ = λ y. subst AreLeaves (sym (fold-roll-RawDiffer Uses Uses Uses Uses Uses Uses Uses Uses Uses Uses Uses Uses expression_step primary_step reference_step conjunction_step comparison_step condition_step differ_step mask_step prim_step sum_step term_step union_step (differ_layer known y))) (differ-leaves y);
+  mask = λ y. subst AreLeaves (sym (fold-roll-RawMask Uses Uses Uses Uses Uses Uses Uses Uses Uses Uses Uses Uses expression_step primary_step reference_step conjunction_step comparison_step condition_step differ_step mask_step prim_step sum_step term_step union_step (mask_layer known y))) (mask-leaves y);
+  prim = λ y. subst AreLeaves (sym (fold-roll-RawPrim Uses Uses Uses Uses Uses Uses Uses Uses Uses Uses Uses Uses expression_step primary_step reference_step conjunction_step comparison_step condition_step differ_step mask_step prim_step sum_step term_step union_step (prim_layer known y))) (prim-leaves y);
+  sum = λ y. subst AreLeaves (sym (fold-roll-RawSum Uses Uses Uses Uses Uses Uses Uses Uses Uses Uses Uses Uses expression_step primary_step reference_step conjunction_step comparison_step condition_step differ_step mask_step prim_step sum_step term_step union_step (sum_layer known y))) (sum-leaves y);
+  term = λ y. subst AreLeaves (sym (fold-roll-RawTerm Uses Uses Uses Uses Uses Uses Uses Uses Uses Uses Uses Uses expression_step primary_step reference_step conjunction_step comparison_step condition_step differ_step mask_step prim_step sum_step term_step union_step (term_layer known y))) (term-leaves y);
+  union = λ y. subst AreLeaves (sym (fold-roll-RawUnion Uses Uses Uses Uses Uses Uses Uses Uses Uses Uses Uses Uses expression_step primary_step reference_step conjunction_step comparison_step condition_step differ_step mask_step prim_step sum_step term_step union_step (union_layer known y))) (union-leaves y);
+}
 
 pub expression_leaves : (x : RawExpr) → AreLeaves (expression_uses x)
-expression_leaves = ind-RawExpr RawExprLeaves RawPrimaryLeaves RawRefLeaves RawCandLeaves RawCmpLeaves RawCondLeaves RawDifferLeaves RawMaskLeaves RawPrimLeaves RawSumLeaves RawTermLeaves RawUnionLeaves expression-case primary-case reference-case conjunction-case comparison-case condition-case differ-case mask-case prim-case sum-case term-case union-case
+expression_leaves = each_expr known rules
 
 pub reference_leaves : (x : RawRef) → AreLeaves (reference_uses x)
-reference_leaves = ind-RawRef RawExprLeaves RawPrimaryLeaves RawRefLeaves RawCandLeaves RawCmpLeaves RawCondLeaves RawDifferLeaves RawMaskLeaves RawPrimLeaves RawSumLeaves RawTermLeaves RawUnionLeaves expression-case primary-case reference-case conjunction-case comparison-case condition-case differ-case mask-case prim-case sum-case term-case union-case
+reference_leaves = each_ref known rules
 
 pub condition_leaves : (x : RawCond) → AreLeaves (condition_uses x)
-condition_leaves = ind-RawCond RawExprLeaves RawPrimaryLeaves RawRefLeaves RawCandLeaves RawCmpLeaves RawCondLeaves RawDifferLeaves RawMaskLeaves RawPrimLeaves RawSumLeaves RawTermLeaves RawUnionLeaves expression-case primary-case reference-case conjunction-case comparison-case condition-case differ-case mask-case prim-case sum-case term-case union-case
+condition_leaves = each_cond known rules
 
 pub argument_leaves : (es : List RawExpr) → Each IsLeaf (argument_uses es)
 argument_leaves [] = tt

@@ -2,6 +2,7 @@
 use Rattle.std.proofs.Common.{◌≡◌, ℕ, zero, suc, ◌+◌, ◌≤◌, ◌<◌, List, [], ◌∷◌, ◌++◌, length, Some, slice_get, refl, sym, ap, subst, arith, ◌⊎◌, inl, inr}
 use Rattle.std.proofs.lemmas.Option.{none-some, same_Some}
 use Rattle.cw_sound.specs.Items.Derived.{IsRising}
+use Rattle.cw_macro.specs.Premises.{Each}
 
 -- ---- members
 
@@ -33,10 +34,6 @@ module _ {A : Type 0} where
   at-place [] i x e = absurd (none-some x e)
   at-place (y ∷ xs) zero x e = inl (sym (same_Some y x e))
   at-place (y ∷ xs) (suc i) x e = inr (at-place xs i x e)
-
-  abbrev pub Each : (A → Type 0) → List A → Type 0
-  Each P [] = Unit {0}
-  Each P (x ∷ xs) = P x × Each P xs
 
   pub each-append : (P : A → Type 0) (xs ys : List A) → Each P xs → Each P ys → Each P (xs ++ ys)
   each-append P [] ys h k = k
@@ -153,3 +150,11 @@ not-in-both n x (left {z = z} {zs = zs} h) r (inl e) j = let k = not-below (suc 
 not-in-both n x (left {z = z} h) r (inr i) j = not-in-both (suc z) x h r.1 i j
 not-in-both n x (right {z = z} {zs = zs} h) r i (inl e) = let k = not-below (suc z) zs x r.1 (within-in x (left-within h) i) in absurd (omega (arith, e, k))
 not-in-both n x (right {z = z} h) r i (inr j) = not-in-both (suc z) x h r.1 i j
+
+-- ---- of equal things
+
+pub moved_two : {A B : Type 0} (P : A → B → Type 0) {a b : A} {x y : B} → a ≡ b → x ≡ y → P b y → P a x
+moved_two P {b = b} {x = x} e f h = subst (λ z. P z x) (sym e) (subst (P b) (sym f) h)
+
+pub moved_three : {A B C : Type 0} (P : A → B → C → Type 0) {a b : A} {x y : B} {i j : C} → a ≡ b → x ≡ y → i ≡ j → P b y j → P a x i
+moved_three P {b = b} {x = x} {y = y} {i = i} e f g h = subst (λ z. P z x i) (sym e) (subst (λ z. P b z i) (sym f) (subst (P b y) (sym g) h))

@@ -19,7 +19,8 @@ use Rattle.cw_scope.specs.NameRules.{Said, said, said_step, all_faults, all_decl
 use Rattle.cw_scope.specs.Definitions.{Defined, defined, defined_step, each_own, each_listed, definition_faults, wrong_if, broken_rule, same_specified, fits_built_in_if, definitions_judged}
 use Rattle.cw_scope.specs.Resolved.{text_signatures}
 use Rattle.cw_scope.specs.Text.{text_fault}
-use Rattle.cw_sound.proofs.Items.Lists.{In, Each}
+use Rattle.cw_sound.proofs.Items.Lists.{In}
+use Rattle.cw_macro.specs.Premises.{Each}
 
 -- ---- no judgement loses a fault
 

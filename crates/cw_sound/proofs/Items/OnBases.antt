@@ -43,7 +43,7 @@ use Rattle.cw_sound.specs.Items.Derived.{IsRising, facts_tokens, HasRisingTokens
 use Rattle.cw_sound.specs.Items.Bodies.{MayName}
 use Rattle.cw_sound.specs.Items.Free.{PartsFree}
 use Rattle.cw_sound.specs.Items.Bases.{BaseStands, BasesStand}
-use Rattle.cw_sound.proofs.Items.Lists.{In, in-right, in-either, in-place, at-place, Each, each-append, each-in, from-in, within-in, rising-within, stands-before}
+use Rattle.cw_sound.proofs.Items.Lists.{In, in-right, in-either, in-place, at-place, each-append, each-in, from-in, within-in, rising-within, stands-before}
 use Rattle.cw_sound.proofs.Items.NameFaults.{names-fine}
 use Rattle.cw_sound.proofs.Items.Says.{declared, declared-append, tokens-append}
 use Rattle.cw_sound.proofs.Items.Naming.{listed-token}
@@ -51,37 +51,17 @@ use Rattle.cw_sound.proofs.Items.Numbering.{tokens_of_things, lower-before, row-
 use Rattle.cw_sound.proofs.Items.Stores.{Stores}
 use Rattle.cw_sound.proofs.Items.Trees.{block_stores}
 use Rattle.cw_sound.proofs.Items.Listing.{text-stores}
-use Rattle.cw_sound.proofs.Items.Keeping.{Keeps, keeps-fine, keeps-both, keeps-unless, keeps-declared, keeps-spec, keeps-specs, keeps-aitems, keeps-common, parts-free, holds}
-use Rattle.cw_sound.proofs.Items.KeepingStatements.{block_keeps}
 use Rattle.cw_sound.proofs.Items.Sound.{Sound, sound-parts, base-found}
 use Rattle.cw_sound.proofs.Items.Bases.{OfData, of-data, OnBase, HasBase, HasBases, EnvSeen, found-in, on-base, env-inside, token-in}
 use Rattle.cw_sound.proofs.Items.Overlays.{block_based}
 use Rattle.cw_sound.proofs.Items.Resolving.{row_tokens, facts-rows, each-found}
 use Rattle.cw_sound.proofs.Items.ListedData.{of-communicators, placed}
-
--- ---- judgements of communicators
+use Rattle.cw_sound.proofs.Statements.Keeping.{block_keeps}
+use Rattle.cw_sound.proofs.Expressions.Judging.{keeps_both, keeps_unless, both_free, holds}
+use Rattle.cw_sound.proofs.Items.Keeping.{keeps_declared, keeps_citems, keeps_communicators}
+use Rattle.cw_macro.specs.Premises.{Each}
 
 module _ (named : Named) (sites : List (Row Site)) (absolute : List (Row ℕ)) where
-  keeps-citem : (i : RawCitem) → Keeps (citem_judged named sites absolute i)
-  keeps-citem (citem.Data d) = keeps-declared sites d
-  keeps-citem (citem.Overlay at b d) = keeps-common named sites absolute b d
-  keeps-citem (citem.Label at ns) = keeps-fine
-  keeps-citem (citem.Switch at ns) = keeps-fine
-  keeps-citem (citem.Spec s) = keeps-spec s
-
-  pub keeps-citems : (is : List RawCitem) → Keeps (citems_judged named sites absolute is)
-  keeps-citems [] = keeps-fine
-  keeps-citems (i ∷ is) = keeps-both (keeps-citem i) (keeps-citems is)
-
-  keeps-communicator : (c : RawComm) → Keeps (communicator_judged named sites absolute c)
-  keeps-communicator (comm.Common at is) = keeps-citems is
-  keeps-communicator (comm.Library at ss) = keeps-specs ss
-  keeps-communicator (comm.Absolute at is) = keeps-aitems is
-
-  pub keeps-communicators : (cs : List RawComm) → Keeps (communicators_judged named sites absolute cs)
-  keeps-communicators [] = keeps-fine
-  keeps-communicators (c ∷ cs) = keeps-both (keeps-communicator c) (keeps-communicators cs)
-
   -- ---- overlays in COMMON
 
   module _ (all : List Thing) (top : List Declaration) where
@@ -114,8 +94,8 @@ module _ (named : Named) (sites : List (Row Site)) (absolute : List (Row ℕ)) w
     overlay-common env b d s seen known free =
         let n = base_name b in
         let base : Option Base = Some (base_at named b) in
-        let frees = parts-free (common_base_judged named absolute b) (declared_judged sites d) (keeps-declared sites d) free in
-        let halves = parts-free (base_judged named b) (unless (stands_in_common absolute (item_at named.uses n.at.token)) rule.BadOverlay n.at) (keeps-unless (stands_in_common absolute (item_at named.uses n.at.token)) rule.BadOverlay n.at) frees.0 in
+        let frees = both_free (common_base_judged named absolute b) (declared_judged sites d) (keeps_declared sites d) free in
+        let halves = both_free (base_judged named b) (unless (stands_in_common absolute (item_at named.uses n.at.token)) rule.BadOverlay n.at) (keeps_unless (stands_in_common absolute (item_at named.uses n.at.token)) rule.BadOverlay n.at) frees.0 in
         let stands : stands_in_common absolute (item_at named.uses n.at.token) ≡ true = holds (stands_in_common absolute (item_at named.uses n.at.token)) rule.BadOverlay n.at halves.1 in
         let found = base-found named env false n (sound-parts named env false (base_facts b) (data_facts d) s).0 in
         let clear : item_at absolute found.0.name.at.token ≡ None = none-free (item_at absolute found.0.name.at.token) (sym (ap (stands_in_common absolute) found.3) ∙ stands) in
@@ -145,7 +125,7 @@ module _ (named : Named) (sites : List (Row Site)) (absolute : List (Row ℕ)) w
       citems-common [] s free = tt
       citems-common (i ∷ is) s free =
           let parts = sound-parts named env false (citem_facts i) (citems_facts is) s in
-          let frees = parts-free (citem_judged named sites absolute i) (citems_judged named sites absolute is) (keeps-citems is) free in
+          let frees = both_free (citem_judged named sites absolute i) (citems_judged named sites absolute is) (keeps_citems named sites absolute is) free in
           each-append InCommon (citem_things named i) (citems_things named is) (citem-common i parts.0 frees.0) (citems-common is parts.1 frees.1)
 
       aitem-common : (i : RawAitem) → Each InCommon (aitem_things i)
@@ -166,7 +146,7 @@ module _ (named : Named) (sites : List (Row Site)) (absolute : List (Row ℕ)) w
       communicators-common [] s free = tt
       communicators-common (c ∷ cs) s free =
           let parts = sound-parts named env false (communicator_facts c) (communicators_facts cs) s in
-          let frees = parts-free (communicator_judged named sites absolute c) (communicators_judged named sites absolute cs) (keeps-communicators cs) free in
+          let frees = both_free (communicator_judged named sites absolute c) (communicators_judged named sites absolute cs) (keeps_communicators named sites absolute cs) free in
           each-append InCommon (communicator_things named c) (communicators_things named cs) (communicator-common c parts.0 frees.0) (communicators-common cs parts.1 frees.1)
 
 -- ---- the outermost block
@@ -209,9 +189,9 @@ parts-of-text named fine =
     let c = communicators_judged named sites (absolute_addresses named.raw.now.comms) named.raw.now.comms in
     let b = block_judged named sites named.raw.now.block in
     let kb = block_keeps named sites named.raw.now.block in
-    let kc = keeps-communicators named sites (absolute_addresses named.raw.now.comms) named.raw.now.comms in
-    let first = parts-free (things_judged nothing_known things) (both c b) (keeps-both kc kb) fine in
-    let rest = parts-free c b kb first.1 in
+    let kc = keeps_communicators named sites (absolute_addresses named.raw.now.comms) named.raw.now.comms in
+    let first = both_free (things_judged nothing_known things) (both c b) (keeps_both kc kb) fine in
+    let rest = both_free c b kb first.1 in
     record { things = first.0; communicators = rest.0; block = rest.1 }
 
 module _ (named : Named) (fine_names : first_name_fault named.raw.now ≡ None) (uses : named.uses ≡ resolutions_of named.raw.now) (fine_types : first_type_fault named ≡ None)

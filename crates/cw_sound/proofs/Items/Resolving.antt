@@ -10,8 +10,9 @@ use Rattle.cw_facts.specs.declared.fact.Use.{Use}
 use Rattle.cw_scope.specs.Scope.{Environment, declaration_of}
 use Rattle.cw_scope.specs.NameRules.{Said, said, said_step, all_resolved, within, resolutions}
 use Rattle.cw_sound.specs.Items.Derived.{IsRising, fact_tokens, facts_tokens, tokens_step, joined, declared_token}
-use Rattle.cw_sound.proofs.Items.Lists.{In, Each, from-in, not-below, Within, nothing, with, none-within, within-append}
+use Rattle.cw_sound.proofs.Items.Lists.{In, from-in, not-below, Within, nothing, with, none-within, within-append}
 use Rattle.cw_sound.proofs.Items.Numbering.{found-here, found-later}
+use Rattle.cw_macro.specs.Premises.{Each}
 
 abbrev pub row_tokens : {T : Type 0} → List (Row T) → List ℕ
 row_tokens rs = map (λ r. r.token) rs

@@ -13,9 +13,9 @@ use Rattle.cw_items.specs.Things.{capped, amount_or_none}
 use Rattle.cw_items.specs.Families.{Counts, count_in, with_count, site_on, site_by, site_of, Known, nothing_known, all_known, with_thing, thing_judged, things_judged, end_of, growth, area_with, with_area, with_site, has_room}
 use Rattle.cw_scale.specs.declared.fault.Rule.TheVariants as rule
 use Rattle.cw_sound.specs.Items.Derived.{IsRising}
-use Rattle.cw_sound.proofs.Items.Keeping.{Keeps, keeps-fine, keeps-both, keeps-unless, parts-free, holds}
 use Rattle.cw_sound.proofs.Items.Lists.{In, in-either}
 use Rattle.cw_sound.proofs.Items.Numbering.{tokens_of_things, found-here, found-later}
+use Rattle.cw_sound.proofs.Expressions.Judging.{Keeps, keeps_fine, keeps_both, keeps_unless, both_free, holds}
 
 -- ---- counts
 
@@ -229,13 +229,13 @@ orderly-first n = record { bounded = λ r i. absurd i; held = λ r i. absurd i; 
 
 -- ---- all things of a text
 
-keeps-things : (k : Known) (ts : List Thing) → Keeps (things_judged k ts)
-keeps-things k [] = keeps-fine
-keeps-things k (t ∷ ts) = keeps-both (keeps-unless (has_room k t (site_of k.sites t)) rule.TooMany t.at) (keeps-things (with_thing k t) ts)
+keeps_things : (k : Known) (ts : List Thing) → Keeps (things_judged k ts)
+keeps_things k [] = keeps_fine
+keeps_things k (t ∷ ts) = keeps_both (keeps_unless (has_room k t (site_of k.sites t)) rule.TooMany t.at) (keeps_things (with_thing k t) ts)
 
 pub room-of : (k : Known) (t : Thing) (ts : List Thing) → things_judged k (t ∷ ts) None ≡ None → (has_room k t (site_of k.sites t) ≡ true) × (things_judged (with_thing k t) ts None ≡ None)
 room-of k t ts free =
-    let parts = parts-free (thing_judged k t) (things_judged (with_thing k t) ts) (keeps-things (with_thing k t) ts) free in
+    let parts = both_free (thing_judged k t) (things_judged (with_thing k t) ts) (keeps_things (with_thing k t) ts) free in
     (holds (has_room k t (site_of k.sites t)) rule.TooMany t.at parts.0, parts.1)
 
 -- the site of the thing at a place

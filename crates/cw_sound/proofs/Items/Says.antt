@@ -15,7 +15,8 @@ use Rattle.cw_facts.specs.Facts.{declares, each_declares}
 use Rattle.cw_scope.specs.NameRules.{Said, said, said_step, all_declared}
 use Rattle.cw_scope.specs.Resolved.{fact_declarations, declarations_step, text_declarations}
 use Rattle.cw_sound.specs.Items.Derived.{fact_tokens, facts_tokens, tokens_step, declared_token}
-use Rattle.cw_sound.proofs.Items.Lists.{In, in-left, in-right, in-either, Each, each-append, Within, nothing, with, none-within, within-append}
+use Rattle.cw_sound.proofs.Items.Lists.{In, in-left, in-right, in-either, each-append, Within, nothing, with, none-within, within-append}
+use Rattle.cw_macro.specs.Premises.{Each}
 
 -- ---- joined facts
 

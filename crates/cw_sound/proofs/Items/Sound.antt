@@ -19,9 +19,10 @@ use Rattle.cw_scope.specs.Faults.{unless}
 use Rattle.cw_scope.specs.Scope.{Environment, declared_in, or_else, declaration_of}
 use Rattle.cw_scope.specs.NameRules.{Said, said, said_step, all_faults, all_resolved, within, use_faults, resolutions, is_data}
 use Rattle.cw_sound.specs.Items.Derived.{IsRising, fact_tokens, facts_tokens, tokens_step, Plain, all_plain, plain_within, plain_step, is_plain}
-use Rattle.cw_sound.proofs.Items.Lists.{Each, each-left, each-right, rising-left, rising-right}
+use Rattle.cw_sound.proofs.Items.Lists.{each-left, each-right, rising-left, rising-right}
 use Rattle.cw_sound.proofs.Items.NameFaults.{facts_last, nothing-before}
 use Rattle.cw_sound.proofs.Items.Says.{tokens-append}
+use Rattle.cw_macro.specs.Premises.{Each}
 
 first-true : (a b : Bool) → (a && b) ≡ true → a ≡ true
 first-true true b e = refl

@@ -35,13 +35,14 @@ use Rattle.cw_built.specs.Stored.{is_preset}
 use Rattle.cw_sound.specs.Items.Free.{PartsFree}
 use Rattle.cw_sound.proofs.Items.FittingText.{presets-within}
 use Rattle.cw_sound.specs.Items.Items.{things_of, IsStored, IsThere, ItemsStand, StorageStands}
-use Rattle.cw_sound.proofs.Items.Lists.{In, in-place, at-place, Each, each-in, from-in, rising-within, few-tokens, not-in-both}
+use Rattle.cw_sound.proofs.Items.Lists.{In, in-place, at-place, each-in, from-in, rising-within, few-tokens, not-in-both}
 use Rattle.cw_sound.proofs.Items.Naming.{few-descriptors}
 use Rattle.cw_sound.proofs.Items.Numbering.{found-later, token_of_thing, tokens_of_things, numbered-from, item-made, as-long, made-of}
 use Rattle.cw_sound.proofs.Items.Overlaying.{as-many, overlays-are, bases-below}
 use Rattle.cw_sound.proofs.Items.Storage.{Made, storable, reaches, has-words}
 use Rattle.cw_sound.proofs.Items.Stores.{Stores, Kept, IsLong}
 use Rattle.cw_sound.proofs.Items.Listing.{text-stores}
+use Rattle.cw_macro.specs.Premises.{Each}
 
 -- ---- what any body may name
 

@@ -43,11 +43,12 @@ use Rattle.cw_make_items.specs.Lookup.{Numbers}
 use Rattle.cw_make_items.specs.Items.{proc_of_owner}
 use Rattle.cw_sound.specs.Items.Derived.{fact_tokens, facts_tokens, tokens_step}
 use Rattle.cw_sound.specs.Items.Bodies.{Stored, stored_at, AllStored, is_other, declared_stored, stored_step, fact_stored, facts_stored}
-use Rattle.cw_sound.proofs.Items.Lists.{In, in-left, in-right, in-either, Each, each-append, each-left, each-right, Within, nothing, with, none-within, within-append, Merged, neither, left, right}
+use Rattle.cw_sound.proofs.Items.Lists.{In, in-left, in-right, in-either, each-append, each-left, each-right, Within, nothing, with, none-within, within-append, Merged, neither, left, right}
 use Rattle.cw_sound.proofs.Items.Apart.{Apart, apart-both, apart-none, apart-item, apart-fact, apart-one, apart-other, apart-block}
 use Rattle.cw_sound.proofs.Items.Leaf.{IsLeaf, IsLeafLayer}
 use Rattle.cw_sound.proofs.Items.Says.{HasToken, declared, declared-append, said-declares, tokens-append, tokens-declares}
 use Rattle.cw_sound.proofs.Items.Numbering.{tokens_of_things}
+use Rattle.cw_macro.specs.Premises.{Each}
 
 -- ---- each thing has a word
 

@@ -1,16 +1,14 @@
 -- What the statements of a text store.
-use Rattle.std.proofs.Common.{◌≡◌, List, [], ◌∷◌, ◌++◌, length, map, Bool, true, false, ◌||◌, not, ◌==◌, Option, Some, None, refl, sym, subst}
+use Rattle.std.proofs.Common.{List, [], ◌∷◌, ◌++◌, length, map, Bool, true, false, ◌||◌, not, ◌==◌, Option, Some, None, refl, ap}
 use Rattle.cw_tree.specs.declared.statement.RawFelem.{RawFelem}
 use Rattle.cw_tree.specs.declared.statement.RawFelem.TheVariants as felem
-use Rattle.cw_tree.specs.declared.statement.RawDecl.{RawDecl, roll-RawDecl}
-use Rattle.cw_tree.specs.declared.statement.RawForm.{RawForm, roll-RawForm}
-use Rattle.cw_tree.specs.declared.statement.RawSimple.{RawSimple, roll-RawSimple}
-use Rattle.cw_tree.specs.declared.statement.RawBlock.{RawBlock, roll-RawBlock}
-use Rattle.cw_tree.specs.declared.statement.RawProc.{RawProc, roll-RawProc}
-use Rattle.cw_tree.specs.declared.statement.RawStmt.{RawStmt, roll-RawStmt}
+use Rattle.cw_tree.specs.declared.statement.RawDecl.{RawDecl}
+use Rattle.cw_tree.specs.declared.statement.RawForm.{RawForm}
+use Rattle.cw_tree.specs.declared.statement.RawSimple.{RawSimple}
+use Rattle.cw_tree.specs.declared.statement.RawBlock.{RawBlock}
+use Rattle.cw_tree.specs.declared.statement.RawProc.{RawProc}
+use Rattle.cw_tree.specs.declared.statement.RawStmt.{RawStmt}
 use Rattle.cw_tree.specs.declared.statement.RawDecl.TheOpen as layer
-use Rattle.cw_tree.specs.declared.statement.RawDecl.TheOpen.{RawDecl-F, RawForm-F, RawSimple-F, RawBlock-F, RawProc-F, RawStmt-F}
-use Rattle.cw_tree.specs.declared.statement.RawDecl.TheFolds.{map-RawDecl, fold-roll-RawDecl, map-RawForm, fold-roll-RawForm, map-RawSimple, fold-roll-RawSimple, map-RawBlock, fold-roll-RawBlock, map-RawProc, fold-roll-RawProc, map-RawStmt, fold-roll-RawStmt, ind-RawBlock, ind-RawDecl, ind-RawStmt}
 use Rattle.cw_facts.specs.declared.fact.Fact.{Fact}
 use Rattle.cw_facts.specs.declared.fact.Fact.TheVariants as fact
 use Rattle.cw_facts.specs.declared.fact.Form.TheVariants as form
@@ -18,17 +16,20 @@ use Rattle.cw_facts.specs.declared.fact.Kind.TheVariants as kind
 use Rattle.cw_facts.specs.declared.fact.Reading.TheVariants as reading
 use Rattle.cw_facts.specs.Signatures.{flattened}
 use Rattle.cw_facts.specs.Uses.{uses_of, expression_uses, condition_uses, reference_uses, argument_uses}
-use Rattle.cw_facts.specs.Facts.{BlockFacts, joined, declares, specifies, each_declares, each_uses, parameters_facts, answer_facts, answer_name, felem_facts, felems_facts, enclosed, declaration_step, declaration_facts, form_step, form_facts, simple_step, simple_facts, block_step, block_facts, procedure_step, procedure_facts, statement_step, statement_facts}
+use Rattle.cw_facts.specs.Facts.{joined, declares, specifies, each_declares, each_uses, parameters_facts, answer_facts, answer_name, felem_facts, felems_facts, enclosed, declaration_facts, form_facts, simple_facts, block_facts, procedure_facts, statement_facts}
 use Rattle.cw_scope.specs.declared.resolve.Named.{Named}
 use Rattle.cw_items.specs.declared.thing.Owner.{Owner}
 use Rattle.cw_items.specs.declared.thing.Sort.TheVariants as sort
-use Rattle.cw_items.specs.Things.{Things, joined as joined_things, thing, texts, base_at, parameters_things, felem_things, felems_things, is_recursive, declaration_step as declaration_thing_step, declaration_things, form_step as form_thing_step, form_things, simple_step as simple_thing_step, simple_things, block_step as block_thing_step, block_things, procedure_step as procedure_thing_step, procedure_things, statement_step as statement_thing_step, statement_things}
+use Rattle.cw_items.specs.Things.{Things, joined as joined_things, thing, texts, base_at, parameters_things, felem_things, felems_things, is_recursive, declaration_things, form_things, simple_things, block_things, procedure_things, statement_things}
 use Rattle.cw_make_items.specs.Lookup.{Numbers}
 use Rattle.cw_sound.specs.Items.Bodies.{Stored}
-use Rattle.cw_sound.proofs.Items.Lists.{Each, each-append}
+use Rattle.cw_sound.proofs.Items.Lists.{each-append, moved_two}
 use Rattle.cw_sound.proofs.Items.Leaf.{IsLeaf}
 use Rattle.cw_sound.proofs.Items.Leaves.{expression_leaves, condition_leaves, reference_leaves, argument_leaves}
 use Rattle.cw_sound.proofs.Items.Stores.{Stores, stores-both, stores-none, stores-other, stores-others, stores-use, stores-uses, stores-specification, stores-loop, stores-block, stores-procedure, stores-data, stores-overlay, stores-parameters, stores-answer, stores-texts}
+use Rattle.cw_macro.specs.Premises.{Each}
+use Rattle.cw_sound.proofs.Statements.Layers.{Known, WithDecl, WithStmt, DeclParts, FormParts, SimpleParts, BlockParts, ProcParts, StmtParts, decl_layer, form_layer, simple_layer, block_layer, proc_layer, stmt_layer, Rules, each_decl, each_block, each_stmt}
+use Rattle.cw_sound.proofs.Statements.Folds.{decl_layer_facts, form_layer_facts, simple_layer_facts, block_layer_facts, proc_layer_facts, stmt_layer_facts, decl_layer_things, form_layer_things, simple_layer_things, block_layer_things, proc_layer_things, stmt_layer_things, facts_decl, facts_form, facts_simple, facts_block, facts_proc, facts_stmt, things_decl, things_form, things_simple, things_block, things_proc, things_stmt}
 
 module _ (H : Stored → Type 0) (numbers : Numbers) (named : Named) where
   abbrev pub Parts : List Fact → Things → Type 0
@@ -52,66 +53,15 @@ module _ (H : Stored → Type 0) (numbers : Numbers) (named : Named) where
   abbrev pub RawStmtStores : RawStmt → Type 0
   RawStmtStores x = Parts (statement_facts x) (statement_things named x)
 
-  abbrev declaration_made : RawDecl-F RawDecl RawForm RawSimple RawBlock RawProc RawStmt → List Fact
-  declaration_made x = declaration_step (map-RawDecl RawDecl RawForm RawSimple RawBlock RawProc RawStmt (List Fact) (List Fact) (List Fact) BlockFacts (List Fact) (List Fact) declaration_facts form_facts simple_facts block_facts procedure_facts statement_facts x)
+  abbrev known : Known
+  known = record { Decl = RawDeclStores; Form = RawFormStores; Simple = RawSimpleStores; Block = RawBlockStores; Proc = RawProcStores; Stmt = RawStmtStores }
 
-  abbrev declaration_stored : RawDecl-F RawDecl RawForm RawSimple RawBlock RawProc RawStmt → Things
-  declaration_stored x = declaration_thing_step named (map-RawDecl RawDecl RawForm RawSimple RawBlock RawProc RawStmt Things Things Things Things Things Things (declaration_things named) (form_things named) (simple_things named) (block_things named) (procedure_things named) (statement_things named) x)
-
-  abbrev declaration_parts : RawDecl-F ((x : RawDecl) × RawDeclStores x) ((x : RawForm) × RawFormStores x) ((x : RawSimple) × RawSimpleStores x) ((x : RawBlock) × RawBlockStores x) ((x : RawProc) × RawProcStores x) ((x : RawStmt) × RawStmtStores x) → RawDecl-F RawDecl RawForm RawSimple RawBlock RawProc RawStmt
-  declaration_parts y = map-RawDecl ((x : RawDecl) × RawDeclStores x) ((x : RawForm) × RawFormStores x) ((x : RawSimple) × RawSimpleStores x) ((x : RawBlock) × RawBlockStores x) ((x : RawProc) × RawProcStores x) ((x : RawStmt) × RawStmtStores x) RawDecl RawForm RawSimple RawBlock RawProc RawStmt (λ e. e.0) (λ e. e.0) (λ e. e.0) (λ e. e.0) (λ e. e.0) (λ e. e.0) y
-
-  abbrev form_made : RawForm-F RawDecl RawForm RawSimple RawBlock RawProc RawStmt → List Fact
-  form_made x = form_step (map-RawForm RawDecl RawForm RawSimple RawBlock RawProc RawStmt (List Fact) (List Fact) (List Fact) BlockFacts (List Fact) (List Fact) declaration_facts form_facts simple_facts block_facts procedure_facts statement_facts x)
-
-  abbrev form_stored : RawForm-F RawDecl RawForm RawSimple RawBlock RawProc RawStmt → Things
-  form_stored x = form_thing_step named (map-RawForm RawDecl RawForm RawSimple RawBlock RawProc RawStmt Things Things Things Things Things Things (declaration_things named) (form_things named) (simple_things named) (block_things named) (procedure_things named) (statement_things named) x)
-
-  abbrev form_parts : RawForm-F ((x : RawDecl) × RawDeclStores x) ((x : RawForm) × RawFormStores x) ((x : RawSimple) × RawSimpleStores x) ((x : RawBlock) × RawBlockStores x) ((x : RawProc) × RawProcStores x) ((x : RawStmt) × RawStmtStores x) → RawForm-F RawDecl RawForm RawSimple RawBlock RawProc RawStmt
-  form_parts y = map-RawForm ((x : RawDecl) × RawDeclStores x) ((x : RawForm) × RawFormStores x) ((x : RawSimple) × RawSimpleStores x) ((x : RawBlock) × RawBlockStores x) ((x : RawProc) × RawProcStores x) ((x : RawStmt) × RawStmtStores x) RawDecl RawForm RawSimple RawBlock RawProc RawStmt (λ e. e.0) (λ e. e.0) (λ e. e.0) (λ e. e.0) (λ e. e.0) (λ e. e.0) y
-
-  abbrev simple_made : RawSimple-F RawDecl RawForm RawSimple RawBlock RawProc RawStmt → List Fact
-  simple_made x = simple_step (map-RawSimple RawDecl RawForm RawSimple RawBlock RawProc RawStmt (List Fact) (List Fact) (List Fact) BlockFacts (List Fact) (List Fact) declaration_facts form_facts simple_facts block_facts procedure_facts statement_facts x)
-
-  abbrev simple_stored : RawSimple-F RawDecl RawForm RawSimple RawBlock RawProc RawStmt → Things
-  simple_stored x = simple_thing_step named (map-RawSimple RawDecl RawForm RawSimple RawBlock RawProc RawStmt Things Things Things Things Things Things (declaration_things named) (form_things named) (simple_things named) (block_things named) (procedure_things named) (statement_things named) x)
-
-  abbrev simple_parts : RawSimple-F ((x : RawDecl) × RawDeclStores x) ((x : RawForm) × RawFormStores x) ((x : RawSimple) × RawSimpleStores x) ((x : RawBlock) × RawBlockStores x) ((x : RawProc) × RawProcStores x) ((x : RawStmt) × RawStmtStores x) → RawSimple-F RawDecl RawForm RawSimple RawBlock RawProc RawStmt
-  simple_parts y = map-RawSimple ((x : RawDecl) × RawDeclStores x) ((x : RawForm) × RawFormStores x) ((x : RawSimple) × RawSimpleStores x) ((x : RawBlock) × RawBlockStores x) ((x : RawProc) × RawProcStores x) ((x : RawStmt) × RawStmtStores x) RawDecl RawForm RawSimple RawBlock RawProc RawStmt (λ e. e.0) (λ e. e.0) (λ e. e.0) (λ e. e.0) (λ e. e.0) (λ e. e.0) y
-
-  abbrev block_made : RawBlock-F RawDecl RawForm RawSimple RawBlock RawProc RawStmt → BlockFacts
-  block_made x = block_step (map-RawBlock RawDecl RawForm RawSimple RawBlock RawProc RawStmt (List Fact) (List Fact) (List Fact) BlockFacts (List Fact) (List Fact) declaration_facts form_facts simple_facts block_facts procedure_facts statement_facts x)
-
-  abbrev block_stored : RawBlock-F RawDecl RawForm RawSimple RawBlock RawProc RawStmt → Things
-  block_stored x = block_thing_step named (map-RawBlock RawDecl RawForm RawSimple RawBlock RawProc RawStmt Things Things Things Things Things Things (declaration_things named) (form_things named) (simple_things named) (block_things named) (procedure_things named) (statement_things named) x)
-
-  abbrev block_parts : RawBlock-F ((x : RawDecl) × RawDeclStores x) ((x : RawForm) × RawFormStores x) ((x : RawSimple) × RawSimpleStores x) ((x : RawBlock) × RawBlockStores x) ((x : RawProc) × RawProcStores x) ((x : RawStmt) × RawStmtStores x) → RawBlock-F RawDecl RawForm RawSimple RawBlock RawProc RawStmt
-  block_parts y = map-RawBlock ((x : RawDecl) × RawDeclStores x) ((x : RawForm) × RawFormStores x) ((x : RawSimple) × RawSimpleStores x) ((x : RawBlock) × RawBlockStores x) ((x : RawProc) × RawProcStores x) ((x : RawStmt) × RawStmtStores x) RawDecl RawForm RawSimple RawBlock RawProc RawStmt (λ e. e.0) (λ e. e.0) (λ e. e.0) (λ e. e.0) (λ e. e.0) (λ e. e.0) y
-
-  abbrev procedure_made : RawProc-F RawDecl RawForm RawSimple RawBlock RawProc RawStmt → List Fact
-  procedure_made x = procedure_step (map-RawProc RawDecl RawForm RawSimple RawBlock RawProc RawStmt (List Fact) (List Fact) (List Fact) BlockFacts (List Fact) (List Fact) declaration_facts form_facts simple_facts block_facts procedure_facts statement_facts x)
-
-  abbrev procedure_stored : RawProc-F RawDecl RawForm RawSimple RawBlock RawProc RawStmt → Things
-  procedure_stored x = procedure_thing_step named (map-RawProc RawDecl RawForm RawSimple RawBlock RawProc RawStmt Things Things Things Things Things Things (declaration_things named) (form_things named) (simple_things named) (block_things named) (procedure_things named) (statement_things named) x)
-
-  abbrev procedure_parts : RawProc-F ((x : RawDecl) × RawDeclStores x) ((x : RawForm) × RawFormStores x) ((x : RawSimple) × RawSimpleStores x) ((x : RawBlock) × RawBlockStores x) ((x : RawProc) × RawProcStores x) ((x : RawStmt) × RawStmtStores x) → RawProc-F RawDecl RawForm RawSimple RawBlock RawProc RawStmt
-  procedure_parts y = map-RawProc ((x : RawDecl) × RawDeclStores x) ((x : RawForm) × RawFormStores x) ((x : RawSimple) × RawSimpleStores x) ((x : RawBlock) × RawBlockStores x) ((x : RawProc) × RawProcStores x) ((x : RawStmt) × RawStmtStores x) RawDecl RawForm RawSimple RawBlock RawProc RawStmt (λ e. e.0) (λ e. e.0) (λ e. e.0) (λ e. e.0) (λ e. e.0) (λ e. e.0) y
-
-  abbrev statement_made : RawStmt-F RawDecl RawForm RawSimple RawBlock RawProc RawStmt → List Fact
-  statement_made x = statement_step (map-RawStmt RawDecl RawForm RawSimple RawBlock RawProc RawStmt (List Fact) (List Fact) (List Fact) BlockFacts (List Fact) (List Fact) declaration_facts form_facts simple_facts block_facts procedure_facts statement_facts x)
-
-  abbrev statement_stored : RawStmt-F RawDecl RawForm RawSimple RawBlock RawProc RawStmt → Things
-  statement_stored x = statement_thing_step named (map-RawStmt RawDecl RawForm RawSimple RawBlock RawProc RawStmt Things Things Things Things Things Things (declaration_things named) (form_things named) (simple_things named) (block_things named) (procedure_things named) (statement_things named) x)
-
-  abbrev statement_parts : RawStmt-F ((x : RawDecl) × RawDeclStores x) ((x : RawForm) × RawFormStores x) ((x : RawSimple) × RawSimpleStores x) ((x : RawBlock) × RawBlockStores x) ((x : RawProc) × RawProcStores x) ((x : RawStmt) × RawStmtStores x) → RawStmt-F RawDecl RawForm RawSimple RawBlock RawProc RawStmt
-  statement_parts y = map-RawStmt ((x : RawDecl) × RawDeclStores x) ((x : RawForm) × RawFormStores x) ((x : RawSimple) × RawSimpleStores x) ((x : RawBlock) × RawBlockStores x) ((x : RawProc) × RawProcStores x) ((x : RawStmt) × RawStmtStores x) RawDecl RawForm RawSimple RawBlock RawProc RawStmt (λ e. e.0) (λ e. e.0) (λ e. e.0) (λ e. e.0) (λ e. e.0) (λ e. e.0) y
-
-  declarations-store : (xs : List ((x : RawDecl) × RawDeclStores x)) → Parts (joined (map declaration_facts (map (λ e. e.0) xs))) (joined_things (map (declaration_things named) (map (λ e. e.0) xs)))
+  declarations-store : (xs : List (WithDecl known)) → Parts (joined (map declaration_facts (map (λ e. e.0) xs))) (joined_things (map (declaration_things named) (map (λ e. e.0) xs)))
   declarations-store [] o = stores-none H numbers o
   declarations-store (x ∷ xs) o =
       stores-both H numbers o (declaration_facts x.0) (joined (map declaration_facts (map (λ e. e.0) xs))) (declaration_things named x.0 o) (joined_things (map (declaration_things named) (map (λ e. e.0) xs)) o) (x.1 o) (declarations-store xs o)
 
-  statements-store : (xs : List ((x : RawStmt) × RawStmtStores x)) → Parts (joined (map statement_facts (map (λ e. e.0) xs))) (joined_things (map (statement_things named) (map (λ e. e.0) xs)))
+  statements-store : (xs : List (WithStmt known)) → Parts (joined (map statement_facts (map (λ e. e.0) xs))) (joined_things (map (statement_things named) (map (λ e. e.0) xs)))
   statements-store [] o = stores-none H numbers o
   statements-store (x ∷ xs) o =
       stores-both H numbers o (statement_facts x.0) (joined (map statement_facts (map (λ e. e.0) xs))) (statement_things named x.0 o) (joined_things (map (statement_things named) (map (λ e. e.0) xs)) o) (x.1 o) (statements-store xs o)
@@ -134,13 +84,13 @@ module _ (H : Stored → Type 0) (numbers : Numbers) (named : Named) where
   enclosed-store true facts ts h o = stores-block H numbers o facts (ts o) (h o)
   enclosed-store false facts ts h o = h o
 
-  declaration-stores : (y : RawDecl-F ((x : RawDecl) × RawDeclStores x) ((x : RawForm) × RawFormStores x) ((x : RawSimple) × RawSimpleStores x) ((x : RawBlock) × RawBlockStores x) ((x : RawProc) × RawProcStores x) ((x : RawStmt) × RawStmtStores x)) → Parts (declaration_made (declaration_parts y)) (declaration_stored (declaration_parts y))
+  declaration-stores : (y : DeclParts known) → Parts (decl_layer_facts (decl_layer known y)) (decl_layer_things named (decl_layer known y))
   declaration-stores (layer.Data d) o = stores-data H numbers o None d
   declaration-stores (layer.Overlay at b d) o = stores-overlay H numbers o b (Some (base_at named b)) d
   declaration-stores (layer.Switch at n labels) o = stores-both H numbers o (declares n kind.Switch ∷ []) (each_uses labels) [] [] (stores-other H numbers o kind.Switch n ((λ who token. tt), refl)) (stores-uses H numbers o labels)
   declaration-stores (layer.Proc p) o = p.1 o
 
-  form-stores : (y : RawForm-F ((x : RawDecl) × RawDeclStores x) ((x : RawForm) × RawFormStores x) ((x : RawSimple) × RawSimpleStores x) ((x : RawBlock) × RawBlockStores x) ((x : RawProc) × RawProcStores x) ((x : RawStmt) × RawStmtStores x)) → Parts (form_made (form_parts y)) (form_stored (form_parts y))
+  form-stores : (y : FormParts known) → Parts (form_layer_facts (form_layer known y)) (form_layer_things named (form_layer known y))
   form-stores (layer.Simple s) o = s.1 o
   form-stores (layer.If at test labels first None) o =
       stores-both H numbers o (condition_uses test reading.Value) (each_declares kind.Label labels ++ (simple_facts first.0 ++ [])) (texts o (condition_uses test reading.Value)) (simple_things named first.0 o ++ [])
@@ -159,7 +109,7 @@ module _ (H : Stored → Type 0) (numbers : Numbers) (named : Named) where
       (stores-texts H numbers o (reference_uses variable reading.Whole) (reference_leaves variable reading.Whole))
       (stores-both H numbers o (felems_facts elems) (statement_facts body.0) (felems_things elems o) (statement_things named body.0 o) (felems-store elems o) (body.1 o)))
 
-  simple-stores : (y : RawSimple-F ((x : RawDecl) × RawDeclStores x) ((x : RawForm) × RawFormStores x) ((x : RawSimple) × RawSimpleStores x) ((x : RawBlock) × RawBlockStores x) ((x : RawProc) × RawProcStores x) ((x : RawStmt) × RawStmtStores x)) → Parts (simple_made (simple_parts y)) (simple_stored (simple_parts y))
+  simple-stores : (y : SimpleParts known) → Parts (simple_layer_facts (simple_layer known y)) (simple_layer_things named (simple_layer known y))
   simple-stores layer.Empty o = stores-none H numbers o
   simple-stores (layer.Assign r e) o = two-texts (reference_uses r reading.Target) (expression_uses e reading.Value) (reference_leaves r reading.Target) (expression_leaves e reading.Value) o
   simple-stores (layer.AssignBits bits r e) o = two-texts (reference_uses r reading.Whole) (expression_uses e reading.Value) (reference_leaves r reading.Whole) (expression_leaves e reading.Value) o
@@ -172,7 +122,7 @@ module _ (H : Stored → Type 0) (numbers : Numbers) (named : Named) where
       (stores-texts H numbers o (expression_uses e reading.Value) (expression_leaves e reading.Value))
   simple-stores (layer.Block b) o = b.1 false o
 
-  block-stores : (y : RawBlock-F ((x : RawDecl) × RawDeclStores x) ((x : RawForm) × RawFormStores x) ((x : RawSimple) × RawSimpleStores x) ((x : RawBlock) × RawBlockStores x) ((x : RawProc) × RawProcStores x) ((x : RawStmt) × RawStmtStores x)) (outermost : Bool) → Parts (block_made (block_parts y) outermost) (block_stored (block_parts y))
+  block-stores : (y : BlockParts known) (outermost : Bool) → Parts (block_layer_facts (block_layer known y) outermost) (block_layer_things named (block_layer known y))
   block-stores b outermost =
       let ds = map (λ e. e.0) b.decls in
       let ss = map (λ e. e.0) b.stmts in
@@ -181,7 +131,7 @@ module _ (H : Stored → Type 0) (numbers : Numbers) (named : Named) where
       (λ o.
       stores-both H numbers o (joined (map declaration_facts ds)) (joined (map statement_facts ss)) (joined_things (map (declaration_things named) ds) o) (joined_things (map (statement_things named) ss) o) (declarations-store b.decls o) (statements-store b.stmts o))
 
-  procedure-stores : (y : RawProc-F ((x : RawDecl) × RawDeclStores x) ((x : RawForm) × RawFormStores x) ((x : RawSimple) × RawSimpleStores x) ((x : RawBlock) × RawBlockStores x) ((x : RawProc) × RawProcStores x) ((x : RawStmt) × RawStmtStores x)) → Parts (procedure_made (procedure_parts y)) (procedure_stored (procedure_parts y))
+  procedure-stores : (y : ProcParts known) → Parts (proc_layer_facts (proc_layer known y)) (proc_layer_things named (proc_layer known y))
   procedure-stores p o =
       let w : Owner = record { token = p.name.at.token; recursive = is_recursive p.tag } in
       let inside = answer_facts p.answer ++ (parameters_facts p.params ++ statement_facts p.body.0) in
@@ -192,54 +142,28 @@ module _ (H : Stored → Type 0) (numbers : Numbers) (named : Named) where
       (stores-both H numbers (Some w) (answer_facts p.answer) (parameters_facts p.params ++ statement_facts p.body.0) [] things (stores-answer H numbers (Some w) p.answer)
       (stores-both H numbers (Some w) (parameters_facts p.params) (statement_facts p.body.0) (parameters_things (Some w) p.params) (statement_things named p.body.0 (Some w)) (stores-parameters H numbers (Some w) p.params) (p.body.1 (Some w))))))
 
-  statement-stores : (y : RawStmt-F ((x : RawDecl) × RawDeclStores x) ((x : RawForm) × RawFormStores x) ((x : RawSimple) × RawSimpleStores x) ((x : RawBlock) × RawBlockStores x) ((x : RawProc) × RawProcStores x) ((x : RawStmt) × RawStmtStores x)) → Parts (statement_made (statement_parts y)) (statement_stored (statement_parts y))
+  statement-stores : (y : StmtParts known) → Parts (stmt_layer_facts (stmt_layer known y)) (stmt_layer_things named (stmt_layer known y))
   statement-stores s o =
       stores-both H numbers o (each_declares kind.Label s.labels) (form_facts s.form.0) [] (form_things named s.form.0 o) (stores-others H numbers o kind.Label s.labels ((λ who token. tt), refl)) (s.form.1 o)
 
-  declaration-case : (x : RawDecl-F RawDecl RawForm RawSimple RawBlock RawProc RawStmt) (y : RawDecl-F ((x : RawDecl) × RawDeclStores x) ((x : RawForm) × RawFormStores x) ((x : RawSimple) × RawSimpleStores x) ((x : RawBlock) × RawBlockStores x) ((x : RawProc) × RawProcStores x) ((x : RawStmt) × RawStmtStores x)) → declaration_parts y ≡ x → RawDeclStores (roll-RawDecl x)
-  declaration-case x y is =
-      subst (λ f. Parts f (declaration_things named (roll-RawDecl x))) (sym (fold-roll-RawDecl (List Fact) (List Fact) (List Fact) BlockFacts (List Fact) (List Fact) declaration_step form_step simple_step block_step procedure_step statement_step x))
-      (subst (λ ts. Parts (declaration_made x) ts) (sym (fold-roll-RawDecl Things Things Things Things Things Things (declaration_thing_step named) (form_thing_step named) (simple_thing_step named) (block_thing_step named) (procedure_thing_step named) (statement_thing_step named) x))
-      (subst (λ z. Parts (declaration_made z) (declaration_stored z)) is (declaration-stores y)))
-
-  form-case : (x : RawForm-F RawDecl RawForm RawSimple RawBlock RawProc RawStmt) (y : RawForm-F ((x : RawDecl) × RawDeclStores x) ((x : RawForm) × RawFormStores x) ((x : RawSimple) × RawSimpleStores x) ((x : RawBlock) × RawBlockStores x) ((x : RawProc) × RawProcStores x) ((x : RawStmt) × RawStmtStores x)) → form_parts y ≡ x → RawFormStores (roll-RawForm x)
-  form-case x y is =
-      subst (λ f. Parts f (form_things named (roll-RawForm x))) (sym (fold-roll-RawForm (List Fact) (List Fact) (List Fact) BlockFacts (List Fact) (List Fact) declaration_step form_step simple_step block_step procedure_step statement_step x))
-      (subst (λ ts. Parts (form_made x) ts) (sym (fold-roll-RawForm Things Things Things Things Things Things (declaration_thing_step named) (form_thing_step named) (simple_thing_step named) (block_thing_step named) (procedure_thing_step named) (statement_thing_step named) x))
-      (subst (λ z. Parts (form_made z) (form_stored z)) is (form-stores y)))
-
-  simple-case : (x : RawSimple-F RawDecl RawForm RawSimple RawBlock RawProc RawStmt) (y : RawSimple-F ((x : RawDecl) × RawDeclStores x) ((x : RawForm) × RawFormStores x) ((x : RawSimple) × RawSimpleStores x) ((x : RawBlock) × RawBlockStores x) ((x : RawProc) × RawProcStores x) ((x : RawStmt) × RawStmtStores x)) → simple_parts y ≡ x → RawSimpleStores (roll-RawSimple x)
-  simple-case x y is =
-      subst (λ f. Parts f (simple_things named (roll-RawSimple x))) (sym (fold-roll-RawSimple (List Fact) (List Fact) (List Fact) BlockFacts (List Fact) (List Fact) declaration_step form_step simple_step block_step procedure_step statement_step x))
-      (subst (λ ts. Parts (simple_made x) ts) (sym (fold-roll-RawSimple Things Things Things Things Things Things (declaration_thing_step named) (form_thing_step named) (simple_thing_step named) (block_thing_step named) (procedure_thing_step named) (statement_thing_step named) x))
-      (subst (λ z. Parts (simple_made z) (simple_stored z)) is (simple-stores y)))
-
-  block-case : (x : RawBlock-F RawDecl RawForm RawSimple RawBlock RawProc RawStmt) (y : RawBlock-F ((x : RawDecl) × RawDeclStores x) ((x : RawForm) × RawFormStores x) ((x : RawSimple) × RawSimpleStores x) ((x : RawBlock) × RawBlockStores x) ((x : RawProc) × RawProcStores x) ((x : RawStmt) × RawStmtStores x)) → block_parts y ≡ x → RawBlockStores (roll-RawBlock x)
-  block-case x y is outermost =
-      subst (λ f. Parts (f outermost) (block_things named (roll-RawBlock x))) (sym (fold-roll-RawBlock (List Fact) (List Fact) (List Fact) BlockFacts (List Fact) (List Fact) declaration_step form_step simple_step block_step procedure_step statement_step x))
-      (subst (λ ts. Parts (block_made x outermost) ts) (sym (fold-roll-RawBlock Things Things Things Things Things Things (declaration_thing_step named) (form_thing_step named) (simple_thing_step named) (block_thing_step named) (procedure_thing_step named) (statement_thing_step named) x))
-      (subst (λ z. Parts (block_made z outermost) (block_stored z)) is (block-stores y outermost)))
-
-  procedure-case : (x : RawProc-F RawDecl RawForm RawSimple RawBlock RawProc RawStmt) (y : RawProc-F ((x : RawDecl) × RawDeclStores x) ((x : RawForm) × RawFormStores x) ((x : RawSimple) × RawSimpleStores x) ((x : RawBlock) × RawBlockStores x) ((x : RawProc) × RawProcStores x) ((x : RawStmt) × RawStmtStores x)) → procedure_parts y ≡ x → RawProcStores (roll-RawProc x)
-  procedure-case x y is =
-      subst (λ f. Parts f (procedure_things named (roll-RawProc x))) (sym (fold-roll-RawProc (List Fact) (List Fact) (List Fact) BlockFacts (List Fact) (List Fact) declaration_step form_step simple_step block_step procedure_step statement_step x))
-      (subst (λ ts. Parts (procedure_made x) ts) (sym (fold-roll-RawProc Things Things Things Things Things Things (declaration_thing_step named) (form_thing_step named) (simple_thing_step named) (block_thing_step named) (procedure_thing_step named) (statement_thing_step named) x))
-      (subst (λ z. Parts (procedure_made z) (procedure_stored z)) is (procedure-stores y)))
-
-  statement-case : (x : RawStmt-F RawDecl RawForm RawSimple RawBlock RawProc RawStmt) (y : RawStmt-F ((x : RawDecl) × RawDeclStores x) ((x : RawForm) × RawFormStores x) ((x : RawSimple) × RawSimpleStores x) ((x : RawBlock) × RawBlockStores x) ((x : RawProc) × RawProcStores x) ((x : RawStmt) × RawStmtStores x)) → statement_parts y ≡ x → RawStmtStores (roll-RawStmt x)
-  statement-case x y is =
-      subst (λ f. Parts f (statement_things named (roll-RawStmt x))) (sym (fold-roll-RawStmt (List Fact) (List Fact) (List Fact) BlockFacts (List Fact) (List Fact) declaration_step form_step simple_step block_step procedure_step statement_step x))
-      (subst (λ ts. Parts (statement_made x) ts) (sym (fold-roll-RawStmt Things Things Things Things Things Things (declaration_thing_step named) (form_thing_step named) (simple_thing_step named) (block_thing_step named) (procedure_thing_step named) (statement_thing_step named) x))
-      (subst (λ z. Parts (statement_made z) (statement_stored z)) is (statement-stores y)))
+  rules : Rules known
+  rules = record {
+    decl = λ y. moved_two Parts (facts_decl (decl_layer known y)) (things_decl named (decl_layer known y)) (declaration-stores y);
+    form = λ y. moved_two Parts (facts_form (form_layer known y)) (things_form named (form_layer known y)) (form-stores y);
+    simple = λ y. moved_two Parts (facts_simple (simple_layer known y)) (things_simple named (simple_layer known y)) (simple-stores y);
+    block = λ y outermost. moved_two Parts (ap (λ f. f outermost) (facts_block (block_layer known y))) (things_block named (block_layer known y)) (block-stores y outermost);
+    proc = λ y. moved_two Parts (facts_proc (proc_layer known y)) (things_proc named (proc_layer known y)) (procedure-stores y);
+    stmt = λ y. moved_two Parts (facts_stmt (stmt_layer known y)) (things_stmt named (stmt_layer known y)) (statement-stores y);
+  }
 
   pub block_stores : (x : RawBlock) → RawBlockStores x
-  block_stores = ind-RawBlock RawDeclStores RawFormStores RawSimpleStores RawBlockStores RawProcStores RawStmtStores declaration-case form-case simple-case block-case procedure-case statement-case
+  block_stores = each_block known rules
 
   declaration_stores : (x : RawDecl) → RawDeclStores x
-  declaration_stores = ind-RawDecl RawDeclStores RawFormStores RawSimpleStores RawBlockStores RawProcStores RawStmtStores declaration-case form-case simple-case block-case procedure-case statement-case
+  declaration_stores = each_decl known rules
 
   pub statement_stores : (x : RawStmt) → RawStmtStores x
-  statement_stores = ind-RawStmt RawDeclStores RawFormStores RawSimpleStores RawBlockStores RawProcStores RawStmtStores declaration-case form-case simple-case block-case procedure-case statement-case
+  statement_stores = each_stmt known rules
 
   all-declarations : (ds : List RawDecl) → Parts (joined (map declaration_facts ds)) (joined_things (map (declaration_things named) ds))
   all-declarations [] o = stores-none H numbers o

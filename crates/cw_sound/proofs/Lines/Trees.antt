@@ -48,7 +48,7 @@ use Rattle.cw_macro.proofs.Lists.{each_append}
 use Rattle.cw_sound.specs.Ready.Lined as lined
 use Rattle.cw_sound.specs.Ready.Lined.{is_numbered, PositionsFit}
 use Rattle.cw_sound.proofs.Lines.Layers.{BodyLined, HasLines, SimpleLined, simple_rolled, FormLined, form_rolled, StmtLined, statement_rolled, statement_opened, BlockLined, block_rolled, DeclLined, declaration_rolled, ProcLined, procedure_rolled}
-use Rattle.cw_sound.proofs.Lines.Good.{OfOption}
+use Rattle.cw_sound.proofs.Kept.{OfOption}
 
 -- ---- references
 

@@ -5,24 +5,19 @@ use Rattle.cw_table.specs.declared.table.Row.{Row}
 use Rattle.cw_table.specs.Rows.{item_at}
 use Rattle.cw_tree.specs.declared.leaf.RawName.{RawName}
 use Rattle.cw_tree.specs.declared.leaf.RawType.{RawType}
-use Rattle.cw_tree.specs.declared.expression.RawExpr.{RawExpr}
-use Rattle.cw_tree.specs.declared.expression.RawRef.{RawRef}
-use Rattle.cw_tree.specs.declared.expression.RawCond.{RawCond}
 use Rattle.cw_tree.specs.declared.segment.RawIps.{RawIps}
 use Rattle.cw_tree.specs.declared.segment.RawPs.{RawPs}
 use Rattle.cw_tree.specs.declared.statement.RawFelem.{RawFelem}
 use Rattle.cw_tree.specs.declared.statement.RawFelem.TheVariants as felem
 use Rattle.cw_tree.specs.declared.statement.RawParam.{RawParam}
 use Rattle.cw_tree.specs.declared.statement.RawParam.TheVariants as param
-use Rattle.cw_tree.specs.declared.statement.RawDecl.{RawDecl, RawDecl-F, roll-RawDecl, map-RawDecl}
-use Rattle.cw_tree.specs.declared.statement.RawForm.{RawForm, roll-RawForm, map-RawForm}
-use Rattle.cw_tree.specs.declared.statement.RawSimple.{RawSimple, roll-RawSimple, map-RawSimple}
-use Rattle.cw_tree.specs.declared.statement.RawBlock.{RawBlock, roll-RawBlock, map-RawBlock}
-use Rattle.cw_tree.specs.declared.statement.RawProc.{RawProc, roll-RawProc, map-RawProc}
-use Rattle.cw_tree.specs.declared.statement.RawStmt.{RawStmt, roll-RawStmt, map-RawStmt}
+use Rattle.cw_tree.specs.declared.statement.RawDecl.{RawDecl, roll-RawDecl}
+use Rattle.cw_tree.specs.declared.statement.RawForm.{RawForm, roll-RawForm}
+use Rattle.cw_tree.specs.declared.statement.RawSimple.{RawSimple, roll-RawSimple}
+use Rattle.cw_tree.specs.declared.statement.RawBlock.{RawBlock, roll-RawBlock}
+use Rattle.cw_tree.specs.declared.statement.RawProc.{RawProc, roll-RawProc}
+use Rattle.cw_tree.specs.declared.statement.RawStmt.{RawStmt, roll-RawStmt}
 use Rattle.cw_tree.specs.declared.statement.RawDecl.TheOpen as layer
-use Rattle.cw_tree.specs.declared.statement.RawDecl.TheOpen.{RawForm-F, RawSimple-F, RawBlock-F, RawProc-F, RawStmt-F}
-use Rattle.cw_tree.specs.declared.statement.RawDecl.TheFolds.{fold-roll-RawDecl, fold-roll-RawForm, fold-roll-RawSimple, fold-roll-RawBlock, fold-roll-RawProc, fold-roll-RawStmt, ind-RawBlock}
 use Rattle.cw_facts.specs.declared.fact.Fact.{Fact}
 use Rattle.cw_facts.specs.declared.fact.Fact.TheVariants as fact
 use Rattle.cw_facts.specs.declared.fact.Form.TheVariants as use_form
@@ -41,25 +36,25 @@ use Rattle.cw_scale.specs.declared.fault.Rule.TheVariants as rule
 use Rattle.cw_scale.specs.Faults.{Judgement, fine, unless, both}
 use Rattle.cw_scale.specs.Kinds.{kind_of, signature_of, fraction_of_kind}
 use Rattle.cw_scale.specs.Types.{bits_judged, answer_judged}
-use Rattle.cw_scale.specs.TypeRules.{expression, condition, reference, call_faults}
+use Rattle.cw_scale.specs.TypeRules.{expression, call_faults}
 use Rattle.cw_data.specs.Specifications.{few, few_if, heading_judged, plains_judged, param_judged, params_judged, switch_judged}
 use Rattle.cw_items.specs.declared.families.Site.{Site}
 use Rattle.cw_judge.specs.Declared.{declared_judged, overlaid_judged}
-use Rattle.cw_judge.specs.Judged as judged
-use Rattle.cw_judge.specs.Judged.{expression_judged, condition_judged, reference_judged, arguments_counted, scale_of, all_judged, judged_if, felem_judged, felems_judged, declaration_judged, form_judged, simple_judged, block_judged, procedure_judged as proc_judged, statement_judged}
-use Rattle.cw_judge.specs.Operators.{expression_operators, condition_operators, reference_operators, few_operators, few_each}
+use Rattle.cw_judge.specs.Judged.{expression_judged, condition_judged, reference_judged, arguments_counted, scale_of, all_judged, felems_judged, declaration_judged, form_judged, simple_judged, block_judged, procedure_judged as proc_judged, statement_judged}
 use Rattle.cw_sound.specs.Uses.Mentions.{In}
 use Rattle.cw_sound.specs.Names.Placed.{tokens, Differ}
 use Rattle.cw_sound.proofs.Names.Lists.{in_either, Sub, sub_left, sub_right}
 use Rattle.cw_sound.proofs.Names.FoundRows.{found}
-use Rattle.cw_sound.specs.Names.Standing.{FewParameters}
-use Rattle.cw_sound.proofs.Names.Parts.{Plain}
 use Rattle.cw_make_items.specs.Lookup.{Numbers}
 use Rattle.cw_sound.proofs.Names.MentionsOf.{signatures_use, signatures_loop, signatures_block, signatures_append, declared_before, specified_before}
 use Rattle.cw_sound.proofs.Names.ExpressionUses.{expression_plain, condition_plain, reference_plain, arguments_plain}
 use Rattle.cw_sound.proofs.Names.Specified.{each_none, elements_none, uses_none, data_none, answer_none}
-use Rattle.cw_sound.proofs.Names.TreeParts.{facts_decl, facts_form, facts_simple, facts_block, facts_proc, facts_stmt}
-use Rattle.cw_sound.proofs.Names.TypeFaults.{Keeps, keeps_fine, keeps_unless, keeps_both, parts, holds, keeps_answer, keeps_procedure, keeps_param, keeps_params, keeps_plains, keeps_heading, keeps_declared, keeps_overlaid, keeps_few, keeps_few_each, keeps_bits}
+use Rattle.cw_sound.proofs.Expressions.Judging.{Keeps, keeps_fine, keeps_unless, keeps_both, both_free, holds, keeps_bits}
+use Rattle.cw_sound.proofs.Items.Keeping.{keeps_params, keeps_plains, keeps_heading, keeps_declared, keeps_overlaid}
+use Rattle.cw_sound.proofs.Statements.Keeping.{whole_keeps, test_keeps, place_keeps, counted_keeps, elements_keep}
+use Rattle.cw_sound.proofs.Expressions.Keeping.{call_keeps}
+use Rattle.cw_sound.proofs.Statements.Layers.{Known, WithDecl, WithStmt, DeclParts, FormParts, SimpleParts, BlockParts, ProcParts, StmtParts, decl_layer, form_layer, simple_layer, block_layer, proc_layer, stmt_layer, each_block}
+use Rattle.cw_sound.proofs.Statements.Folds.{facts_decl, facts_form, facts_simple, facts_block, facts_proc, facts_stmt, judged_decl, judged_form, judged_simple, judged_block, judged_proc, judged_stmt}
 
 pub at_most : (n : ℕ) → IsTrue (few n) → n ≤ 32
 at_most n h = grind (arith, nat_tests, h)
@@ -107,20 +102,18 @@ few_parameter (param.Label at ns) e = few_none (each_declares kind.LabelParam ns
 few_parameter (param.Switch at ns) e = few_none (each_declares kind.SwitchParam ns) (each_none kind.SwitchParam ns)
 few_parameter (param.Proc answer at n params) e =
     let rest = both (unless (few (length params)) rule.TooMany n.at) (plains_judged n params) in
-    let behind = parts (answer_judged answer) rest (keeps_both (unless (few (length params)) rule.TooMany n.at) (plains_judged n params) (keeps_unless (few (length params)) rule.TooMany n.at) (keeps_plains n params)) e in
-    let counted = parts (unless (few (length params)) rule.TooMany n.at) (plains_judged n params) (keeps_plains n params) behind.1 in
+    let behind = both_free (answer_judged answer) rest (keeps_both (keeps_unless (few (length params)) rule.TooMany n.at) (keeps_plains n params)) e in
+    let counted = both_free (unless (few (length params)) rule.TooMany n.at) (plains_judged n params) (keeps_plains n params) behind.1 in
     let few_here = at_most (length params) (holds (few (length params)) rule.TooMany n.at counted.0) in
     few_specified n (kind.ProcParam answer) answer (plain params) [] (subst (λ m. m ≤ 32) (sym (plain_length params)) few_here) (few_none [] refl)
 
 few_in_parameters : (params : List RawParam) → params_judged params None ≡ None → Few (parameters_facts params)
 few_in_parameters [] e = few_none [] refl
-few_in_parameters (p ∷ more) e = let free = parts (param_judged p) (params_judged more) (keeps_params more) e in few_both (parameter_facts p) (parameters_facts more) (few_parameter p free.0) (few_in_parameters more free.1)
+few_in_parameters (p ∷ more) e = let free = both_free (param_judged p) (params_judged more) (keeps_params more) e in few_both (parameter_facts p) (parameters_facts more) (few_parameter p free.0) (few_in_parameters more free.1)
 
 -- ---- trees, where expressions take no fault away
 
-module _ (named : Named) (sites : List (Row Site)) (numbers : Numbers) (differ : Differ (tokens named.signatures))
-    (expression_keeps : (e : RawExpr) (f : ℕ) → Keeps ((expression named e).faults f)) (reference_keeps : (r : RawRef) (f : ℕ) → Keeps ((reference named r).faults f))
-    (condition_keeps : (c : RawCond) (f : ℕ) → Keeps ((condition named c).faults f)) (call_keeps : (n : RawName) (es : List RawExpr) → Keeps (call_faults named (signature_of named n) n (map (expression named) es))) where
+module _ (named : Named) (sites : List (Row Site)) (numbers : Numbers) (differ : Differ (tokens named.signatures)) where
   abbrev Judges : Judgement → List Fact → Type 0
   Judges j fs = Keeps j × (j None ≡ None → Sub (text_signatures fs) named.signatures → Few fs)
 
@@ -129,9 +122,9 @@ module _ (named : Named) (sites : List (Row Site)) (numbers : Numbers) (differ :
 
   judges_both : (i j : Judgement) (fs gs : List Fact) → Judges i fs → Judges j gs → Judges (both i j) (fs ++ gs)
   judges_both i j fs gs h k = (
-    keeps_both i j h.0 k.0,
+    keeps_both h.0 k.0,
     λ e s.
-        let free = parts i j k.0 e in
+        let free = both_free i j k.0 e in
         let subs = subst (λ rs. Sub rs named.signatures) (signatures_append fs gs) s in
         few_both fs gs (h.1 free.0 (sub_left (text_signatures fs) (text_signatures gs) named.signatures subs)) (k.1 free.1 (sub_right (text_signatures fs) (text_signatures gs) named.signatures subs)),
   )
@@ -144,30 +137,6 @@ module _ (named : Named) (sites : List (Row Site)) (numbers : Numbers) (differ :
   like e f h = subst₂ Judges (sym e) (sym f) h
 
   -- ---- expressions
-
-  keeps_expression : (f : ℕ) (e : RawExpr) → Keeps (expression_judged named f e)
-  keeps_expression f e = keeps_both ((expression named e).faults f) (few_operators (expression_operators e)) (expression_keeps e f) (keeps_few (expression_operators e))
-
-  keeps_condition : (c : RawCond) → Keeps (condition_judged named c)
-  keeps_condition c = keeps_both ((condition named c).faults 0) (few_operators (condition_operators c)) (condition_keeps c 0) (keeps_few (condition_operators c))
-
-  keeps_reference : (r : RawRef) → Keeps (reference_judged named r)
-  keeps_reference r = keeps_both ((reference named r).faults 0) (few_each (reference_operators r)) (reference_keeps r 0) (keeps_few_each (reference_operators r))
-
-  keeps_counted : (es : List RawExpr) → Keeps (arguments_counted es)
-  keeps_counted [] = keeps_fine
-  keeps_counted (e ∷ es) = keeps_both (few_operators (expression_operators e)) (arguments_counted es) (keeps_few (expression_operators e)) (keeps_counted es)
-
-  keeps_felem : (f : ℕ) (e : RawFelem) → Keeps (felem_judged named f e)
-  keeps_felem f (felem.One e) = keeps_expression f e
-  keeps_felem f (felem.While e c) = keeps_both (expression_judged named f e) (condition_judged named c) (keeps_expression f e) (keeps_condition c)
-  keeps_felem f (felem.Step a b c) =
-      keeps_both (expression_judged named f a) (both (expression_judged named f b) (expression_judged named f c)) (keeps_expression f a)
-      (keeps_both (expression_judged named f b) (expression_judged named f c) (keeps_expression f b) (keeps_expression f c))
-
-  keeps_felems : (f : ℕ) (es : List RawFelem) → Keeps (felems_judged named f es)
-  keeps_felems f [] = keeps_fine
-  keeps_felems f (e ∷ es) = keeps_both (felem_judged named f e) (felems_judged named f es) (keeps_felem f e) (keeps_felems f es)
 
   felem_none : (e : RawFelem) → text_signatures (felem_facts e) ≡ []
   felem_none (felem.One e) = (expression_plain numbers e reading.Value).signatures
@@ -206,127 +175,76 @@ module _ (named : Named) (sites : List (Row Site)) (numbers : Numbers) (differ :
   abbrev pub Is_stmt : RawStmt → Type 0
   Is_stmt x = Judges (statement_judged named sites x) (statement_facts x)
 
-  abbrev D : Type 0
-  D = (x : RawDecl) × Is_decl x
+  abbrev known : Known
+  known = record { Decl = Is_decl; Form = Is_form; Simple = Is_simple; Block = Is_block; Proc = Is_proc; Stmt = Is_stmt }
 
-  abbrev F : Type 0
-  F = (x : RawForm) × Is_form x
-
-  abbrev S : Type 0
-  S = (x : RawSimple) × Is_simple x
-
-  abbrev B : Type 0
-  B = (x : RawBlock) × Is_block x
-
-  abbrev Q : Type 0
-  Q = (x : RawProc) × Is_proc x
-
-  abbrev T : Type 0
-  T = (x : RawStmt) × Is_stmt x
-
-  abbrev decl_x : RawDecl-F D F S B Q T → RawDecl-F RawDecl RawForm RawSimple RawBlock RawProc RawStmt
-  decl_x = map-RawDecl D F S B Q T RawDecl RawForm RawSimple RawBlock RawProc RawStmt (λ e. e.0) (λ e. e.0) (λ e. e.0) (λ e. e.0) (λ e. e.0) (λ e. e.0)
-
-  abbrev judged_decl : (x : RawDecl-F RawDecl RawForm RawSimple RawBlock RawProc RawStmt) → declaration_judged named sites (roll-RawDecl x) ≡ judged.declaration_step named sites (map-RawDecl RawDecl RawForm RawSimple RawBlock RawProc RawStmt Judgement Judgement Judgement Judgement Judgement Judgement (declaration_judged named sites) (form_judged named sites) (simple_judged named sites) (block_judged named sites) (proc_judged named sites) (statement_judged named sites) x)
-  judged_decl x = fold-roll-RawDecl Judgement Judgement Judgement Judgement Judgement Judgement (judged.declaration_step named sites) (judged.form_step named sites) (judged.simple_step named sites) (judged.block_step named sites) (judged.procedure_step named sites) (judged.statement_step named sites) x
-
-  abbrev form_x : RawForm-F D F S B Q T → RawForm-F RawDecl RawForm RawSimple RawBlock RawProc RawStmt
-  form_x = map-RawForm D F S B Q T RawDecl RawForm RawSimple RawBlock RawProc RawStmt (λ e. e.0) (λ e. e.0) (λ e. e.0) (λ e. e.0) (λ e. e.0) (λ e. e.0)
-
-  abbrev judged_form : (x : RawForm-F RawDecl RawForm RawSimple RawBlock RawProc RawStmt) → form_judged named sites (roll-RawForm x) ≡ judged.form_step named sites (map-RawForm RawDecl RawForm RawSimple RawBlock RawProc RawStmt Judgement Judgement Judgement Judgement Judgement Judgement (declaration_judged named sites) (form_judged named sites) (simple_judged named sites) (block_judged named sites) (proc_judged named sites) (statement_judged named sites) x)
-  judged_form x = fold-roll-RawForm Judgement Judgement Judgement Judgement Judgement Judgement (judged.declaration_step named sites) (judged.form_step named sites) (judged.simple_step named sites) (judged.block_step named sites) (judged.procedure_step named sites) (judged.statement_step named sites) x
-
-  abbrev simple_x : RawSimple-F D F S B Q T → RawSimple-F RawDecl RawForm RawSimple RawBlock RawProc RawStmt
-  simple_x = map-RawSimple D F S B Q T RawDecl RawForm RawSimple RawBlock RawProc RawStmt (λ e. e.0) (λ e. e.0) (λ e. e.0) (λ e. e.0) (λ e. e.0) (λ e. e.0)
-
-  abbrev judged_simple : (x : RawSimple-F RawDecl RawForm RawSimple RawBlock RawProc RawStmt) → simple_judged named sites (roll-RawSimple x) ≡ judged.simple_step named sites (map-RawSimple RawDecl RawForm RawSimple RawBlock RawProc RawStmt Judgement Judgement Judgement Judgement Judgement Judgement (declaration_judged named sites) (form_judged named sites) (simple_judged named sites) (block_judged named sites) (proc_judged named sites) (statement_judged named sites) x)
-  judged_simple x = fold-roll-RawSimple Judgement Judgement Judgement Judgement Judgement Judgement (judged.declaration_step named sites) (judged.form_step named sites) (judged.simple_step named sites) (judged.block_step named sites) (judged.procedure_step named sites) (judged.statement_step named sites) x
-
-  abbrev block_x : RawBlock-F D F S B Q T → RawBlock-F RawDecl RawForm RawSimple RawBlock RawProc RawStmt
-  block_x = map-RawBlock D F S B Q T RawDecl RawForm RawSimple RawBlock RawProc RawStmt (λ e. e.0) (λ e. e.0) (λ e. e.0) (λ e. e.0) (λ e. e.0) (λ e. e.0)
-
-  abbrev judged_block : (x : RawBlock-F RawDecl RawForm RawSimple RawBlock RawProc RawStmt) → block_judged named sites (roll-RawBlock x) ≡ judged.block_step named sites (map-RawBlock RawDecl RawForm RawSimple RawBlock RawProc RawStmt Judgement Judgement Judgement Judgement Judgement Judgement (declaration_judged named sites) (form_judged named sites) (simple_judged named sites) (block_judged named sites) (proc_judged named sites) (statement_judged named sites) x)
-  judged_block x = fold-roll-RawBlock Judgement Judgement Judgement Judgement Judgement Judgement (judged.declaration_step named sites) (judged.form_step named sites) (judged.simple_step named sites) (judged.block_step named sites) (judged.procedure_step named sites) (judged.statement_step named sites) x
-
-  abbrev proc_x : RawProc-F D F S B Q T → RawProc-F RawDecl RawForm RawSimple RawBlock RawProc RawStmt
-  proc_x = map-RawProc D F S B Q T RawDecl RawForm RawSimple RawBlock RawProc RawStmt (λ e. e.0) (λ e. e.0) (λ e. e.0) (λ e. e.0) (λ e. e.0) (λ e. e.0)
-
-  abbrev judged_proc : (x : RawProc-F RawDecl RawForm RawSimple RawBlock RawProc RawStmt) → proc_judged named sites (roll-RawProc x) ≡ judged.procedure_step named sites (map-RawProc RawDecl RawForm RawSimple RawBlock RawProc RawStmt Judgement Judgement Judgement Judgement Judgement Judgement (declaration_judged named sites) (form_judged named sites) (simple_judged named sites) (block_judged named sites) (proc_judged named sites) (statement_judged named sites) x)
-  judged_proc x = fold-roll-RawProc Judgement Judgement Judgement Judgement Judgement Judgement (judged.declaration_step named sites) (judged.form_step named sites) (judged.simple_step named sites) (judged.block_step named sites) (judged.procedure_step named sites) (judged.statement_step named sites) x
-
-  abbrev stmt_x : RawStmt-F D F S B Q T → RawStmt-F RawDecl RawForm RawSimple RawBlock RawProc RawStmt
-  stmt_x = map-RawStmt D F S B Q T RawDecl RawForm RawSimple RawBlock RawProc RawStmt (λ e. e.0) (λ e. e.0) (λ e. e.0) (λ e. e.0) (λ e. e.0) (λ e. e.0)
-
-  abbrev judged_stmt : (x : RawStmt-F RawDecl RawForm RawSimple RawBlock RawProc RawStmt) → statement_judged named sites (roll-RawStmt x) ≡ judged.statement_step named sites (map-RawStmt RawDecl RawForm RawSimple RawBlock RawProc RawStmt Judgement Judgement Judgement Judgement Judgement Judgement (declaration_judged named sites) (form_judged named sites) (simple_judged named sites) (block_judged named sites) (proc_judged named sites) (statement_judged named sites) x)
-  judged_stmt x = fold-roll-RawStmt Judgement Judgement Judgement Judgement Judgement Judgement (judged.declaration_step named sites) (judged.form_step named sites) (judged.simple_step named sites) (judged.block_step named sites) (judged.procedure_step named sites) (judged.statement_step named sites) x
-
-  decl_so : (y : RawDecl-F D F S B Q T) → Is_decl (roll-RawDecl (decl_x y))
-  decl_so (layer.Data d) = like (judged_decl (layer.Data d)) (facts_decl named numbers (layer.Data d)) (none_within (declared_judged sites d) (data_facts d) (keeps_declared sites d) (data_none d))
+  decl_so : (y : DeclParts known) → Is_decl (roll-RawDecl (decl_layer known y))
+  decl_so (layer.Data d) = like (judged_decl named sites (layer.Data d)) (facts_decl (layer.Data d)) (none_within (declared_judged sites d) (data_facts d) (keeps_declared sites d) (data_none d))
   decl_so (layer.Overlay at b d) =
-      like (judged_decl (layer.Overlay at b d)) (facts_decl named numbers (layer.Overlay at b d))
+      like (judged_decl named sites (layer.Overlay at b d)) (facts_decl (layer.Overlay at b d))
       (none_within (overlaid_judged named sites b d) (base_facts b ++ data_facts d) (keeps_overlaid named sites b d) (two_none (base_facts b) (data_facts d) (use_none (record { name = base_name b; form = use_form.Base }) [] refl) (data_none d)))
   decl_so (layer.Switch at n labels) =
-      like (judged_decl (layer.Switch at n labels)) (facts_decl named numbers (layer.Switch at n labels))
+      like (judged_decl named sites (layer.Switch at n labels)) (facts_decl (layer.Switch at n labels))
       (none_within (switch_judged n labels) (declares n kind.Switch ∷ each_uses labels) (keeps_unless (nat_le (length labels) 255) rule.TooMany n.at) (declared_before n kind.Switch (each_uses labels) ∙ uses_none labels))
-  decl_so (layer.Proc p) = like (judged_decl (layer.Proc p.0)) (facts_decl named numbers (layer.Proc p.0)) p.1
+  decl_so (layer.Proc p) = like (judged_decl named sites (layer.Proc p.0)) (facts_decl (layer.Proc p.0)) p.1
 
-  form_so : (y : RawForm-F D F S B Q T) → Is_form (roll-RawForm (form_x y))
-  form_so (layer.Simple s) = like (judged_form (layer.Simple s.0)) (facts_form named numbers (layer.Simple s.0)) s.1
+  form_so : (y : FormParts known) → Is_form (roll-RawForm (form_layer known y))
+  form_so (layer.Simple s) = like (judged_form named sites (layer.Simple s.0)) (facts_form (layer.Simple s.0)) s.1
   form_so (layer.If at test labels first None) =
-      like (judged_form (layer.If at test labels first.0 None)) (facts_form named numbers (layer.If at test labels first.0 None))
+      like (judged_form named sites (layer.If at test labels first.0 None)) (facts_form (layer.If at test labels first.0 None))
       (judges_both (condition_judged named test) (both (simple_judged named sites first.0) fine) (condition_uses test reading.Value) (each_declares kind.Label labels ++ (simple_facts first.0 ++ []))
-      (none_within (condition_judged named test) (condition_uses test reading.Value) (keeps_condition test) (condition_plain numbers test reading.Value).signatures)
+      (none_within (condition_judged named test) (condition_uses test reading.Value) (test_keeps named test) (condition_plain numbers test reading.Value).signatures)
       (judges_before (both (simple_judged named sites first.0) fine) (each_declares kind.Label labels) (simple_facts first.0 ++ []) (each_none kind.Label labels)
       (judges_both (simple_judged named sites first.0) fine (simple_facts first.0) [] first.1 (none_within fine [] keeps_fine refl))))
   form_so (layer.If at test labels first (Some second)) =
-      like (judged_form (layer.If at test labels first.0 (Some second.0))) (facts_form named numbers (layer.If at test labels first.0 (Some second.0)))
+      like (judged_form named sites (layer.If at test labels first.0 (Some second.0))) (facts_form (layer.If at test labels first.0 (Some second.0)))
       (judges_both (condition_judged named test) (both (simple_judged named sites first.0) (statement_judged named sites second.0)) (condition_uses test reading.Value) (each_declares kind.Label labels ++ (simple_facts first.0 ++ statement_facts second.0))
-      (none_within (condition_judged named test) (condition_uses test reading.Value) (keeps_condition test) (condition_plain numbers test reading.Value).signatures)
+      (none_within (condition_judged named test) (condition_uses test reading.Value) (test_keeps named test) (condition_plain numbers test reading.Value).signatures)
       (judges_before (both (simple_judged named sites first.0) (statement_judged named sites second.0)) (each_declares kind.Label labels) (simple_facts first.0 ++ statement_facts second.0) (each_none kind.Label labels)
       (judges_both (simple_judged named sites first.0) (statement_judged named sites second.0) (simple_facts first.0) (statement_facts second.0) first.1 second.1)))
   form_so (layer.For at variable elems body) =
-      like (judged_form (layer.For at variable elems body.0)) (facts_form named numbers (layer.For at variable elems body.0))
+      like (judged_form named sites (layer.For at variable elems body.0)) (facts_form (layer.For at variable elems body.0))
       (judges_both (reference_judged named variable) (both (felems_judged named (scale_of named variable) elems) (statement_judged named sites body.0)) (fact.Loop at ∷ reference_uses variable reading.Whole) (felems_facts elems ++ statement_facts body.0)
-      (none_within (reference_judged named variable) (fact.Loop at ∷ reference_uses variable reading.Whole) (keeps_reference variable)
+      (none_within (reference_judged named variable) (fact.Loop at ∷ reference_uses variable reading.Whole) (place_keeps named variable)
       (ap (λ rs. rs ++ text_signatures (reference_uses variable reading.Whole)) (signatures_loop at) ∙ (reference_plain numbers variable reading.Whole).signatures))
       (judges_both (felems_judged named (scale_of named variable) elems) (statement_judged named sites body.0) (felems_facts elems) (statement_facts body.0)
-      (none_within (felems_judged named (scale_of named variable) elems) (felems_facts elems) (keeps_felems (scale_of named variable) elems) (felems_none elems)) body.1))
+      (none_within (felems_judged named (scale_of named variable) elems) (felems_facts elems) (elements_keep named (scale_of named variable) elems) (felems_none elems)) body.1))
 
-  simple_so : (y : RawSimple-F D F S B Q T) → Is_simple (roll-RawSimple (simple_x y))
-  simple_so layer.Empty = like (judged_simple layer.Empty) (facts_simple named numbers layer.Empty) (none_within fine [] keeps_fine refl)
+  simple_so : (y : SimpleParts known) → Is_simple (roll-RawSimple (simple_layer known y))
+  simple_so layer.Empty = like (judged_simple named sites layer.Empty) (facts_simple layer.Empty) (none_within fine [] keeps_fine refl)
   simple_so (layer.Assign r e) =
-      like (judged_simple (layer.Assign r e)) (facts_simple named numbers (layer.Assign r e))
+      like (judged_simple named sites (layer.Assign r e)) (facts_simple (layer.Assign r e))
       (none_within (both (reference_judged named r) (expression_judged named (scale_of named r) e)) (reference_uses r reading.Target ++ expression_uses e reading.Value)
-      (keeps_both (reference_judged named r) (expression_judged named (scale_of named r) e) (keeps_reference r) (keeps_expression (scale_of named r) e))
+      (keeps_both (place_keeps named r) (whole_keeps named (scale_of named r) e))
       (two_none (reference_uses r reading.Target) (expression_uses e reading.Value) (reference_plain numbers r reading.Target).signatures (expression_plain numbers e reading.Value).signatures))
   simple_so (layer.AssignBits bits r e) =
-      like (judged_simple (layer.AssignBits bits r e)) (facts_simple named numbers (layer.AssignBits bits r e))
+      like (judged_simple named sites (layer.AssignBits bits r e)) (facts_simple (layer.AssignBits bits r e))
       (none_within (both (bits_judged bits) (both (reference_judged named r) (expression_judged named 0 e))) (reference_uses r reading.Whole ++ expression_uses e reading.Value)
-      (keeps_both (bits_judged bits) (both (reference_judged named r) (expression_judged named 0 e)) (keeps_bits bits) (keeps_both (reference_judged named r) (expression_judged named 0 e) (keeps_reference r) (keeps_expression 0 e)))
+      (keeps_both (keeps_bits bits) (keeps_both (place_keeps named r) (whole_keeps named 0 e)))
       (two_none (reference_uses r reading.Whole) (expression_uses e reading.Value) (reference_plain numbers r reading.Whole).signatures (expression_plain numbers e reading.Value).signatures))
   simple_so (layer.Goto at n) =
-      like (judged_simple (layer.Goto at n)) (facts_simple named numbers (layer.Goto at n)) (none_within fine (fact.Uses (record { name = n; form = use_form.Goto }) ∷ []) keeps_fine (use_none (record { name = n; form = use_form.Goto }) [] refl))
+      like (judged_simple named sites (layer.Goto at n)) (facts_simple (layer.Goto at n)) (none_within fine (fact.Uses (record { name = n; form = use_form.Goto }) ∷ []) keeps_fine (use_none (record { name = n; form = use_form.Goto }) [] refl))
   simple_so (layer.GotoSwitch at n e) =
-      like (judged_simple (layer.GotoSwitch at n e)) (facts_simple named numbers (layer.GotoSwitch at n e))
-      (none_within (expression_judged named 0 e) (fact.Uses (record { name = n; form = use_form.GotoSwitch }) ∷ expression_uses e reading.Value) (keeps_expression 0 e)
+      like (judged_simple named sites (layer.GotoSwitch at n e)) (facts_simple (layer.GotoSwitch at n e))
+      (none_within (expression_judged named 0 e) (fact.Uses (record { name = n; form = use_form.GotoSwitch }) ∷ expression_uses e reading.Value) (whole_keeps named 0 e)
       (use_none (record { name = n; form = use_form.GotoSwitch }) (expression_uses e reading.Value) (expression_plain numbers e reading.Value).signatures))
   simple_so (layer.Call n es) =
-      like (judged_simple (layer.Call n es)) (facts_simple named numbers (layer.Call n es))
+      like (judged_simple named sites (layer.Call n es)) (facts_simple (layer.Call n es))
       (none_within (both (call_faults named (signature_of named n) n (map (expression named) es)) (arguments_counted es)) (fact.Uses (record { name = n; form = use_form.Call }) ∷ argument_uses es)
-      (keeps_both (call_faults named (signature_of named n) n (map (expression named) es)) (arguments_counted es) (call_keeps n es) (keeps_counted es))
+      (keeps_both (call_keeps named n es) (counted_keeps es))
       (use_none (record { name = n; form = use_form.Call }) (argument_uses es) (arguments_plain numbers es).signatures))
   simple_so (layer.Answer at e) =
-      like (judged_simple (layer.Answer at e)) (facts_simple named numbers (layer.Answer at e))
+      like (judged_simple named sites (layer.Answer at e)) (facts_simple (layer.Answer at e))
       (none_within (expression_judged named (fraction_of_kind (kind_of named (answer_name at))) e) (fact.Uses (record { name = answer_name at; form = use_form.Answer }) ∷ expression_uses e reading.Value)
-      (keeps_expression (fraction_of_kind (kind_of named (answer_name at))) e)
+      (whole_keeps named (fraction_of_kind (kind_of named (answer_name at))) e)
       (use_none (record { name = answer_name at; form = use_form.Answer }) (expression_uses e reading.Value) (expression_plain numbers e reading.Value).signatures))
-  simple_so (layer.Block b) = like (judged_simple (layer.Block b.0)) (facts_simple named numbers (layer.Block b.0)) (b.1 false)
+  simple_so (layer.Block b) = like (judged_simple named sites (layer.Block b.0)) (facts_simple (layer.Block b.0)) (b.1 false)
 
-  decls_so : (ds : List D) → Judges (all_judged (map (declaration_judged named sites) (map (λ e. e.0) ds))) (said.joined (map declaration_facts (map (λ e. e.0) ds)))
+  decls_so : (ds : List (WithDecl known)) → Judges (all_judged (map (declaration_judged named sites) (map (λ e. e.0) ds))) (said.joined (map declaration_facts (map (λ e. e.0) ds)))
   decls_so [] = none_within fine [] keeps_fine refl
   decls_so (d ∷ ds) = judges_both (declaration_judged named sites d.0) (all_judged (map (declaration_judged named sites) (map (λ e. e.0) ds))) (declaration_facts d.0) (said.joined (map declaration_facts (map (λ e. e.0) ds))) d.1 (decls_so ds)
 
-  stmts_so : (ss : List T) → Judges (all_judged (map (statement_judged named sites) (map (λ e. e.0) ss))) (said.joined (map statement_facts (map (λ e. e.0) ss)))
+  stmts_so : (ss : List (WithStmt known)) → Judges (all_judged (map (statement_judged named sites) (map (λ e. e.0) ss))) (said.joined (map statement_facts (map (λ e. e.0) ss)))
   stmts_so [] = none_within fine [] keeps_fine refl
   stmts_so (s ∷ ss) = judges_both (statement_judged named sites s.0) (all_judged (map (statement_judged named sites) (map (λ e. e.0) ss))) (statement_facts s.0) (said.joined (map statement_facts (map (λ e. e.0) ss))) s.1 (stmts_so ss)
 
@@ -335,12 +253,12 @@ module _ (named : Named) (sites : List (Row Site)) (numbers : Numbers) (differ :
       (h.0, λ e s. few_block None fs (h.1 e (subst (λ rs. Sub rs named.signatures) (append-nil (fact_signatures (fact.Block None fs)) ∙ signatures_block None fs) s)))
   enclosed_so false j fs h = h
 
-  block_so : (y : RawBlock-F D F S B Q T) → Is_block (roll-RawBlock (block_x y))
+  block_so : (y : BlockParts known) → Is_block (roll-RawBlock (block_layer known y))
   block_so y outermost =
       let ds : List RawDecl = map (λ e. e.0) y.decls in
       let ss : List RawStmt = map (λ e. e.0) y.stmts in
       let fs : List Fact = said.joined (map declaration_facts ds) ++ said.joined (map statement_facts ss) in
-      like (judged_block (block_x y)) (ap (λ f. f outermost) (facts_block named numbers (block_x y)))
+      like (judged_block named sites (block_layer known y)) (ap (λ f. f outermost) (facts_block (block_layer known y)))
       (enclosed_so (outermost || not (length (map declaration_facts ds) == 0)) (both (all_judged (map (declaration_judged named sites) ds)) (all_judged (map (statement_judged named sites) ss))) fs
       (judges_both (all_judged (map (declaration_judged named sites) ds)) (all_judged (map (statement_judged named sites) ss)) (said.joined (map declaration_facts ds)) (said.joined (map statement_facts ss)) (decls_so y.decls) (stmts_so y.stmts)))
 
@@ -364,16 +282,16 @@ module _ (named : Named) (sites : List (Row Site)) (numbers : Numbers) (differ :
     own_few : heading_judged named answer n params None ≡ None → Sub (text_signatures all) named.signatures → length (flattened params) ≤ 32
     own_few e s =
         let test : Bool = few_if (item_at named.signatures n.at.token) in
-        let behind = parts (answer_judged answer) (both (unless test rule.TooMany n.at) (params_judged params)) (keeps_both (unless test rule.TooMany n.at) (params_judged params) (keeps_unless test rule.TooMany n.at) (keeps_params params)) e in
-        let counted = parts (unless test rule.TooMany n.at) (params_judged params) (keeps_params params) behind.1 in
+        let behind = both_free (answer_judged answer) (both (unless test rule.TooMany n.at) (params_judged params)) (keeps_both (keeps_unless test rule.TooMany n.at) (keeps_params params)) e in
+        let counted = both_free (unless test rule.TooMany n.at) (params_judged params) (keeps_params params) behind.1 in
         let there = found named.signatures row differ (s row (subst (In row) (sym own_rows) (inl refl))) in
         at_most (length (flattened params)) (subst (λ o. IsTrue (few_if o)) there (holds test rule.TooMany n.at counted.0))
 
     own_parameters : heading_judged named answer n params None ≡ None → params_judged params None ≡ None
     own_parameters e =
         let test : Bool = few_if (item_at named.signatures n.at.token) in
-        let behind = parts (answer_judged answer) (both (unless test rule.TooMany n.at) (params_judged params)) (keeps_both (unless test rule.TooMany n.at) (params_judged params) (keeps_unless test rule.TooMany n.at) (keeps_params params)) e in
-        (parts (unless test rule.TooMany n.at) (params_judged params) (keeps_params params) behind.1).1
+        let behind = both_free (answer_judged answer) (both (unless test rule.TooMany n.at) (params_judged params)) (keeps_both (keeps_unless test rule.TooMany n.at) (keeps_params params)) e in
+        (both_free (unless test rule.TooMany n.at) (params_judged params) (keeps_params params) behind.1).1
 
     inner_sub : Sub (text_signatures all) named.signatures → Sub (text_signatures fs) named.signatures
     inner_sub s =
@@ -383,27 +301,20 @@ module _ (named : Named) (sites : List (Row Site)) (numbers : Numbers) (differ :
 
     procedure_so : Judges (both (heading_judged named answer n params) j) all
     procedure_so = (
-      keeps_both (heading_judged named answer n params) j (keeps_heading named answer n params) body.0,
+      keeps_both (keeps_heading named answer n params) body.0,
       λ e s.
-          let free = parts (heading_judged named answer n params) j body.0 e in
+          let free = both_free (heading_judged named answer n params) j body.0 e in
           few_specified n (kind.Proc answer) answer (flattened params) (fact.Block (Some n.at.token) inner ∷ []) (own_few free.0 s)
           (few_block (Some n.at.token) inner
           (few_both (answer_facts answer) (parameters_facts params ++ fs) (few_none (answer_facts answer) (answer_none answer))
           (few_both (parameters_facts params) fs (few_in_parameters params (own_parameters free.0)) (body.1 free.1 (inner_sub s))))),
     )
 
-  proc_so : (y : RawProc-F D F S B Q T) → Is_proc (roll-RawProc (proc_x y))
-  proc_so y = like (judged_proc (proc_x y)) (facts_proc named numbers (proc_x y)) (procedure_so y.answer y.name y.params (statement_judged named sites y.body.0) (statement_facts y.body.0) y.body.1)
+  proc_so : (y : ProcParts known) → Is_proc (roll-RawProc (proc_layer known y))
+  proc_so y = like (judged_proc named sites (proc_layer known y)) (facts_proc (proc_layer known y)) (procedure_so y.answer y.name y.params (statement_judged named sites y.body.0) (statement_facts y.body.0) y.body.1)
 
-  stmt_so : (y : RawStmt-F D F S B Q T) → Is_stmt (roll-RawStmt (stmt_x y))
-  stmt_so y = like (judged_stmt (stmt_x y)) (facts_stmt named numbers (stmt_x y)) (judges_before (form_judged named sites y.form.0) (each_declares kind.Label y.labels) (form_facts y.form.0) (each_none kind.Label y.labels) y.form.1)
+  stmt_so : (y : StmtParts known) → Is_stmt (roll-RawStmt (stmt_layer known y))
+  stmt_so y = like (judged_stmt named sites (stmt_layer known y)) (facts_stmt (stmt_layer known y)) (judges_before (form_judged named sites y.form.0) (each_declares kind.Label y.labels) (form_facts y.form.0) (each_none kind.Label y.labels) y.form.1)
 
   pub block_few : (b : RawBlock) → Is_block b
-  block_few =
-      ind-RawBlock Is_decl Is_form Is_simple Is_block Is_proc Is_stmt
-      (λ x y is. subst (λ z. Is_decl (roll-RawDecl z)) is (decl_so y))
-      (λ x y is. subst (λ z. Is_form (roll-RawForm z)) is (form_so y))
-      (λ x y is. subst (λ z. Is_simple (roll-RawSimple z)) is (simple_so y))
-      (λ x y is. subst (λ z. Is_block (roll-RawBlock z)) is (block_so y))
-      (λ x y is. subst (λ z. Is_proc (roll-RawProc z)) is (proc_so y))
-      (λ x y is. subst (λ z. Is_stmt (roll-RawStmt z)) is (stmt_so y))
+  block_few = each_block known (record { decl = decl_so; form = form_so; simple = simple_so; block = block_so; proc = proc_so; stmt = stmt_so })

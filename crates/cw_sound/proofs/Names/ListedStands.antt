@@ -1,9 +1,7 @@
 -- What the communicators list stands for what its descriptor says.
-use Rattle.std.proofs.Common.{◌≡◌, ◌≢◌, ◌⊎◌, inl, inr, ℕ, ◌+◌, ◌<◌, ◌≤◌, List, [], ◌∷◌, ◌++◌, map, length, Bool, true, false, nat_eq, IsTrue, Option, Some, None, slice_get, refl, sym, ap, ap₂, subst, ◌∙◌, arith, length-append}
-use Rattle.std.specs.Prelude.{option_map, option_and_then, find}
+use Rattle.std.proofs.Common.{◌≡◌, ℕ, List, [], ◌∷◌, map, true, IsTrue, Option, Some, None, slice_get, refl, sym, ap, ap₂, subst, ◌∙◌}
 use Rattle.std.specs.declared.result.Result.TheVariants as result
 use Rattle.cw_table.specs.declared.table.Row.{Row}
-use Rattle.cw_table.specs.Rows.{item_at, stands_at, item_of}
 use Rattle.cw_tree.specs.declared.leaf.RawName.{RawName}
 use Rattle.cw_tree.specs.declared.leaf.RawType.{RawType}
 use Rattle.cw_tree.specs.declared.segment.RawIps.{RawIps}
@@ -13,21 +11,18 @@ use Rattle.cw_tree.specs.declared.segment.RawPs.TheVariants as ps
 use Rattle.cw_facts.specs.declared.fact.Declaration.{Declaration}
 use Rattle.cw_facts.specs.declared.fact.Kind.{Kind as NameKind}
 use Rattle.cw_facts.specs.declared.fact.Kind.TheVariants as kind
-use Rattle.cw_facts.specs.declared.fact.Signature.{Signature}
 use Rattle.cw_facts.specs.Facts.{block_facts}
-use Rattle.cw_facts.specs.Text.{communicators_facts, text_facts}
+use Rattle.cw_facts.specs.Text.{communicators_facts}
 use Rattle.cw_scope.specs.declared.resolve.Named.{Named}
 use Rattle.cw_scope.specs.Outcome.{Resolves}
-use Rattle.cw_scope.specs.Resolved.{text_declarations, text_signatures}
+use Rattle.cw_scope.specs.Resolved.{text_signatures}
 use Rattle.cw_scale.specs.Kinds.{kind_of, answer_fraction}
-use Rattle.cw_items.specs.declared.thing.Thing.{Thing}
 use Rattle.cw_items.specs.Things.{text_things}
 use Rattle.cw_number.specs.declared.listed.Listing.{Listing}
 use Rattle.cw_number.specs.declared.listed.Listing.TheVariants as listing
-use Rattle.cw_number.specs.declared.numbered.Numbered.{Numbered}
 use Rattle.cw_number.specs.declared.numbered.Numbered.TheVariants as numbered
-use Rattle.cw_number.specs.Listed.{listed_of, row}
-use Rattle.cw_number.specs.Numbers.{item_rows, listed_number, listed_rows, declared_rows, none_counted, begin_of, numbers_of}
+use Rattle.cw_number.specs.Listed.{listed_of}
+use Rattle.cw_number.specs.Numbers.{numbers_of}
 use Rattle.cw_make_expr.specs.Parts.{target_of}
 use Rattle.cw_make_items.specs.Lookup.{Numbers}
 use Rattle.cw_make_items.specs.Types.{spec_of, each_taken, taken, plain_taken, plain_spec}
@@ -37,34 +32,28 @@ use Rattle.cw_unit.specs.declared.descriptor.SpecParam.TheViews.{out-roll-SpecPa
 use Rattle.cw_make_items.specs.Descriptors.{descs_of}
 use Rattle.cw_unit.specs.declared.unit.Unit.{Unit as SourceUnit}
 use Rattle.cw_unit.specs.declared.unit.Proc.{Proc}
-use Rattle.cw_unit.specs.declared.unit.Def.{Def}
 use Rattle.cw_unit.specs.declared.descriptor.Desc.{Desc}
-use Rattle.cw_unit.specs.declared.descriptor.DescBody.{DescBody}
 use Rattle.cw_unit.specs.declared.descriptor.DescBody.TheVariants as bodies
 use Rattle.cw_unit.specs.Program.{definition_of}
-use Rattle.cw_unit.specs.Scales.{answer_scale, fraction_of, fraction_of_body, fraction_of_desc}
-use Rattle.cw_unit.specs.Step.{label_of_def, switch_of_def, procedure_of_def}
-use Rattle.cw_safety.specs.Kinds.{Kind, ProcedureKind, kind_of_param, parameter_kinds}
-use Rattle.cw_safety.specs.WellFormed.{reaches, reaches_switch, procedure_of_place}
-use Rattle.cw_built.specs.Listed.{are_named, procedure_as, param_as, param_in_layer, says_label, says_switch, body_in, body_at}
+use Rattle.cw_unit.specs.Scales.{answer_scale, fraction_of_body, fraction_of_desc}
+use Rattle.cw_unit.specs.Step.{procedure_of_def}
+use Rattle.cw_safety.specs.Kinds.{ProcedureKind, kind_of_param}
+use Rattle.cw_safety.specs.WellFormed.{procedure_of_place}
+use Rattle.cw_built.specs.Listed.{are_named, param_as, param_in_layer, says_label, says_switch, body_in, body_at}
 use Rattle.cw_built.specs.Built.{alone, at_work}
 use Rattle.cw_built.proofs.Saying.{Means, label-as-said, switch-as-said, means-alone}
-use Rattle.cw_sound.specs.Uses.Mentions.{In, Mention, Here, here, declares, facts_mentions, listed_mentions, block_mentions, text_mentions}
-use Rattle.cw_sound.specs.Uses.Stands.{StandsAs, IsLabel, IsSwitch, IsProcedure, Called, kind_specified, taken_by_plain}
-use Rattle.cw_sound.specs.Names.Placed.{Placed, tokens, Differ}
+use Rattle.cw_sound.specs.Uses.Mentions.{In, here, declares, listed_mentions}
+use Rattle.cw_sound.specs.Uses.Stands.{StandsAs, IsLabel, IsSwitch, IsProcedure, kind_specified, taken_by_plain}
+use Rattle.cw_sound.specs.Names.Placed.{Placed}
 use Rattle.cw_sound.specs.Names.Found.{Refers}
 use Rattle.cw_sound.specs.Names.Standing.{is_other, is_common, StandsIn, StandsFrom, Stand, ItemsStand}
 use Rattle.cw_sound.proofs.Names.Lists.{in_left}
-use Rattle.cw_sound.proofs.Names.FoundRows.{at_first, at_later}
-use Rattle.cw_sound.proofs.Names.Rows.{mentions_append}
 use Rattle.cw_sound.proofs.Names.MentionsOf.{signatures_append}
-use Rattle.cw_sound.proofs.Names.Counting.{behind_none}
 use Rattle.std.proofs.lemmas.Option.{same_Some}
 use Rattle.cw_sound.proofs.Names.Params.{all_taken_plain}
-use Rattle.cw_sound.proofs.Names.ListedParts.{Listed, communicators_parts}
-use Rattle.cw_sound.proofs.Names.ListedNumbers.{listed_differ, listed_few, number_at, declarations_append, differ_parts, tokens_append}
 use Rattle.cw_sound.proofs.Names.ListedDeclarations.{Told, ToldKind, told}
 use Rattle.cw_sound.proofs.Names.StandingNames.{number_here, signature_here, answer_same}
+use Rattle.cw_sound.proofs.Names.ListedTold as listed
 
 -- ---- what a specified procedure takes
 
@@ -91,14 +80,6 @@ pub spec_kinds : (params : List RawPs) → map kind_of_param (map param_as (each
 spec_kinds [] = refl
 spec_kinds (p ∷ more) = ap₂ (λ k ks. k ∷ ks) (one_kind p) (spec_kinds more)
 
-front : {T : Type 0} → (xs ys : List (Row T)) (t : ℕ) (v : T) → item_at xs t ≡ Some v → item_at (xs ++ ys) t ≡ Some v
-front [] ys t v e = absurd (cc)
-front (x ∷ xs) ys t v e = by_test (front xs ys t v) (nat_eq t x.token) refl
-  where
-    by_test : (item_at xs t ≡ Some v → item_at (xs ++ ys) t ≡ Some v) → (b : Bool) → nat_eq t x.token ≡ b → item_at (x ∷ xs ++ ys) t ≡ Some v
-    by_test rest true is = at_first x (xs ++ ys) t is ∙ sym (at_first x xs t is) ∙ e
-    by_test rest false is = at_later x (xs ++ ys) t is ∙ rest (sym (at_later x xs t is) ∙ e)
-
 fraction_said : (o : Option Desc) (answer : Option RawType) (params : List RawPs) → body_in o ≡ Some (bodies.Proc (spec_of answer params)) → fraction_of_desc o ≡ answer_fraction answer
 fraction_said None answer params e = absurd (cc)
 fraction_said (Some d) answer params e = ap fraction_of_body (same_Some d.body (bodies.Proc (spec_of answer params)) e) ∙ answer_same answer
@@ -111,63 +92,26 @@ module _ (named : Named) (numbers : Numbers) (u : SourceUnit) (resolves : Resolv
   abbrev listed_descs : List Desc
   listed_descs = descs_of numbers rows (text_things named named.raw.now) named.raw.now.comms
 
-  here_parts : Listed (communicators_facts named.raw.now.comms) rows listed_descs
-  here_parts = communicators_parts numbers rows (text_things named named.raw.now) named.raw.now.comms
-
-  signatures_differ : Differ (tokens named.signatures)
-  signatures_differ = subst (λ rs. Differ (tokens rs)) (sym resolves.4) placed.signatures
-
-  all_declared : text_declarations (text_facts named.raw.now) ≡ text_declarations (communicators_facts named.raw.now.comms) ++ text_declarations (block_facts named.raw.now.block true)
-  all_declared = declarations_append (communicators_facts named.raw.now.comms) (block_facts named.raw.now.block true)
-
-  rows_differ : Differ (tokens rows)
-  rows_differ =
-      listed_differ here_parts
-      (differ_parts (tokens (text_declarations (communicators_facts named.raw.now.comms))) (tokens (text_declarations (block_facts named.raw.now.block true)))
-      (subst Differ (ap tokens all_declared ∙ tokens_append (text_declarations (communicators_facts named.raw.now.comms)) (text_declarations (block_facts named.raw.now.block true))) placed.declarations)).0
-
-  rows_few : 0 + length rows ≤ 65536
-  rows_few =
-      let few = listed_few here_parts in
-      let size = ap length all_declared ∙ length-append (text_declarations (communicators_facts named.raw.now.comms)) (text_declarations (block_facts named.raw.now.block true)) in
-      omega (arith, few, size, placed.few)
-
   module _ (owner : Option ℕ) (d : Declaration) (i : In (here owner (declares d)) (listed_mentions numbers named.raw.now)) where
-    in_text : In (here owner (declares d)) (text_mentions numbers named.raw.now)
-    in_text =
-        subst (In (here owner (declares d))) (sym (mentions_append numbers (communicators_facts named.raw.now.comms) (block_facts named.raw.now.block true) None))
-        (in_left (here owner (declares d)) (listed_mentions numbers named.raw.now) (block_mentions numbers named.raw.now) i)
-
-    number_told : (l : Listing) (b : DescBody) (number : Numbered) → IsTrue (is_other d.kind) → (t : Told numbers named.signatures rows listed_descs d.name l b) → listed_number t.place l ≡ Some number → item_at numbers d.name.at.token ≡ Some number
-    number_told l b number other t e =
-        let zero_more : 0 + t.place ≡ t.place = omega arith in
-        ap (λ ns. item_at ns d.name.at.token) is
-        ∙ behind_none (item_rows 0 (text_things named named.raw.now)) (listed_rows 0 rows ++ declared_rows (begin_of named.raw.now) none_counted named.declarations) d.name.at.token (items.others owner d other in_text)
-        ∙ front (listed_rows 0 rows) (declared_rows (begin_of named.raw.now) none_counted named.declarations) d.name.at.token number
-        (number_at rows 0 t.place d.name l number rows_differ t.is_row rows_few (ap (λ j. listed_number j l) zero_more ∙ e))
-
-    body_told : (l : Listing) (b : DescBody) (t : Told numbers named.signatures rows listed_descs d.name l b) → body_at u t.place ≡ Some b
-    body_told l b t = ap (λ ds. body_in (slice_get ds t.place)) descs ∙ t.is_desc
-
     label_told : IsTrue (is_other d.kind) → Told numbers named.signatures rows listed_descs d.name listing.Label bodies.Label → (who : Option ℕ) (n : RawName) → Refers named n d → StandsAs named numbers u who kind.Label n
     label_told other t who n r =
-        subst (IsLabel named numbers u who) (sym (number_here named numbers u n d r ∙ number_told listing.Label bodies.Label (numbered.CommonLabel t.place) other t refl))
-        (label-as-said (alone u) (at_work who) (definition_of (alone u) 0 t.place) (body_at u t.place) (means-alone u t.place known) ∙ ap says_label (body_told listing.Label bodies.Label t))
+        subst (IsLabel named numbers u who) (sym (number_here named numbers u n d r ∙ listed.number_told named numbers u placed items is owner d i listing.Label bodies.Label (numbered.CommonLabel t.place) other t refl))
+        (label-as-said (alone u) (at_work who) (definition_of (alone u) 0 t.place) (body_at u t.place) (means-alone u t.place known) ∙ ap says_label (listed.body_told named numbers u descs d listing.Label bodies.Label t))
 
     switch_told : IsTrue (is_other d.kind) → Told numbers named.signatures rows listed_descs d.name listing.Switch bodies.Switch → (who : Option ℕ) (n : RawName) → Refers named n d → StandsAs named numbers u who kind.Switch n
     switch_told other t who n r =
-        subst (IsSwitch named numbers u who) (sym (number_here named numbers u n d r ∙ number_told listing.Switch bodies.Switch (numbered.CommonSwitch t.place) other t refl))
-        (switch-as-said (alone u) (at_work who) (definition_of (alone u) 0 t.place) (body_at u t.place) (means-alone u t.place known) ∙ ap says_switch (body_told listing.Switch bodies.Switch t))
+        subst (IsSwitch named numbers u who) (sym (number_here named numbers u n d r ∙ listed.number_told named numbers u placed items is owner d i listing.Switch bodies.Switch (numbered.CommonSwitch t.place) other t refl))
+        (switch-as-said (alone u) (at_work who) (definition_of (alone u) 0 t.place) (body_at u t.place) (means-alone u t.place known) ∙ ap says_switch (listed.body_told named numbers u descs d listing.Switch bodies.Switch t))
 
     procedure_told : (answer : Option RawType) (params : List RawPs) → IsTrue (is_other d.kind) → Told numbers named.signatures rows listed_descs d.name listing.Proc (bodies.Proc (spec_of answer params))
         → In (record { token = d.name.at.token; item = record { answer = answer; params = params } }) named.signatures → (who : Option ℕ) (n : RawName) → Refers named n d → StandsAs named numbers u who (kind.Proc answer) n
     procedure_told answer params other t row_in who n r =
-        let body = body_told listing.Proc (bodies.Proc (spec_of answer params)) t in
+        let body = listed.body_told named numbers u descs d listing.Proc (bodies.Proc (spec_of answer params)) t in
         let m = subst (Means (alone u) (definition_of (alone u) 0 t.place)) body (means-alone u t.place known) in
-        let number = number_told listing.Proc (bodies.Proc (spec_of answer params)) (numbered.CommonProc t.place) other t refl in
+        let number = listed.number_told named numbers u placed items is owner d i listing.Proc (bodies.Proc (spec_of answer params)) (numbered.CommonProc t.place) other t refl in
         record {
           params = params;
-          signature = signature_here named numbers u n d (record { answer = answer; params = params }) signatures_differ r row_in;
+          signature = signature_here named numbers u n d (record { answer = answer; params = params }) (listed.signatures_differ named resolves placed) r row_in;
           is = subst (IsProcedure named numbers u who params) (sym (number_here named numbers u n d r ∙ number))
               (m.2, ap (λ f. procedure_of_place (alone u) (procedure_of_def f)) m.3 ∙ m.4, m.5 ∙ spec_kinds params);
           scale = ap (λ o. answer_scale u (target_of (kind_of named n) o)) (number_here named numbers u n d r ∙ number) ∙ fraction_said (slice_get u.descs t.place) answer params body;
@@ -201,6 +145,6 @@ module _ (named : Named) (numbers : Numbers) (u : SourceUnit) (resolves : Resolv
   listed_stand owner d h i =
       by_owner owner d i owner
       (by_kind owner d i d.kind refl h
-      (told numbers named.signatures here_parts None
+      (told numbers named.signatures (listed.here_parts named numbers) None
       (λ r j. subst (In r) (sym (resolves.4 ∙ signatures_append (communicators_facts named.raw.now.comms) (block_facts named.raw.now.block true))) (in_left r (text_signatures (communicators_facts named.raw.now.comms)) (text_signatures (block_facts named.raw.now.block true)) j))
       (here owner (declares d)) i))

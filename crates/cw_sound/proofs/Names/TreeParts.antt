@@ -1,12 +1,9 @@
 -- Each tree of a block is made of parts that matter to names.
-use Rattle.std.proofs.Common.{◌≡◌, ◌⊎◌, inl, inr, ℕ, suc, arith, List, [], ◌∷◌, ◌++◌, map, length, Bool, true, false, not, cond, if◌then◌else◌, IsTrue, ◌||◌, ◌==◌, nat_eq, Option, Some, None, refl, sym, ap, ap₂, subst, ◌∙◌}
+use Rattle.std.proofs.Common.{◌≡◌, ℕ, suc, arith, List, [], ◌∷◌, ◌++◌, map, length, Bool, true, false, not, IsTrue}
+use Rattle.std.proofs.Common.{◌||◌, ◌==◌, nat_eq, Some, None, refl, sym, ap, subst, ◌∙◌, if◌then◌else◌}
 use Rattle.std.proofs.lemmas.Bool.Decides.{nat_tests}
 use Rattle.cw_table.specs.Rows.{item_at}
 use Rattle.cw_tree.specs.declared.leaf.RawName.{RawName}
-use Rattle.cw_tree.specs.declared.items.RawBase.{RawBase}
-use Rattle.cw_tree.specs.declared.expression.RawExpr.{RawExpr}
-use Rattle.cw_tree.specs.declared.expression.RawRef.{RawRef}
-use Rattle.cw_tree.specs.declared.expression.RawCond.{RawCond}
 use Rattle.cw_tree.specs.declared.statement.RawFelem.{RawFelem}
 use Rattle.cw_tree.specs.declared.statement.RawFelem.TheVariants as felem
 use Rattle.cw_tree.specs.declared.statement.RawDecl.{RawDecl, RawDecl-F, roll-RawDecl, map-RawDecl, fold-RawDecl}
@@ -18,17 +15,18 @@ use Rattle.cw_tree.specs.declared.statement.RawStmt.{RawStmt, roll-RawStmt, map-
 use Rattle.cw_tree.specs.declared.statement.RawDecl.TheOpen as layer
 use Rattle.cw_tree.specs.declared.statement.RawDecl.TheOpen.{RawForm-F, RawSimple-F, RawBlock-F, RawProc-F, RawStmt-F}
 use Rattle.cw_tree.specs.declared.statement.RawDecl.TheViews.{roll-out-RawProc, out-roll-RawProc}
-use Rattle.cw_tree.specs.declared.statement.RawDecl.TheFolds.{fold-roll-RawDecl, fold-roll-RawForm, fold-roll-RawSimple, fold-roll-RawBlock, fold-roll-RawProc, fold-roll-RawStmt, para-roll-RawDecl, para-roll-RawForm, para-roll-RawSimple, para-roll-RawBlock, para-roll-RawProc, para-roll-RawStmt, ind-RawBlock}
+use Rattle.cw_tree.specs.declared.statement.RawDecl.TheFolds.{fold-roll-RawDecl, fold-roll-RawForm, fold-roll-RawSimple, fold-roll-RawBlock, fold-roll-RawProc, fold-roll-RawStmt, para-roll-RawDecl}
+use Rattle.cw_tree.specs.declared.statement.RawDecl.TheFolds.{para-roll-RawForm, para-roll-RawSimple, para-roll-RawBlock, para-roll-RawProc, para-roll-RawStmt}
 use Rattle.cw_facts.specs.declared.fact.Fact.{Fact}
-use Rattle.cw_facts.specs.declared.fact.Fact.TheVariants as fact
 use Rattle.cw_facts.specs.declared.fact.Form.TheVariants as use_form
 use Rattle.cw_facts.specs.declared.fact.Kind.TheVariants as kind
 use Rattle.cw_facts.specs.declared.fact.Reading.TheVariants as reading
-use Rattle.cw_facts.specs.Uses.{expression_uses, condition_uses, reference_uses, argument_uses, uses_of}
+use Rattle.cw_facts.specs.Uses.{expression_uses, condition_uses, reference_uses, argument_uses}
 use Rattle.cw_facts.specs.Facts as said
-use Rattle.cw_facts.specs.Facts.{BlockFacts, declares, each_declares, each_uses, data_facts, base_facts, base_name, felem_facts, felems_facts, enclosed, answer_name, declaration_facts, form_facts, simple_facts, block_facts, procedure_facts, statement_facts}
+use Rattle.cw_facts.specs.Facts.{each_declares, base_name, felem_facts, felems_facts, enclosed, answer_name, declaration_facts}
+use Rattle.cw_facts.specs.Facts.{form_facts, simple_facts, block_facts, procedure_facts, statement_facts}
 use Rattle.cw_scope.specs.declared.resolve.Named.{Named}
-use Rattle.cw_make_items.specs.Lookup.{Numbers, proc_here}
+use Rattle.cw_make_items.specs.Lookup.{Numbers}
 use Rattle.cw_make_expr.specs.Parts.{label_in, item_here}
 use Rattle.cw_make_expr.specs.Made.{condition_of, reference_of}
 use Rattle.cw_make_stmt.specs.Made as tree
@@ -41,14 +39,17 @@ use Rattle.cw_unit.specs.declared.unit.Proc.{Proc}
 use Rattle.cw_unit.specs.declared.unit.Cond.{Cond}
 use Rattle.cw_unit.specs.declared.unit.Ref.{Ref}
 use Rattle.cw_unit.specs.declared.unit.Felem.{Felem}
-use Rattle.cw_unit.specs.declared.unit.Stmt.{Stmt, roll-Stmt}
+use Rattle.cw_unit.specs.declared.unit.Stmt.{Stmt}
 use Rattle.cw_unit.specs.declared.unit.Stmt.TheFolds.{fold-roll-Stmt}
 use Rattle.cw_unit.specs.declared.unit.Stmt.TheOpen as statement
 use Rattle.cw_unit.specs.LabelContinuation.{has_label}
 use Rattle.cw_safety.specs.WellFormed.{any, sets, sets_step}
-use Rattle.cw_sound.proofs.Names.Parts.{Switches, no_switches, never, Plain, Part, empty, both, plain, items, label, switch, block, procedure, more, procedure_with}
+use Rattle.cw_sound.proofs.Names.Parts.{Switches, no_switches, never, Plain, Part, empty, both, plain, items, label, switch, block, procedure, more}
 use Rattle.cw_sound.proofs.Names.PlainFacts.{plain_nothing, plain_both, plain_use, plain_loop}
 use Rattle.cw_sound.proofs.Names.ExpressionUses.{expression_plain, condition_plain, reference_plain, arguments_plain}
+use Rattle.cw_sound.proofs.Statements.Layers.{Known, WithDecl, WithStmt, DeclParts, FormParts, SimpleParts, BlockParts, ProcParts, StmtParts}
+use Rattle.cw_sound.proofs.Statements.Layers.{decl_layer, form_layer, simple_layer, block_layer, proc_layer, stmt_layer, each_block}
+use Rattle.cw_sound.proofs.Statements.Folds.{facts_decl, facts_form, facts_simple, facts_block, facts_proc, facts_stmt}
 
 -- ---- labels that statements set
 
@@ -112,38 +113,20 @@ module _ (named : Named) (numbers : Numbers) where
 
   -- ---- what each tree comes to, by its layer
 
-  abbrev pub facts_decl : (x : RawDecl-F RawDecl RawForm RawSimple RawBlock RawProc RawStmt) → declaration_facts (roll-RawDecl x) ≡ said.declaration_step (map-RawDecl RawDecl RawForm RawSimple RawBlock RawProc RawStmt (List Fact) (List Fact) (List Fact) BlockFacts (List Fact) (List Fact) declaration_facts form_facts simple_facts block_facts procedure_facts statement_facts x)
-  facts_decl x = fold-roll-RawDecl (List Fact) (List Fact) (List Fact) BlockFacts (List Fact) (List Fact) said.declaration_step said.form_step said.simple_step said.block_step said.procedure_step said.statement_step x
-
   abbrev pub switches_decl : (x : RawDecl-F RawDecl RawForm RawSimple RawBlock RawProc RawStmt) → declaration_switches named numbers (roll-RawDecl x) ≡ switched.declaration_step named numbers (map-RawDecl RawDecl RawForm RawSimple RawBlock RawProc RawStmt Switches Switches Switches Switches Switches Switches (declaration_switches named numbers) (form_switches named numbers) (simple_switches named numbers) (block_switches named numbers) (procedure_switches named numbers) (statement_switches named numbers) x)
   switches_decl x = fold-roll-RawDecl Switches Switches Switches Switches Switches Switches (switched.declaration_step named numbers) (switched.form_step named numbers) (switched.simple_step named numbers) (switched.block_step named numbers) (switched.procedure_step named numbers) (switched.statement_step named numbers) x
-
-  abbrev pub facts_form : (x : RawForm-F RawDecl RawForm RawSimple RawBlock RawProc RawStmt) → form_facts (roll-RawForm x) ≡ said.form_step (map-RawForm RawDecl RawForm RawSimple RawBlock RawProc RawStmt (List Fact) (List Fact) (List Fact) BlockFacts (List Fact) (List Fact) declaration_facts form_facts simple_facts block_facts procedure_facts statement_facts x)
-  facts_form x = fold-roll-RawForm (List Fact) (List Fact) (List Fact) BlockFacts (List Fact) (List Fact) said.declaration_step said.form_step said.simple_step said.block_step said.procedure_step said.statement_step x
 
   abbrev pub switches_form : (x : RawForm-F RawDecl RawForm RawSimple RawBlock RawProc RawStmt) → form_switches named numbers (roll-RawForm x) ≡ switched.form_step named numbers (map-RawForm RawDecl RawForm RawSimple RawBlock RawProc RawStmt Switches Switches Switches Switches Switches Switches (declaration_switches named numbers) (form_switches named numbers) (simple_switches named numbers) (block_switches named numbers) (procedure_switches named numbers) (statement_switches named numbers) x)
   switches_form x = fold-roll-RawForm Switches Switches Switches Switches Switches Switches (switched.declaration_step named numbers) (switched.form_step named numbers) (switched.simple_step named numbers) (switched.block_step named numbers) (switched.procedure_step named numbers) (switched.statement_step named numbers) x
 
-  abbrev pub facts_simple : (x : RawSimple-F RawDecl RawForm RawSimple RawBlock RawProc RawStmt) → simple_facts (roll-RawSimple x) ≡ said.simple_step (map-RawSimple RawDecl RawForm RawSimple RawBlock RawProc RawStmt (List Fact) (List Fact) (List Fact) BlockFacts (List Fact) (List Fact) declaration_facts form_facts simple_facts block_facts procedure_facts statement_facts x)
-  facts_simple x = fold-roll-RawSimple (List Fact) (List Fact) (List Fact) BlockFacts (List Fact) (List Fact) said.declaration_step said.form_step said.simple_step said.block_step said.procedure_step said.statement_step x
-
   abbrev pub switches_simple : (x : RawSimple-F RawDecl RawForm RawSimple RawBlock RawProc RawStmt) → simple_switches named numbers (roll-RawSimple x) ≡ switched.simple_step named numbers (map-RawSimple RawDecl RawForm RawSimple RawBlock RawProc RawStmt Switches Switches Switches Switches Switches Switches (declaration_switches named numbers) (form_switches named numbers) (simple_switches named numbers) (block_switches named numbers) (procedure_switches named numbers) (statement_switches named numbers) x)
   switches_simple x = fold-roll-RawSimple Switches Switches Switches Switches Switches Switches (switched.declaration_step named numbers) (switched.form_step named numbers) (switched.simple_step named numbers) (switched.block_step named numbers) (switched.procedure_step named numbers) (switched.statement_step named numbers) x
-
-  abbrev pub facts_block : (x : RawBlock-F RawDecl RawForm RawSimple RawBlock RawProc RawStmt) → block_facts (roll-RawBlock x) ≡ said.block_step (map-RawBlock RawDecl RawForm RawSimple RawBlock RawProc RawStmt (List Fact) (List Fact) (List Fact) BlockFacts (List Fact) (List Fact) declaration_facts form_facts simple_facts block_facts procedure_facts statement_facts x)
-  facts_block x = fold-roll-RawBlock (List Fact) (List Fact) (List Fact) BlockFacts (List Fact) (List Fact) said.declaration_step said.form_step said.simple_step said.block_step said.procedure_step said.statement_step x
 
   abbrev pub switches_block : (x : RawBlock-F RawDecl RawForm RawSimple RawBlock RawProc RawStmt) → block_switches named numbers (roll-RawBlock x) ≡ switched.block_step named numbers (map-RawBlock RawDecl RawForm RawSimple RawBlock RawProc RawStmt Switches Switches Switches Switches Switches Switches (declaration_switches named numbers) (form_switches named numbers) (simple_switches named numbers) (block_switches named numbers) (procedure_switches named numbers) (statement_switches named numbers) x)
   switches_block x = fold-roll-RawBlock Switches Switches Switches Switches Switches Switches (switched.declaration_step named numbers) (switched.form_step named numbers) (switched.simple_step named numbers) (switched.block_step named numbers) (switched.procedure_step named numbers) (switched.statement_step named numbers) x
 
-  abbrev pub facts_proc : (x : RawProc-F RawDecl RawForm RawSimple RawBlock RawProc RawStmt) → procedure_facts (roll-RawProc x) ≡ said.procedure_step (map-RawProc RawDecl RawForm RawSimple RawBlock RawProc RawStmt (List Fact) (List Fact) (List Fact) BlockFacts (List Fact) (List Fact) declaration_facts form_facts simple_facts block_facts procedure_facts statement_facts x)
-  facts_proc x = fold-roll-RawProc (List Fact) (List Fact) (List Fact) BlockFacts (List Fact) (List Fact) said.declaration_step said.form_step said.simple_step said.block_step said.procedure_step said.statement_step x
-
   abbrev pub switches_proc : (x : RawProc-F RawDecl RawForm RawSimple RawBlock RawProc RawStmt) → procedure_switches named numbers (roll-RawProc x) ≡ switched.procedure_step named numbers (map-RawProc RawDecl RawForm RawSimple RawBlock RawProc RawStmt Switches Switches Switches Switches Switches Switches (declaration_switches named numbers) (form_switches named numbers) (simple_switches named numbers) (block_switches named numbers) (procedure_switches named numbers) (statement_switches named numbers) x)
   switches_proc x = fold-roll-RawProc Switches Switches Switches Switches Switches Switches (switched.declaration_step named numbers) (switched.form_step named numbers) (switched.simple_step named numbers) (switched.block_step named numbers) (switched.procedure_step named numbers) (switched.statement_step named numbers) x
-
-  abbrev pub facts_stmt : (x : RawStmt-F RawDecl RawForm RawSimple RawBlock RawProc RawStmt) → statement_facts (roll-RawStmt x) ≡ said.statement_step (map-RawStmt RawDecl RawForm RawSimple RawBlock RawProc RawStmt (List Fact) (List Fact) (List Fact) BlockFacts (List Fact) (List Fact) declaration_facts form_facts simple_facts block_facts procedure_facts statement_facts x)
-  facts_stmt x = fold-roll-RawStmt (List Fact) (List Fact) (List Fact) BlockFacts (List Fact) (List Fact) said.declaration_step said.form_step said.simple_step said.block_step said.procedure_step said.statement_step x
 
   abbrev pub switches_stmt : (x : RawStmt-F RawDecl RawForm RawSimple RawBlock RawProc RawStmt) → statement_switches named numbers (roll-RawStmt x) ≡ switched.statement_step named numbers (map-RawStmt RawDecl RawForm RawSimple RawBlock RawProc RawStmt Switches Switches Switches Switches Switches Switches (declaration_switches named numbers) (form_switches named numbers) (simple_switches named numbers) (block_switches named numbers) (procedure_switches named numbers) (statement_switches named numbers) x)
   switches_stmt x = fold-roll-RawStmt Switches Switches Switches Switches Switches Switches (switched.declaration_step named numbers) (switched.form_step named numbers) (switched.simple_step named numbers) (switched.block_step named numbers) (switched.procedure_step named numbers) (switched.statement_step named numbers) x
@@ -193,45 +176,12 @@ module _ (named : Named) (numbers : Numbers) where
 
   -- ---- trees with what is made of them
 
-  abbrev D : Type 0
-  D = (d : RawDecl) × DeclPart d
-
-  abbrev F : Type 0
-  F = (f : RawForm) × FormPart f
-
-  abbrev S : Type 0
-  S = (s : RawSimple) × SimplePart s
-
-  abbrev B : Type 0
-  B = (b : RawBlock) × BlockPart b
-
-  abbrev Q : Type 0
-  Q = (p : RawProc) × ProcPart p
-
-  abbrev T : Type 0
-  T = (s : RawStmt) × StmtPart s
-
-  abbrev decl_x : RawDecl-F D F S B Q T → RawDecl-F RawDecl RawForm RawSimple RawBlock RawProc RawStmt
-  decl_x = map-RawDecl D F S B Q T RawDecl RawForm RawSimple RawBlock RawProc RawStmt (λ e. e.0) (λ e. e.0) (λ e. e.0) (λ e. e.0) (λ e. e.0) (λ e. e.0)
-
-  abbrev form_x : RawForm-F D F S B Q T → RawForm-F RawDecl RawForm RawSimple RawBlock RawProc RawStmt
-  form_x = map-RawForm D F S B Q T RawDecl RawForm RawSimple RawBlock RawProc RawStmt (λ e. e.0) (λ e. e.0) (λ e. e.0) (λ e. e.0) (λ e. e.0) (λ e. e.0)
-
-  abbrev simple_x : RawSimple-F D F S B Q T → RawSimple-F RawDecl RawForm RawSimple RawBlock RawProc RawStmt
-  simple_x = map-RawSimple D F S B Q T RawDecl RawForm RawSimple RawBlock RawProc RawStmt (λ e. e.0) (λ e. e.0) (λ e. e.0) (λ e. e.0) (λ e. e.0) (λ e. e.0)
-
-  abbrev block_x : RawBlock-F D F S B Q T → RawBlock-F RawDecl RawForm RawSimple RawBlock RawProc RawStmt
-  block_x = map-RawBlock D F S B Q T RawDecl RawForm RawSimple RawBlock RawProc RawStmt (λ e. e.0) (λ e. e.0) (λ e. e.0) (λ e. e.0) (λ e. e.0) (λ e. e.0)
-
-  abbrev proc_x : RawProc-F D F S B Q T → RawProc-F RawDecl RawForm RawSimple RawBlock RawProc RawStmt
-  proc_x = map-RawProc D F S B Q T RawDecl RawForm RawSimple RawBlock RawProc RawStmt (λ e. e.0) (λ e. e.0) (λ e. e.0) (λ e. e.0) (λ e. e.0) (λ e. e.0)
-
-  abbrev stmt_x : RawStmt-F D F S B Q T → RawStmt-F RawDecl RawForm RawSimple RawBlock RawProc RawStmt
-  stmt_x = map-RawStmt D F S B Q T RawDecl RawForm RawSimple RawBlock RawProc RawStmt (λ e. e.0) (λ e. e.0) (λ e. e.0) (λ e. e.0) (λ e. e.0) (λ e. e.0)
+  abbrev known : Known
+  known = record { Decl = DeclPart; Form = FormPart; Simple = SimplePart; Block = BlockPart; Proc = ProcPart; Stmt = StmtPart }
 
   -- ---- rules of the grammar
 
-  decl_part : (y : RawDecl-F D F S B Q T) → DeclPart (roll-RawDecl (decl_x y))
+  decl_part : (y : DeclParts known) → DeclPart (roll-RawDecl (decl_layer known y))
   decl_part (layer.Data d) = like (facts_decl (layer.Data d)) (switches_decl (layer.Data d)) (procs_decl (layer.Data d)) (λ l h. h) (items d)
   decl_part (layer.Overlay at b d) =
       like (facts_decl (layer.Overlay at b d)) (switches_decl (layer.Overlay at b d)) (procs_decl (layer.Overlay at b d)) (λ l h. h)
@@ -268,7 +218,7 @@ module _ (named : Named) (numbers : Numbers) where
       (λ j. or_first (sets l (marked numbers ns a)) (sets l b) (set_behind numbers ns a l (or_second (has_label l (labels_of numbers ns)) (sets l a) j)))
       (λ j. or_second (sets l (marked numbers ns a)) (sets l b) j))
 
-  form_part : (y : RawForm-F D F S B Q T) → FormPart (roll-RawForm (form_x y))
+  form_part : (y : FormParts known) → FormPart (roll-RawForm (form_layer known y))
   form_part (layer.Simple s) =
       like (facts_form (layer.Simple s.0)) (switches_form (layer.Simple s.0)) (procs_form (layer.Simple s.0)) (λ l h. subst (λ z. IsTrue (sets l z)) (sym (tree_form (layer.Simple s.0))) h) s.1
   form_part (layer.If at test labels first None) =
@@ -294,7 +244,7 @@ module _ (named : Named) (numbers : Numbers) where
       (set_for (tree.line_of at) (item_here numbers at.token) (reference_of named numbers variable) (map (tree.felem_of named numbers) elems) (statement_of named numbers body.0) l h))
       (both (plain (plain_loop numbers at (reference_uses variable reading.Whole) (reference_plain numbers variable reading.Whole))) (both (plain (felems_plain elems)) body.1))
 
-  simple_part : (y : RawSimple-F D F S B Q T) → SimplePart (roll-RawSimple (simple_x y))
+  simple_part : (y : SimpleParts known) → SimplePart (roll-RawSimple (simple_layer known y))
   simple_part layer.Empty = like (facts_simple layer.Empty) (switches_simple layer.Empty) (procs_simple layer.Empty) (λ l h. absurd (cc)) empty
   simple_part (layer.Assign r e) =
       like (facts_simple (layer.Assign r e)) (switches_simple (layer.Assign r e)) (procs_simple (layer.Assign r e)) (λ l h. absurd (cc))
@@ -317,11 +267,11 @@ module _ (named : Named) (numbers : Numbers) where
   simple_part (layer.Block b) =
       like (facts_simple (layer.Block b.0)) (switches_simple (layer.Block b.0)) (procs_simple (layer.Block b.0)) (λ l h. subst (λ z. IsTrue (sets l z)) (sym (tree_simple (layer.Block b.0))) h) (b.1 false)
 
-  decls_part : (ds : List D) → P (said.joined (map declaration_facts (map (λ e. e.0) ds))) (switched.joined (map (declaration_switches named numbers) (map (λ e. e.0) ds))) (made.joined (map (λ d. (d, declaration_procs named numbers d)) (map (λ e. e.0) ds))) never
+  decls_part : (ds : List (WithDecl known)) → P (said.joined (map declaration_facts (map (λ e. e.0) ds))) (switched.joined (map (declaration_switches named numbers) (map (λ e. e.0) ds))) (made.joined (map (λ d. (d, declaration_procs named numbers d)) (map (λ e. e.0) ds))) never
   decls_part [] = empty
   decls_part (d ∷ ds) = both d.1 (decls_part ds)
 
-  stmts_part : (ss : List T) → P (said.joined (map statement_facts (map (λ e. e.0) ss))) (switched.joined (map (statement_switches named numbers) (map (λ e. e.0) ss))) (made.joined (map (λ s. (s, statement_procs named numbers s)) (map (λ e. e.0) ss))) (λ l. any (map (sets l) (map (statement_of named numbers) (map (λ e. e.0) ss))))
+  stmts_part : (ss : List (WithStmt known)) → P (said.joined (map statement_facts (map (λ e. e.0) ss))) (switched.joined (map (statement_switches named numbers) (map (λ e. e.0) ss))) (made.joined (map (λ s. (s, statement_procs named numbers s)) (map (λ e. e.0) ss))) (λ l. any (map (sets l) (map (statement_of named numbers) (map (λ e. e.0) ss))))
   stmts_part [] = empty
   stmts_part (s ∷ ss) = both s.1 (stmts_part ss)
 
@@ -329,31 +279,24 @@ module _ (named : Named) (numbers : Numbers) where
   enclosed_part true a = block a
   enclosed_part false a = a
 
-  block_part : (y : RawBlock-F D F S B Q T) → BlockPart (roll-RawBlock (block_x y))
+  block_part : (y : BlockParts known) → BlockPart (roll-RawBlock (block_layer known y))
   block_part y outermost =
-      like (ap (λ f. f outermost) (facts_block (block_x y))) (switches_block (block_x y)) (procs_block (block_x y))
-      (λ l h. subst (λ z. IsTrue (sets l z)) (sym (tree_block (block_x y))) (set_row (map (statement_of named numbers) (map (λ e. e.0) y.stmts)) l h))
+      like (ap (λ f. f outermost) (facts_block (block_layer known y))) (switches_block (block_layer known y)) (procs_block (block_layer known y))
+      (λ l h. subst (λ z. IsTrue (sets l z)) (sym (tree_block (block_layer known y))) (set_row (map (statement_of named numbers) (map (λ e. e.0) y.stmts)) l h))
       (enclosed_part (outermost || not (length (map declaration_facts (map (λ e. e.0) y.decls)) == 0)) (both (decls_part y.decls) (stmts_part y.stmts)))
 
-  proc_part : (y : RawProc-F D F S B Q T) → ProcPart (roll-RawProc (proc_x y))
+  proc_part : (y : ProcParts known) → ProcPart (roll-RawProc (proc_layer known y))
   proc_part y =
-      let p : RawProc = roll-RawProc (proc_x y) in
+      let p : RawProc = roll-RawProc (proc_layer known y) in
       like (ap procedure_facts (sym (roll-out-RawProc p)) ∙ facts_proc (out-RawProc p)) (ap (procedure_switches named numbers) (sym (roll-out-RawProc p)) ∙ switches_proc (out-RawProc p))
       (ap (λ ps. proc_of named numbers p ∷ ps) (ap (procedure_procs named numbers) (sym (roll-out-RawProc p)) ∙ procs_proc (out-RawProc p))) (λ l h. h)
-      (procedure p (subst (λ z. StmtPart z.body) (sym (out-roll-RawProc (proc_x y))) y.body.1))
+      (procedure p (subst (λ z. StmtPart z.body) (sym (out-roll-RawProc (proc_layer known y))) y.body.1))
 
-  stmt_part : (y : RawStmt-F D F S B Q T) → StmtPart (roll-RawStmt (stmt_x y))
+  stmt_part : (y : StmtParts known) → StmtPart (roll-RawStmt (stmt_layer known y))
   stmt_part y =
-      like (facts_stmt (stmt_x y)) (switches_stmt (stmt_x y)) (procs_stmt (stmt_x y))
-      (λ l h. subst (λ z. IsTrue (sets l z)) (sym (tree_stmt (stmt_x y))) (set_behind numbers y.labels (form_of named numbers y.form.0) l h))
+      like (facts_stmt (stmt_layer known y)) (switches_stmt (stmt_layer known y)) (procs_stmt (stmt_layer known y))
+      (λ l h. subst (λ z. IsTrue (sets l z)) (sym (tree_stmt (stmt_layer known y))) (set_behind numbers y.labels (form_of named numbers y.form.0) l h))
       (both (labels_part y.labels) y.form.1)
 
   pub block_parts : (b : RawBlock) → BlockPart b
-  block_parts =
-      ind-RawBlock DeclPart FormPart SimplePart BlockPart ProcPart StmtPart
-      (λ x y is. subst (λ z. DeclPart (roll-RawDecl z)) is (decl_part y))
-      (λ x y is. subst (λ z. FormPart (roll-RawForm z)) is (form_part y))
-      (λ x y is. subst (λ z. SimplePart (roll-RawSimple z)) is (simple_part y))
-      (λ x y is. subst (λ z. BlockPart (roll-RawBlock z)) is (block_part y))
-      (λ x y is. subst (λ z. ProcPart (roll-RawProc z)) is (proc_part y))
-      (λ x y is. subst (λ z. StmtPart (roll-RawStmt z)) is (stmt_part y))
+  block_parts = each_block known (record { decl = decl_part; form = form_part; simple = simple_part; block = block_part; proc = proc_part; stmt = stmt_part })

@@ -17,11 +17,12 @@ use Rattle.cw_grammar.specs.Rules.{raw_literal, indexed_name, ref_behind, primar
 use Rattle.cw_scope.specs.declared.resolve.Named.{Named}
 use Rattle.cw_items.specs.declared.families.Site.{Site}
 use Rattle.cw_preset.specs.Strings.{Rows, joined, expression_rows, primary_rows, reference_rows, conjunction_rows, comparison_rows, condition_rows, differ_rows, mask_rows, prim_rows, sum_rows, term_rows, union_rows}
-use Rattle.cw_sound.proofs.Items.Lists.{Each}
 use Rattle.cw_sound.proofs.Presets.Small.{RowsSmall, rows_append, string_small, characters_bytes}
 use Rattle.cw_sound.proofs.Presets.Layers.{cand_made, cond_made, cmp_made, expr_choice, primary_number, primary_octal, primary_literal, primary_text, primary_location, primary_forced, primary_bracket, primary_ref, primary_call, ref_name, ref_one, ref_two, ref_bare}
 use Rattle.cw_sound.proofs.Presets.Held.{joined_extended, mask_kept, union_kept, differ_kept, term_kept, sum_kept, expr_of_keeps, prim_of_keeps}
-use Rattle.cw_sound.proofs.Presets.Good.{IsOfBytes, OfOption, OfEither, Good, Given, Keeps, given_good}
+use Rattle.cw_sound.proofs.Presets.Good.{IsOfBytes, Good, Given, Keeps, given_good}
+use Rattle.cw_sound.proofs.Kept.{OfOption, OfEither}
+use Rattle.cw_macro.specs.Premises.{Each}
 
 -- ---- trees
 

@@ -18,7 +18,7 @@ use Rattle.cw_scale.specs.Faults.{both}
 use Rattle.cw_scale.specs.Kinds.{fraction_of}
 use Rattle.cw_data.specs.Data.{data_judged}
 use Rattle.cw_data.specs.Presets as judged
-use Rattle.cw_data.specs.Presets.{behind_each, place_position, left_over, table_words}
+use Rattle.cw_data.specs.Presets.{behind_each, table_words}
 use Rattle.cw_items.specs.declared.families.Site.{Site}
 use Rattle.cw_items.specs.declared.thing.Base.{Base}
 use Rattle.cw_items.specs.declared.thing.Owner.{Owner}
@@ -30,10 +30,12 @@ use Rattle.cw_items.specs.Things.{moved, moved_past, named_things, group_words, 
 use Rattle.cw_judge.specs.Declared.{is_framed, names_framed, groups_framed, places_of, frame_judged, one_kind, presets_judged, declared_judged}
 use Rattle.cw_preset.specs.Strings.{Words, Rows}
 use Rattle.cw_preset.specs.Lists.{named_rows, groups_rows, singles_preset, groups_preset, table_preset, data_rows}
-use Rattle.cw_sound.proofs.Items.Lists.{Each, each-append, each-left, each-right, each-in}
-use Rattle.cw_sound.proofs.Items.Keeping.{Keeps, keeps-fine, keeps-wrong, keeps-unless, keeps-presets, parts-free, holds}
+use Rattle.cw_sound.proofs.Items.Lists.{each-append, each-left, each-right, each-in}
 use Rattle.cw_sound.proofs.Items.Fitting.{RowsFit}
 use Rattle.cw_sound.proofs.Presets.Small.{Small, RowsSmall, data_small}
+use Rattle.cw_sound.proofs.Expressions.Judging.{keeps_unless, both_free, holds}
+use Rattle.cw_sound.proofs.Items.Keeping.{keeps_presets, keeps_frame, keeps_left}
+use Rattle.cw_macro.specs.Premises.{Each}
 
 -- a list with a name
 abbrev pub HasName : List RawName → Type 0
@@ -41,14 +43,6 @@ HasName [] = ⊥
 HasName (n ∷ ns) = Unit {0}
 
 -- ---- what the rules tell
-
-keeps_frame : (framed : Bool) (p : Option RawPresets) → Keeps (frame_judged framed p)
-keeps_frame framed None = keeps-fine
-keeps_frame framed (Some p) = keeps-unless (not framed) rule.BadPreset p.at
-
-keeps_left : (ps : List RawPlace) → Keeps (left_over ps)
-keeps_left [] = keeps-fine
-keeps_left (p ∷ ps) = keeps-wrong rule.BadPreset (place_position p)
 
 unframed : (framed : Bool) (p : RawPresets) → frame_judged framed (Some p) None ≡ None → framed ≡ false
 unframed framed p free = of_not framed (holds (not framed) rule.BadPreset p.at free)
@@ -125,16 +119,16 @@ module _ (sites : List (Row Site)) where
   table_apart t None None free = tt
   table_apart t None (Some p) free =
       let framed = is_framed (item_at sites t.name.at.token) in
-      (unframed framed p (parts-free (both (judged.elements_preset t.size t.elems []) (judged.table_preset t.size p.places)) (frame_judged framed (Some p)) (keeps_frame framed (Some p)) free).1, tt)
+      (unframed framed p (both_free (both (judged.elements_preset t.size t.elems []) (judged.table_preset t.size p.places)) (frame_judged framed (Some p)) (keeps_frame framed (Some p)) free).1, tt)
   table_apart t (Some p) None free =
       let framed = is_framed (item_at sites t.name.at.token) in
       let rest : List RawPlace = drop (table_words (place_amount t.size.first) (place_amount t.size.second)) [] in
       let inner = (keeps_left rest).nothing_before (both (judged.elements_preset t.size t.elems p.places) (frame_judged framed (Some p)) None) free in
-      (unframed framed p (parts-free (judged.elements_preset t.size t.elems p.places) (frame_judged framed (Some p)) (keeps_frame framed (Some p)) inner).1, tt)
+      (unframed framed p (both_free (judged.elements_preset t.size t.elems p.places) (frame_judged framed (Some p)) (keeps_frame framed (Some p)) inner).1, tt)
   table_apart t (Some p) (Some q) free =
       let framed = is_framed (item_at sites t.name.at.token) in
       let before = both (both (judged.elements_preset t.size t.elems p.places) (frame_judged framed (Some p))) (both (judged.table_preset t.size q.places) (frame_judged framed (Some q))) in
-      let kinds : is_none (Some p) ≡ true = holds (is_none (Some p)) rule.BadPreset q.at (parts-free before (one_kind (Some p) (Some q)) (keeps-unless (is_none (Some p)) rule.BadPreset q.at) free).1 in
+      let kinds : is_none (Some p) ≡ true = holds (is_none (Some p)) rule.BadPreset q.at (both_free before (one_kind (Some p) (Some q)) (keeps_unless (is_none (Some p)) rule.BadPreset q.at) free).1 in
       absurd cc
 
   -- what a declaration holds, where the rules have no fault
@@ -142,18 +136,18 @@ module _ (sites : List (Row Site)) where
   DataHeld d = (o : Option Owner) (b : Option Base) → declared_judged sites d None ≡ None → Each Told (data_things o b d) → Each Held (data_rows d)
 
   presets_free : (d : RawData) → declared_judged sites d None ≡ None → presets_judged sites d None ≡ None
-  presets_free d free = (parts-free (data_judged d) (presets_judged sites d) (keeps-presets sites d) free).1
+  presets_free d free = (both_free (data_judged d) (presets_judged sites d) (keeps_presets sites d) free).1
 
   pub singles_held : (t : RawType) (ns : List RawName) (p : Option RawPresets) → DataHeld (items.Singles t ns p)
   singles_held t ns p o b free h =
       let d = items.Singles t ns p in
-      let last = parts-free (judged.singles_preset (fraction_of t) ns (places_of p)) (frame_judged (names_framed sites ns) p) (keeps_frame (names_framed sites ns) p) (presets_free d free) in
+      let last = both_free (judged.singles_preset (fraction_of t) ns (places_of p)) (frame_judged (names_framed sites ns) p) (keeps_frame (names_framed sites ns) p) (presets_free d free) in
       held_rows (data_rows d) (data_small d) (singles_apart o b (fraction_of t) ns p last.1 h)
 
   pub arrays_held : (t : RawType) (gs : List RawGroup) (p : Option RawPresets) → Each (λ (g : RawGroup). HasName g.names) gs → DataHeld (items.Arrays t gs p)
   arrays_held t gs p k o b free h =
       let d = items.Arrays t gs p in
-      let last = parts-free (judged.arrays_preset (fraction_of t) gs (places_of p)) (frame_judged (groups_framed sites gs) p) (keeps_frame (groups_framed sites gs) p) (presets_free d free) in
+      let last = both_free (judged.arrays_preset (fraction_of t) gs (places_of p)) (frame_judged (groups_framed sites gs) p) (keeps_frame (groups_framed sites gs) p) (presets_free d free) in
       held_rows (data_rows d) (data_small d) (arrays_apart o b (fraction_of t) gs p k last.1 h)
 
   pub table_held : (t : RawTable) (inside behind : Option RawPresets) → DataHeld (items.Table t inside behind)

@@ -1,12 +1,12 @@
 -- What is known of each value that a text of bytes stands for, where each rule of the grammar keeps it: of a tree, that what it holds at the start are words,
 -- of what stands in no frame. Of what has no strings and no data nothing need be known.
-use Rattle.std.proofs.Common.{◌≡◌, ℕ, Bool, true, false, ◌&&◌, List, [], ◌∷◌, ◌++◌, Option, Some, None, refl}
+use Rattle.std.proofs.Common.{◌≡◌, ℕ, Bool, true, false, ◌&&◌, List, None, refl}
 use Rattle.cw_table.specs.declared.table.Row.{Row}
 use Rattle.cw_tree.specs.declared.segment.Raw.{Raw}
 use Rattle.cw_tree.specs.declared.segment.RawCitem.{RawCitem}
 use Rattle.cw_tree.specs.declared.segment.RawComm.{RawComm}
 use Rattle.cw_grammar.specs.Tokens.{Item}
-use Rattle.cw_grammar.specs.Grammar.{Either, left, right, Sort, a_pair, a_list, an_option, an_either, an_expr, a_cond, a_cand, a_cmp, a_sum, a_term, a_differ, a_union, a_mask, a_prim, a_primary, a_ref, a_group, a_data, a_stmt, a_form, a_simple, a_felem, a_block, a_decl, a_citem, a_comm, a_raw, a_from, Value, Rule, Again, Grammar, one, none, ◌·◌, ◌∣◌, many, ◌⇒◌, opens, again}
+use Rattle.cw_grammar.specs.Grammar.{Sort, a_pair, a_list, an_option, an_either, an_expr, a_cond, a_cand, a_cmp, a_sum, a_term, a_differ, a_union, a_mask, a_prim, a_primary, a_ref, a_group, a_data, a_stmt, a_form, a_simple, a_felem, a_block, a_decl, a_citem, a_comm, a_raw, a_from, Value, Rule, Again, Grammar, one, none, ◌·◌, ◌∣◌, many, ◌⇒◌, opens, again}
 use Rattle.cw_grammar.specs.Table.{rule, again_rule}
 use Rattle.cw_grammar.specs.Derives.{Derives, is_one, is_none, is_then, is_left, is_right, is_end, is_more, is_map, is_opens, is_again}
 use Rattle.cw_scope.specs.declared.resolve.Named.{Named}
@@ -15,11 +15,14 @@ use Rattle.cw_items.specs.Things.{citem_things, communicator_things, text_things
 use Rattle.cw_judge.specs.Judged.{citem_judged, communicator_judged, communicators_judged, block_judged}
 use Rattle.cw_preset.specs.Strings.{expression_rows, primary_rows, reference_rows, conjunction_rows, comparison_rows, condition_rows, differ_rows, mask_rows, prim_rows, sum_rows, term_rows, union_rows}
 use Rattle.cw_preset.specs.Held.{felem_rows, citem_rows, communicator_rows, held_of}
-use Rattle.cw_sound.proofs.Items.Lists.{Each}
 use Rattle.cw_sound.specs.Presets.Bytes.{AreBytes}
 use Rattle.cw_sound.proofs.Presets.Small.{RowsSmall}
 use Rattle.cw_sound.proofs.Presets.Frames.{HasName, Told, Held, DataHeld}
 use Rattle.cw_sound.proofs.Presets.Trees.{DeclHeld, FormHeld, SimpleHeld, BlockHeld, StmtHeld}
+use Rattle.cw_macro.specs.Premises.{Each}
+use Rattle.cw_sound.proofs.Items.Lists.{each-left, each-right}
+use Rattle.cw_sound.proofs.Kept.{OfOption, OfEither, Unless, each_known, option_known, either_known, first_kept, second_kept, left_kept, right_kept, item_kept, value_kept, map_kept}
+use Rattle.cw_sound.proofs.Expressions.Truth.{parts}
 
 -- a token of bytes
 abbrev pub IsOfBytes : Item → Type 0
@@ -56,19 +59,6 @@ plain a_citem = false
 plain a_comm = false
 plain a_raw = false
 plain _ = true
-
-abbrev pub OfOption : {A : Type 0} → (A → Type 0) → Option A → Type 0
-OfOption P None = Unit {0}
-OfOption P (Some x) = P x
-
-abbrev pub OfEither : {A B : Type 0} → (A → Type 0) → (B → Type 0) → Either A B → Type 0
-OfEither P Q (left x) = P x
-OfEither P Q (right y) = Q y
-
--- what a rule must keep, but for a plain sort
-abbrev pub Unless : Bool → Type 0 → Type 0
-Unless true T = Unit {0}
-Unless false T = T
 
 module _ (named : Named) (sites : List (Row Site)) (absolute : List (Row ℕ)) where
   abbrev pub CitemHeld : RawCitem → Type 0
@@ -138,31 +128,11 @@ module _ (named : Named) (sites : List (Row Site)) (absolute : List (Row ℕ)) w
 
   -- ---- what is known of plain values
 
-  first_true : (a b : Bool) → (a && b) ≡ true → a ≡ true
-  first_true true b h = refl
-  first_true false b h = h
-
-  second_true : (a b : Bool) → (a && b) ≡ true → b ≡ true
-  second_true true b h = h
-  second_true false b h = absurd cc
-
-  each_known : {A : Type 0} (P : A → Type 0) → ((x : A) → P x) → (xs : List A) → Each P xs
-  each_known P h [] = tt
-  each_known P h (x ∷ xs) = (h x, each_known P h xs)
-
-  option_known : {A : Type 0} (P : A → Type 0) → ((x : A) → P x) → (o : Option A) → OfOption P o
-  option_known P h None = tt
-  option_known P h (Some x) = h x
-
-  either_known : {A B : Type 0} (P : A → Type 0) (Q : B → Type 0) → ((x : A) → P x) → ((y : B) → Q y) → (o : Either A B) → OfEither P Q o
-  either_known P Q h k (left x) = h x
-  either_known P Q h k (right y) = k y
-
   known : (s : Sort) → plain s ≡ true → (x : Value s) → Good s x
-  known (a_pair s t) h x = (known s (first_true (plain s) (plain t) h) x.0, known t (second_true (plain s) (plain t) h) x.1)
+  known (a_pair s t) h x = (known s (parts (plain s) (plain t) h).0 x.0, known t (parts (plain s) (plain t) h).1 x.1)
   known (a_list s) h xs = each_known (λ y. Good s y) (λ y. known s h y) xs
   known (an_option s) h o = option_known (λ y. Good s y) (λ y. known s h y) o
-  known (an_either s t) h x = either_known (λ y. Good s y) (λ y. Good t y) (λ y. known s (first_true (plain s) (plain t) h) y) (λ y. known t (second_true (plain s) (plain t) h) y) x
+  known (an_either s t) h x = either_known (λ y. Good s y) (λ y. Good t y) (λ y. known s (parts (plain s) (plain t) h).0 y) (λ y. known t (parts (plain s) (plain t) h).1 y) x
   known (a_from s t) h f = λ x k. known t h (f x)
   known an_expr h x = absurd cc
   known a_cond h x = absurd cc
@@ -195,45 +165,6 @@ module _ (named : Named) (sites : List (Row Site)) (absolute : List (Row ℕ)) w
   given_good (opens k r) x h = (tt, h)
   given_good g x h = h
 
-  -- ---- what a rule keeps
-
-  first_kept : (a b : Bool) (S T : Type 0) → Unless (a && b) (Unless a S × Unless b T) → Unless a S
-  first_kept true b S T h = tt
-  first_kept false b S T h = h.0
-
-  second_kept : (a b : Bool) (S T : Type 0) → Unless (a && b) (Unless a S × Unless b T) → Unless b T
-  second_kept true true S T h = tt
-  second_kept true false S T h = h.1
-  second_kept false b S T h = h.1
-
-  left_kept : (a : Bool) (S T : Type 0) → Unless a (Unless a S × Unless a T) → Unless a S
-  left_kept true S T h = tt
-  left_kept false S T h = h.0
-
-  right_kept : (a : Bool) (S T : Type 0) → Unless a (Unless a S × Unless a T) → Unless a T
-  right_kept true S T h = tt
-  right_kept false S T h = h.1
-
-  item_kept : (a : Bool) (S : Type 0) → Unless a (Unless a S) → Unless a S
-  item_kept true S h = tt
-  item_kept false S h = h
-
-  value_kept : (a : Bool) (S : Type 0) → (a ≡ true → S) → Unless a S → S
-  value_kept true S f h = f refl
-  value_kept false S f h = h
-
-  map_kept : (a b : Bool) (S T U : Type 0) → (b ≡ true → U) → (Unless a S → T) → Unless b (Unless a S × (T → U)) → U
-  map_kept a true S T U f g h = f refl
-  map_kept a false S T U f g h = h.1 (g h.0)
-
-  first_bytes : (u v : List Item) → Each IsOfBytes (u ++ v) → Each IsOfBytes u
-  first_bytes [] v h = tt
-  first_bytes (t ∷ u) v h = (h.0, first_bytes u v h.1)
-
-  last_bytes : (u v : List Item) → Each IsOfBytes (u ++ v) → Each IsOfBytes v
-  last_bytes [] v h = h
-  last_bytes (t ∷ u) v h = last_bytes u v h.1
-
   shaped : {n : ℕ} {s : Sort} {g : Grammar s} {u : List Item} {x : Value s} → Derives n s g u x → Shaped g x
   shaped (is_then d e) = (shaped d, shaped e)
   shaped (is_map {x = x} d) = (x, refl)
@@ -244,11 +175,11 @@ module _ (named : Named) (sites : List (Row Site)) (absolute : List (Row ℕ)) w
     given : {n : ℕ} {s : Sort} {g : Grammar s} {u : List Item} {x : Value s} → Derives n s g u x → Each IsOfBytes u → Keeps g → Given g x
     given (is_one e) b k = b.0
     given (is_none {s = s} {x = x}) b k = value_kept (plain s) (Good s x) (λ e. known s e x) k
-    given (is_then {s = s} {t = t} {g = g} {h = h} {u = u} {v = v} d e) b k = (given d (first_bytes u v b) (first_kept (plain s) (plain t) (Kept g) (Kept h) k), given e (last_bytes u v b) (second_kept (plain s) (plain t) (Kept g) (Kept h) k))
+    given (is_then {s = s} {t = t} {g = g} {h = h} {u = u} {v = v} d e) b k = (given d (each-left IsOfBytes u v b) (first_kept (plain s) (plain t) (Kept g) (Kept h) k), given e (each-right IsOfBytes u v b) (second_kept (plain s) (plain t) (Kept g) (Kept h) k))
     given (is_left {s = s} {g = g} {h = h} {x = x} d) b k = given_good g x (given d b (left_kept (plain s) (Kept g) (Kept h) k))
     given (is_right {s = s} {g = g} {h = h} {x = x} d) b k = given_good h x (given d b (right_kept (plain s) (Kept g) (Kept h) k))
     given is_end b k = tt
-    given (is_more {s = s} {g = g} {u = u} {v = v} {x = x} d e) b k = (given_good g x (given d (first_bytes u v b) (item_kept (plain s) (Kept g) k)), given e (last_bytes u v b) k)
+    given (is_more {s = s} {g = g} {u = u} {v = v} {x = x} d e) b k = (given_good g x (given d (each-left IsOfBytes u v b) (item_kept (plain s) (Kept g) k)), given e (each-right IsOfBytes u v b) k)
     given (is_map {s = s} {t = t} {f = f} {g = g} {x = x} d) b k = map_kept (plain s) (plain t) (Kept g) (Given g x) (Good t (f x)) (λ e. known t e (f x)) (λ i. given d b i) (mapped (plain t) k)
       where
         mapped : (a : Bool) → Unless a (Unless (plain s) (Kept g) × ((y : Value s) → Given g y → Shaped g y → Good t (f y))) → Unless a (Unless (plain s) (Kept g) × (Given g x → Good t (f x)))

@@ -27,13 +27,14 @@ use Rattle.cw_sound.specs.Items.Derived.{HasRisingTokens, IsRising}
 use Rattle.cw_sound.specs.Items.Bases.{BasesStand}
 use Rattle.cw_sound.specs.Items.Free.{PartsFree}
 use Rattle.cw_sound.specs.Items.Items.{things_of}
-use Rattle.cw_sound.proofs.Items.Lists.{Each, in-place, from-in}
+use Rattle.cw_sound.proofs.Items.Lists.{in-place, from-in}
 use Rattle.cw_sound.proofs.Items.Numbering.{tokens_of_things, made-of}
 use Rattle.cw_sound.proofs.Items.Room.{room-of, row-found, Orderly, orderly-first, orderly-next, site_at, site-found}
 use Rattle.cw_sound.proofs.Items.Storage.{site-root}
 use Rattle.cw_sound.proofs.Items.Standing.{things-rise, made}
 use Rattle.cw_sound.proofs.Presets.Small.{Small}
 use Rattle.cw_sound.proofs.Presets.Frames.{IsApart, in_frame, Told, Held}
+use Rattle.cw_macro.specs.Premises.{Each}
 
 small_all : (ws : Words) → Small ws → IsTrue (list_all (λ (p : ℕ × ℕ). nat_lt p.1 65536) ws)
 small_all [] h = refl

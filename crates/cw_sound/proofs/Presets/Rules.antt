@@ -27,14 +27,16 @@ use Rattle.cw_judge.specs.Declared.{declared_judged, common_base_judged, common_
 use Rattle.cw_judge.specs.Judged.{citem_judged, citems_judged, communicator_judged, communicators_judged}
 use Rattle.cw_preset.specs.Strings.{expression_rows, condition_rows}
 use Rattle.cw_preset.specs.Held.{citem_rows, citems_rows, communicator_rows, communicators_rows, block_rows}
-use Rattle.cw_sound.proofs.Items.Lists.{Each, each-append, each-left, each-right}
-use Rattle.cw_sound.proofs.Items.Keeping.{keeps-declared, parts-free}
-use Rattle.cw_sound.proofs.Items.OnBases.{keeps-citems, keeps-communicators}
+use Rattle.cw_sound.proofs.Items.Lists.{each-append, each-left, each-right}
 use Rattle.cw_sound.proofs.Presets.Small.{RowsSmall, rows_append}
 use Rattle.cw_sound.proofs.Presets.Frames.{HasName, Told, Held, DataHeld, singles_held, arrays_held, table_held}
 use Rattle.cw_sound.proofs.Presets.Trees.{FormHeld, SimpleHeld, BlockHeld, StmtHeld, empty_held, assign_held, assign_bits_held, goto_held, goto_switch_held, call_held, answer_held, inner_held, if_held, else_held, for_held, labelled_held, form_alone, simple_alone, data_held, overlay_held, switch_held, proc_held, block_held}
 use Rattle.cw_sound.proofs.Presets.Expressions.{joined_small, name_small, index_small, bare_small, reference_keeps, condition_keeps, expr_keeps}
-use Rattle.cw_sound.proofs.Presets.Good.{OfOption, CitemHeld, CommHeld, TextHeld, Good, Given, Keeps, given_good}
+use Rattle.cw_sound.proofs.Presets.Good.{CitemHeld, CommHeld, TextHeld, Good, Given, Keeps, given_good}
+use Rattle.cw_sound.proofs.Kept.{OfOption}
+use Rattle.cw_sound.proofs.Items.Keeping.{keeps_declared, keeps_citems, keeps_communicators}
+use Rattle.cw_sound.proofs.Expressions.Judging.{both_free}
+use Rattle.cw_macro.specs.Premises.{Each}
 
 module _ (names : Named) (sites : List (Row Site)) (absolute : List (Row ℕ)) where
   abbrev Keep : {s : Sort} → Grammar s → Type 0
@@ -85,7 +87,7 @@ module _ (names : Named) (sites : List (Row Site)) (absolute : List (Row ℕ)) w
 
   on_base : (b : RawBase) (d : RawData) → common_overlaid_judged names sites absolute b d None ≡ None → declared_judged sites d None ≡ None
   unfolding common_overlaid_judged
-  on_base b d free = (parts-free (common_base_judged names absolute b) (declared_judged sites d) (keeps-declared sites d) free).1
+  on_base b d free = (both_free (common_base_judged names absolute b) (declared_judged sites d) (keeps_declared sites d) free).1
 
   data_citem : (d : RawData) → DataHeld sites d → CitemHeld names sites absolute (citem_tree.Data d)
   data_citem d h free told = h None None free told
@@ -112,7 +114,7 @@ module _ (names : Named) (sites : List (Row Site)) (absolute : List (Row ℕ)) w
   citems_held : (is : List RawCitem) → Each (CitemHeld names sites absolute) is → citems_judged names sites absolute is None ≡ None → Each (Told sites) (citems_things names is) → Each (Held sites) (citems_rows is)
   citems_held [] h free told = tt
   citems_held (i ∷ is) h free told =
-      let frees = parts-free (citem_judged names sites absolute i) (citems_judged names sites absolute is) (keeps-citems names sites absolute is) free in
+      let frees = both_free (citem_judged names sites absolute i) (citems_judged names sites absolute is) (keeps_citems names sites absolute is) free in
       each-append (Held sites) (citem_rows i) (citems_rows is) (h.0 frees.0 (each-left (Told sites) (citem_things names i) (citems_things names is) told))
       (citems_held is h.1 frees.1 (each-right (Told sites) (citem_things names i) (citems_things names is) told))
 
@@ -129,7 +131,7 @@ module _ (names : Named) (sites : List (Row Site)) (absolute : List (Row ℕ)) w
   comms_held : (cs : List RawComm) → Each (CommHeld names sites absolute) cs → communicators_judged names sites absolute cs None ≡ None → Each (Told sites) (communicators_things names cs) → Each (Held sites) (communicators_rows cs)
   comms_held [] h free told = tt
   comms_held (c ∷ cs) h free told =
-      let frees = parts-free (communicator_judged names sites absolute c) (communicators_judged names sites absolute cs) (keeps-communicators names sites absolute cs) free in
+      let frees = both_free (communicator_judged names sites absolute c) (communicators_judged names sites absolute cs) (keeps_communicators names sites absolute cs) free in
       each-append (Held sites) (communicator_rows c) (communicators_rows cs) (h.0 frees.0 (each-left (Told sites) (communicator_things names c) (communicators_things names cs) told))
       (comms_held cs h.1 frees.1 (each-right (Told sites) (communicator_things names c) (communicators_things names cs) told))
 

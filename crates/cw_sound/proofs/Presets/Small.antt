@@ -28,8 +28,9 @@ use Rattle.cw_items.specs.Things.{amount_or_none, group_words, words_of_table}
 use Rattle.cw_make_items.specs.Types.{within, width_of}
 use Rattle.cw_preset.specs.Strings.{Words, Rows, characters_from, string_words}
 use Rattle.cw_preset.specs.Lists.{as_word, place_word, word_if, places_words, named_rows, groups_rows, word_in, put_part, element_put, element_word, stored, entry_words, entries_words, singles_preset, groups_preset, table_preset, data_rows}
-use Rattle.cw_sound.proofs.Items.Lists.{Each, each-append}
+use Rattle.cw_sound.proofs.Items.Lists.{each-append}
 use Rattle.cw_sound.specs.Presets.Bytes.{AreBytes}
+use Rattle.cw_macro.specs.Premises.{Each}
 
 -- each value is a word
 abbrev pub Small : Words → Type 0

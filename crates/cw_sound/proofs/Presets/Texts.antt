@@ -16,12 +16,12 @@ use Rattle.cw_sound.specs.Items.Derived.{HasRisingTokens}
 use Rattle.cw_sound.specs.Items.Bases.{BasesStand}
 use Rattle.cw_sound.specs.Items.Free.{PartsFree}
 use Rattle.cw_sound.specs.Items.Items.{things_of}
-use Rattle.cw_sound.proofs.Items.Lists.{Each}
 use Rattle.cw_sound.specs.Presets.Bytes.{HasBytes}
 use Rattle.cw_sound.proofs.Presets.Frames.{Held}
 use Rattle.cw_sound.proofs.Presets.Good.{IsOfBytes, good}
 use Rattle.cw_sound.proofs.Presets.Rules.{rule_keeps, again_keeps, text_keeps}
 use Rattle.cw_sound.proofs.Presets.Items.{all_told}
+use Rattle.cw_macro.specs.Premises.{Each}
 
 each_bytes : (n : ℕ) (ts : List Lexeme) → All HasBytes ts → Each IsOfBytes (numbered n ts)
 each_bytes n [] h = tt

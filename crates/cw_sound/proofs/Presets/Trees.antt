@@ -37,20 +37,22 @@ use Rattle.cw_data.specs.Specifications.{heading_judged}
 use Rattle.cw_items.specs.declared.families.Site.{Site}
 use Rattle.cw_items.specs.declared.thing.Owner.{Owner}
 use Rattle.cw_items.specs.Things as stores
-use Rattle.cw_items.specs.Things.{Things, thing, texts, base_at, data_things, parameters_things, felem_things, felems_things, is_recursive}
+use Rattle.cw_items.specs.Things.{Things, texts, base_at, parameters_things, felem_things, felems_things, is_recursive}
 use Rattle.cw_judge.specs.Declared.{declared_judged, overlaid_judged}
 use Rattle.cw_judge.specs.Judged as judges
-use Rattle.cw_judge.specs.Judged.{expression_judged, condition_judged, reference_judged, felems_judged, scale_of, all_judged}
+use Rattle.cw_judge.specs.Judged.{condition_judged, reference_judged, felems_judged, scale_of, all_judged}
 use Rattle.cw_preset.specs.Strings.{Rows, joined, expression_rows, condition_rows, reference_rows, argument_rows}
 use Rattle.cw_preset.specs.Held as holds
 use Rattle.cw_preset.specs.Held.{felem_rows, felems_rows}
-use Rattle.cw_sound.proofs.Items.Lists.{Each, each-append, each-left, each-right}
-use Rattle.cw_sound.proofs.Items.Keeping.{Keeps, keeps-fine, keeps-both, keeps-declared, parts-free}
-use Rattle.cw_sound.proofs.Items.KeepingStatements.{keeps-felems, keeps-all, declaration_keeps, simple_keeps, statement_keeps}
+use Rattle.cw_sound.proofs.Items.Lists.{each-append, each-left, each-right}
 use Rattle.cw_sound.proofs.Items.Fitting.{RowsFit, fit-texts}
 use Rattle.cw_sound.proofs.Items.FittingExpressions.{expression_fits, condition_fits, reference_fits, arguments_fit}
 use Rattle.cw_sound.proofs.Presets.Small.{RowsSmall, rows_append}
 use Rattle.cw_sound.proofs.Presets.Frames.{Told, Held, DataHeld, texts_held}
+use Rattle.cw_sound.proofs.Statements.Keeping.{elements_keep, all_keep, declaration_keeps, simple_keeps, statement_keeps}
+use Rattle.cw_sound.proofs.Expressions.Judging.{Keeps, keeps_fine, keeps_both, both_free}
+use Rattle.cw_sound.proofs.Items.Keeping.{keeps_declared}
+use Rattle.cw_macro.specs.Premises.{Each}
 
 abbrev DeclLayer : Type 0
 DeclLayer = RawDecl-F RawDecl RawForm RawSimple RawBlock RawProc RawStmt
@@ -92,7 +94,7 @@ module _ (named : Named) (sites : List (Row Site)) where
 
   two : (ts ss : Things) (rs qs : Rows) (j k : Judgement) → Keeps k → Part ts rs j → Part ss qs k → Part (λ o. ts o ++ ss o) (rs ++ qs) (both j k)
   two ts ss rs qs j k keeps h g o free told =
-      let frees = parts-free j k keeps free in
+      let frees = both_free j k keeps free in
       each-append (Held sites) rs qs (h o frees.0 (each-left (Told sites) (ts o) (ss o) told)) (g o frees.1 (each-right (Told sites) (ts o) (ss o) told))
 
   -- strings, whatever the rules tell of them
@@ -184,8 +186,8 @@ module _ (named : Named) (sites : List (Row Site)) where
       let judged = judges.simple_judged named sites s in
       subst FormHeld (form_tree.rolls-If at c ls s None)
       (form_rolled (layer.If at c ls s None)
-      (two (λ o. texts o (condition_uses c reading.Value)) (λ o. things o ++ []) (condition_rows c) (holds.simple_rows s ++ []) (condition_judged named c) (both judged fine) (keeps-both (simple_keeps named sites s) keeps-fine)
-      (strings (condition_uses c reading.Value) (condition_rows c) (condition_judged named c) (λ o. condition_fits c o reading.Value) h) (two things (λ o. []) (holds.simple_rows s) [] judged fine keeps-fine k (nothing fine))))
+      (two (λ o. texts o (condition_uses c reading.Value)) (λ o. things o ++ []) (condition_rows c) (holds.simple_rows s ++ []) (condition_judged named c) (both judged fine) (keeps_both (simple_keeps named sites s) keeps_fine)
+      (strings (condition_uses c reading.Value) (condition_rows c) (condition_judged named c) (λ o. condition_fits c o reading.Value) h) (two things (λ o. []) (holds.simple_rows s) [] judged fine keeps_fine k (nothing fine))))
 
   pub else_held : (at : Position) (c : RawCond) (ls : List RawName) (s : RawSimple) (x : RawStmt) → RowsSmall (condition_rows c) → SimpleHeld s → StmtHeld x → FormHeld (form_tree.If at c ls s (Some x))
   else_held at c ls s x h k l =
@@ -195,7 +197,7 @@ module _ (named : Named) (sites : List (Row Site)) where
       let last = judges.statement_judged named sites x in
       subst FormHeld (form_tree.rolls-If at c ls s (Some x))
       (form_rolled (layer.If at c ls s (Some x))
-      (two (λ o. texts o (condition_uses c reading.Value)) (λ o. things o ++ more o) (condition_rows c) (holds.simple_rows s ++ holds.statement_rows x) (condition_judged named c) (both judged last) (keeps-both (simple_keeps named sites s) (statement_keeps named sites x))
+      (two (λ o. texts o (condition_uses c reading.Value)) (λ o. things o ++ more o) (condition_rows c) (holds.simple_rows s ++ holds.statement_rows x) (condition_judged named c) (both judged last) (keeps_both (simple_keeps named sites s) (statement_keeps named sites x))
       (strings (condition_uses c reading.Value) (condition_rows c) (condition_judged named c) (λ o. condition_fits c o reading.Value) h) (two things more (holds.simple_rows s) (holds.statement_rows x) judged last (statement_keeps named sites x) k l)))
 
   felem_fits : (x : RawFelem) (o : Option Owner) → RowsFit (felem_things x o) (felem_rows x)
@@ -224,7 +226,7 @@ module _ (named : Named) (sites : List (Row Site)) where
       let more = stores.statement_things named s in
       subst FormHeld (form_tree.rolls-For at r xs s)
       (form_rolled (layer.For at r xs s) (λ o free told.
-      two (λ o. texts o (reference_uses r reading.Whole)) (λ o. felems_things xs o ++ more o) (reference_rows r) (felems_rows xs ++ holds.statement_rows s) (reference_judged named r) (both j last) (keeps-both (keeps-felems named sites (scale_of named r) xs) (statement_keeps named sites s))
+      two (λ o. texts o (reference_uses r reading.Whole)) (λ o. felems_things xs o ++ more o) (reference_rows r) (felems_rows xs ++ holds.statement_rows s) (reference_judged named r) (both j last) (keeps_both (elements_keep named (scale_of named r) xs) (statement_keeps named sites s))
       (strings (reference_uses r reading.Whole) (reference_rows r) (reference_judged named r) (λ o. reference_fits r o reading.Whole) h)
       (two (felems_things xs) more (felems_rows xs) (holds.statement_rows s) j last (statement_keeps named sites s) (λ o free told. felems_held xs o k told) l) o free told.1))
 
@@ -260,7 +262,7 @@ module _ (named : Named) (sites : List (Row Site)) where
 
   on_base : (b : RawBase) (d : RawData) → overlaid_judged named sites b d None ≡ None → declared_judged sites d None ≡ None
   unfolding overlaid_judged
-  on_base b d free = (parts-free (base_judged named b) (declared_judged sites d) (keeps-declared sites d) free).1
+  on_base b d free = (both_free (base_judged named b) (declared_judged sites d) (keeps_declared sites d) free).1
 
   pub overlay_held : (at : Position) (b : RawBase) (d : RawData) → DataHeld sites d → DeclHeld (decl_tree.Overlay at b d)
   overlay_held at b d h = subst DeclHeld (decl_tree.rolls-Overlay at b d) (decl_rolled (layer.Overlay at b d) (λ o free told. h o (Some (base_at named b)) (on_base b d free) told))
@@ -276,30 +278,22 @@ module _ (named : Named) (sites : List (Row Site)) where
       moved (sym (fold-roll-RawProc Things Things Things Things Things Things (stores.declaration_step named) (stores.form_step named) (stores.simple_step named) (stores.block_step named) (stores.procedure_step named) (stores.statement_step named) (record { answer = t; tag = g; name = f; params = ps; body = s })))
       (sym (fold-roll-RawProc Rows Rows Rows Rows Rows Rows holds.declaration_step holds.form_step holds.simple_step holds.block_step holds.procedure_step holds.statement_step (record { answer = t; tag = g; name = f; params = ps; body = s })))
       (sym (fold-roll-RawProc Judgement Judgement Judgement Judgement Judgement Judgement (judges.declaration_step named sites) (judges.form_step named sites) (judges.simple_step named sites) (judges.block_step named sites) (judges.procedure_step named sites) (judges.statement_step named sites) (record { answer = t; tag = g; name = f; params = ps; body = s })))
-      (λ o free told. h (Some v) (parts-free (heading_judged named t f ps) last (statement_keeps named sites s) free).1 (each-right (Told sites) (parameters_things (Some v) ps) (stores.statement_things named s (Some v)) told)) in
+      (λ o free told. h (Some v) (both_free (heading_judged named t f ps) last (statement_keeps named sites s) free).1 (each-right (Told sites) (parameters_things (Some v) ps) (stores.statement_things named s (Some v)) told)) in
       subst DeclHeld (decl_tree.rolls-Proc (proc_tree t g f ps s)) (decl_rolled (layer.Proc (proc_tree t g f ps s)) made)
 
   -- ---- blocks
-
-  decls_keep : (ds : List RawDecl) → Each Keeps (map (judges.declaration_judged named sites) ds)
-  decls_keep [] = tt
-  decls_keep (d ∷ ds) = (declaration_keeps named sites d, decls_keep ds)
-
-  stmts_keep : (ss : List RawStmt) → Each Keeps (map (judges.statement_judged named sites) ss)
-  stmts_keep [] = tt
-  stmts_keep (s ∷ ss) = (statement_keeps named sites s, stmts_keep ss)
 
   decls_held : (ds : List RawDecl) → Each DeclHeld ds → Part (stores.joined (map (stores.declaration_things named) ds)) (joined (map holds.declaration_rows ds)) (all_judged (map (judges.declaration_judged named sites) ds))
   decls_held [] h = nothing fine
   decls_held (d ∷ ds) h =
       let rest = all_judged (map (judges.declaration_judged named sites) ds) in
-      two (stores.declaration_things named d) (stores.joined (map (stores.declaration_things named) ds)) (holds.declaration_rows d) (joined (map holds.declaration_rows ds)) (judges.declaration_judged named sites d) rest (keeps-all named sites (map (judges.declaration_judged named sites) ds) (decls_keep ds)) h.0 (decls_held ds h.1)
+      two (stores.declaration_things named d) (stores.joined (map (stores.declaration_things named) ds)) (holds.declaration_rows d) (joined (map holds.declaration_rows ds)) (judges.declaration_judged named sites d) rest (all_keep (judges.declaration_judged named sites) (declaration_keeps named sites) ds) h.0 (decls_held ds h.1)
 
   stmts_held : (ss : List RawStmt) → Each StmtHeld ss → Part (stores.joined (map (stores.statement_things named) ss)) (joined (map holds.statement_rows ss)) (all_judged (map (judges.statement_judged named sites) ss))
   stmts_held [] h = nothing fine
   stmts_held (s ∷ ss) h =
       let rest = all_judged (map (judges.statement_judged named sites) ss) in
-      two (stores.statement_things named s) (stores.joined (map (stores.statement_things named) ss)) (holds.statement_rows s) (joined (map holds.statement_rows ss)) (judges.statement_judged named sites s) rest (keeps-all named sites (map (judges.statement_judged named sites) ss) (stmts_keep ss)) h.0 (stmts_held ss h.1)
+      two (stores.statement_things named s) (stores.joined (map (stores.statement_things named) ss)) (holds.statement_rows s) (joined (map holds.statement_rows ss)) (judges.statement_judged named sites s) rest (all_keep (judges.statement_judged named sites) (statement_keeps named sites) ss) h.0 (stmts_held ss h.1)
 
   pub block_held : (t : Item) (ds : List RawDecl) (ss : List RawStmt) → Each DeclHeld ds → Each StmtHeld ss → BlockHeld (block_tree t ds ss)
   block_held t ds ss h k =
@@ -307,4 +301,4 @@ module _ (named : Named) (sites : List (Row Site)) where
       (sym (fold-roll-RawBlock Rows Rows Rows Rows Rows Rows holds.declaration_step holds.form_step holds.simple_step holds.block_step holds.procedure_step holds.statement_step (record { at = position t; decls = ds; stmts = ss })))
       (sym (fold-roll-RawBlock Judgement Judgement Judgement Judgement Judgement Judgement (judges.declaration_step named sites) (judges.form_step named sites) (judges.simple_step named sites) (judges.block_step named sites) (judges.procedure_step named sites) (judges.statement_step named sites) (record { at = position t; decls = ds; stmts = ss })))
       (two (stores.joined (map (stores.declaration_things named) ds)) (stores.joined (map (stores.statement_things named) ss)) (joined (map holds.declaration_rows ds)) (joined (map holds.statement_rows ss)) (all_judged (map (judges.declaration_judged named sites) ds)) (all_judged (map (judges.statement_judged named sites) ss))
-      (keeps-all named sites (map (judges.statement_judged named sites) ss) (stmts_keep ss)) (decls_held ds h) (stmts_held ss k))
+      (all_keep (judges.statement_judged named sites) (statement_keeps named sites) ss) (decls_held ds h) (stmts_held ss k))

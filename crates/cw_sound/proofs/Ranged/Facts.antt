@@ -50,10 +50,9 @@ use Rattle.cw_sound.proofs.Names.Parts.{Plain, is_plain}
 use Rattle.cw_sound.proofs.Names.PlainFacts.{plain_use, plain_nothing}
 use Rattle.cw_sound.proofs.Names.Rows.{mentions_append}
 use Rattle.cw_sound.proofs.Names.MentionsOf.{declared_first, specified_first, block_alone}
-use Rattle.cw_sound.proofs.Names.TypeFaults.{keeps_second, keeps_each_wrong, keeps_groups, keeps_elements, keeps_presets, keeps_declared, keeps_params}
-use Rattle.cw_sound.proofs.Names.FewListed.{keeps_address, keeps_bounds, keeps_aitems, keeps_citems, keeps_communicators}
 use Rattle.cw_sound.specs.Ranges.Declared.{is_size, has_ranges}
 use Rattle.cw_sound.proofs.Ranged.Sizes.{row_good, SmallWidth, size_good, element_good}
+use Rattle.cw_sound.proofs.Items.Keeping.{keeps_second, keeps_each_wrong, keeps_groups, keeps_elements, keeps_presets, keeps_declared, keeps_params, keeps_address, keeps_bounds, keeps_aitems, keeps_citems, keeps_communicators}
 
 abbrev pub RangedMention : Mention → Type 0
 RangedMention (declared d) = IsTrue (has_ranges d.kind)
@@ -115,7 +114,7 @@ module _ (numbers : Numbers) where
       let good : Bool = good_bounds g.bounds.first g.bounds.second in
       let last : Judgement = each_wrong_unless good g.names in
       let calm = both_free (group_judged g) (groups_judged gs) (keeps_groups gs) free in
-      let behind = both_free (range_judged g.bounds.first) (both (second_judged g.bounds.second) last) (keeps_both (second_judged g.bounds.second) last (keeps_second g.bounds.second) (keeps_each_wrong good g.names)) calm.0 in
+      let behind = both_free (range_judged g.bounds.first) (both (second_judged g.bounds.second) last) (keeps_both (keeps_second g.bounds.second) (keeps_each_wrong good g.names)) calm.0 in
       let own = both_free (second_judged g.bounds.second) last (keeps_each_wrong good g.names) behind.1 in
       both_ranged (each_declares (kind.Array t g.bounds) g.names) (groups_facts t gs) (names_ranged t g.bounds g.names own.1) (groups_ranged t gs calm.1)
 
@@ -197,9 +196,9 @@ module _ (numbers : Numbers) where
       let good : Bool = good_bounds b.first b.second in
       let last : Judgement = unless good rule.BadBounds n.at in
       let keeps_last : Keeps last = keeps_unless good rule.BadBounds n.at in
-      let behind = both_free (type_judged t) (both (bounds_judged n b) (address_judged n a)) (keeps_both (bounds_judged n b) (address_judged n a) (keeps_bounds n b) (keeps_address n a)) free in
+      let behind = both_free (type_judged t) (both (bounds_judged n b) (address_judged n a)) (keeps_both (keeps_bounds n b) (keeps_address n a)) free in
       let bounds = both_free (bounds_judged n b) (address_judged n a) (keeps_address n a) behind.1 in
-      let x = both_free (range_judged b.first) (both (second_judged b.second) last) (keeps_both (second_judged b.second) last (keeps_second b.second) keeps_last) bounds.0 in
+      let x = both_free (range_judged b.first) (both (second_judged b.second) last) (keeps_both (keeps_second b.second) keeps_last) bounds.0 in
       let y = both_free (second_judged b.second) last keeps_last x.1 in
       declared_ranged n (kind.Array t b) [] (row_good b.first b.second (holds good rule.BadBounds n.at y.1)) nothing_ranged
   aitem_ranged (aitem.Table t a) free = table_ranged (kind.Table t.size) t (λ h. h) (both_free (table_judged t) (address_judged t.name a) (keeps_address t.name a) free).0

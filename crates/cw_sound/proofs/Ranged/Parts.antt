@@ -39,11 +39,11 @@ use Rattle.cw_sound.proofs.Expressions.Whole.{as_value}
 use Rattle.cw_sound.specs.Ranges.Declared.{DeclarationsInRange}
 use Rattle.cw_sound.proofs.Ranges.Arguments.{call_given}
 use Rattle.cw_sound.proofs.Ranges.Rules.{sounds}
-use Rattle.cw_sound.proofs.Ranges.Trees.{expression_is_right, condition_is_right, reference_is_right}
-use Rattle.cw_sound.proofs.Ranges.Whole.{each_right}
+use Rattle.cw_sound.proofs.Ranges.Trees.{expression_is_right, condition_is_right, reference_is_right, each_right}
 use Rattle.cw_sound.specs.Statements.Levels.{element_levels}
 use Rattle.cw_sound.specs.Statements.Regular.{is_regular_element}
-use Rattle.cw_sound.proofs.Statements.Keeping.{few_keeps, few_each_keeps, whole_keeps, test_keeps, elements_keep}
+use Rattle.cw_sound.proofs.Statements.Keeping.{whole_keeps, test_keeps, elements_keep}
+use Rattle.cw_sound.proofs.Items.Keeping.{keeps_few, keeps_few_each}
 
 -- ---- lines
 
@@ -79,17 +79,17 @@ module _ (named : Named) (numbers : Numbers) (u : SourceUnit) (who : Option ℕ)
   pub expression_ranged : (e : RawExpr) (f : ℕ) → IsTrue (is_regular e) → FactsStand named numbers u (expression_uses e reading.Value) who → NoFault (expression_judged named f e) → f ≤ 15 → then_levels e ≤ most_levels → IsTrue (ranged_at e f)
   expression_ranged e f regular facts free small few =
       let v = (expression_is_right named numbers u who declared e regular reading.Value facts).valued (as_value named reading.Value (expression named e).shape.bare refl) in
-      let calm = (both_free ((expression named e).faults f) (few_operators (expression_operators e)) (few_keeps (expression_operators e)) free).0 in
+      let calm = (both_free ((expression named e).faults f) (few_operators (expression_operators e)) (keeps_few (expression_operators e)) free).0 in
       both (nat_le f 15) ((ranged_value u (expression_of named numbers e)).at f) (le_true f 15 small) (v.good f small few calm).at
 
   pub test_ranged : (c : RawCond) → IsTrue (is_regular_condition c) → FactsStand named numbers u (condition_uses c reading.Value) who → NoFault (condition_judged named c) → condition_levels c ≤ most_levels → IsTrue (ranged_test c)
   test_ranged c regular facts free few =
-      let calm = (both_free ((condition named c).faults 0) (few_operators (condition_operators c)) (few_keeps (condition_operators c)) free).0 in
+      let calm = (both_free ((condition named c).faults 0) (few_operators (condition_operators c)) (keeps_few (condition_operators c)) free).0 in
       (condition_is_right named numbers u who declared c regular reading.Value facts).ranged 0 few calm
 
   pub place_ranged : (r : RawRef) (x : Reading) → IsTrue (is_placed x) → IsTrue (is_regular_reference r) → FactsStand named numbers u (reference_uses r x) who → NoFault (reference_judged named r) → reference_levels r ≤ most_levels → IsTrue (ranged_place r)
   place_ranged r x placed regular facts free few =
-      let calm = (both_free ((reference named r).faults 0) (few_each (reference_operators r)) (few_each_keeps (reference_operators r)) free).0 in
+      let calm = (both_free ((reference named r).faults 0) (few_each (reference_operators r)) (keeps_few_each (reference_operators r)) free).0 in
       ((reference_is_right named numbers u who declared r regular).located x placed facts).ranged 0 few calm
 
   pub call_ranged : (n : RawName) (es : List RawExpr) → IsTrue (all (map is_regular es)) → FactsStand named numbers u (uses_of n form.Call ++ argument_uses es) who → NoFault (call_faults named (signature_of named n) n (map (expression named) es)) → largest (map then_levels es) ≤ most_levels
@@ -112,7 +112,7 @@ module _ (named : Named) (numbers : Numbers) (u : SourceUnit) (who : Option ℕ)
       let oks = parts (is_regular b) (is_regular d) ok.1 in
       let first = split named numbers u who (expression_uses a reading.Value) (expression_uses b reading.Value ++ expression_uses d reading.Value) facts in
       let rest = split named numbers u who (expression_uses b reading.Value) (expression_uses d reading.Value) first.1 in
-      let calm = both_free (expression_judged named f a) (judged_both (expression_judged named f b) (expression_judged named f d)) (keeps_both (expression_judged named f b) (expression_judged named f d) (whole_keeps named f b) (whole_keeps named f d)) free in
+      let calm = both_free (expression_judged named f a) (judged_both (expression_judged named f b) (expression_judged named f d)) (keeps_both (whole_keeps named f b) (whole_keeps named f d)) free in
       let calms = both_free (expression_judged named f b) (expression_judged named f d) (whole_keeps named f d) calm.1 in
       both (ranged_at a f) (ranged_at b f && ranged_at d f) (expression_ranged a f ok.0 first.0 calm.0 small (omega (arith, few)))
       (both (ranged_at b f) (ranged_at d f) (expression_ranged b f oks.0 rest.0 calms.0 small (omega (arith, few))) (expression_ranged d f oks.1 rest.1 calms.1 small (omega (arith, few))))

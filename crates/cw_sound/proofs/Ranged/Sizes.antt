@@ -1,5 +1,5 @@
 -- The numbers of data that is declared without fault: rows, sizes and widths have at most 32,768 words, and elements lie in a word.
-use Rattle.std.proofs.Common.{ℕ, ◌*◌, ◌<◌, ◌≤◌, Bool, IsTrue, ◌&&◌, nat_le, nat_lt, if◌then◌else◌, Option, Some, None, is_some, refl, sym, subst, arith}
+use Rattle.std.proofs.Common.{ℕ, ◌*◌, ◌<◌, ◌≤◌, Bool, IsTrue, ◌&&◌, nat_le, nat_lt, Option, Some, None, is_some, refl, sym, subst, arith, if◌then◌else◌}
 use Rattle.std.proofs.Math.Nat.{le-mul_of_pos_right, mul_comm}
 use Rattle.cw_tree.specs.declared.leaf.RawInt.{RawInt}
 use Rattle.cw_tree.specs.declared.leaf.RawName.{RawName}
@@ -16,8 +16,7 @@ use Rattle.cw_data.specs.Presets.{table_words}
 use Rattle.cw_make_expr.specs.Parts.{within, element_word, element_field}
 use Rattle.cw_writable.specs.Coded.RangedExpressions as ranged
 use Rattle.cw_sound.proofs.Expressions.Truth.{no, both as both_true, parts, le_true, le_of, lt_true, lt_of}
-use Rattle.cw_sound.proofs.Expressions.Judging.{Keeps, NoFault, keeps_both, keeps_unless, keeps_int, both_free, holds}
-use Rattle.cw_sound.proofs.Names.TypeFaults.{keeps_scale}
+use Rattle.cw_sound.proofs.Expressions.Judging.{Keeps, NoFault, keeps_both, keeps_unless, keeps_int, both_free, holds, keeps_scale}
 use Rattle.cw_sound.specs.Ranges.Declared.{is_size, is_element, is_row}
 use Rattle.cw_sound.proofs.Ranges.Operands.{within_is, part_of}
 
@@ -78,7 +77,7 @@ size_good name s free =
     let fits : Bool = good_size (place_amount s.first) (place_amount s.second) in
     let last : Judgement = unless fits rule.BadBounds name.at in
     let keeps_last : Keeps last = keeps_unless fits rule.BadBounds name.at in
-    let x = both_free (int_judged s.first) (both (int_judged s.second) last) (keeps_both (int_judged s.second) last (keeps_int s.second) keeps_last) free in
+    let x = both_free (int_judged s.first) (both (int_judged s.second) last) (keeps_both (keeps_int s.second) keeps_last) free in
     let y = both_free (int_judged s.second) last keeps_last x.1 in
     sized (place_amount s.first) (place_amount s.second) (told s.first x.0) (told s.second y.0) (holds fits rule.BadBounds name.at y.1)
 
@@ -96,7 +95,7 @@ element_good width (elem.Word n t w) small free =
     let fits : Bool = is_within (place_amount w) width in
     let last : Judgement = unless fits rule.FieldRange n.at in
     let keeps_last : Keeps last = keeps_unless fits rule.FieldRange n.at in
-    let x = both_free (type_judged t) (both (int_judged w) last) (keeps_both (int_judged w) last (keeps_int w) keeps_last) free in
+    let x = both_free (type_judged t) (both (int_judged w) last) (keeps_both (keeps_int w) keeps_last) free in
     let y = both_free (int_judged w) last keeps_last x.1 in
     both_true (nat_lt (element_word (elem.Word n t w)) most_words) (ranged.is_field (element_field (elem.Word n t w))) (word_small (place_amount w) width small (holds fits rule.FieldRange n.at y.1)) refl
 element_good width (elem.Part n unsigned t f w b) small free =
@@ -105,10 +104,10 @@ element_good width (elem.Part n unsigned t f w b) small free =
     let last : Judgement = unless (inside && field) rule.FieldRange n.at in
     let keeps_last : Keeps last = keeps_unless (inside && field) rule.FieldRange n.at in
     let place : Judgement = both (int_judged b) last in
-    let keeps_place : Keeps place = keeps_both (int_judged b) last (keeps_int b) keeps_last in
+    let keeps_place : Keeps place = keeps_both (keeps_int b) keeps_last in
     let word : Judgement = both (int_judged w) place in
-    let keeps_word : Keeps word = keeps_both (int_judged w) place (keeps_int w) keeps_place in
-    let x = both_free (int_judged t) (both (scale_judged f) word) (keeps_both (scale_judged f) word (keeps_scale f) keeps_word) free in
+    let keeps_word : Keeps word = keeps_both (keeps_int w) keeps_place in
+    let x = both_free (int_judged t) (both (scale_judged f) word) (keeps_both (keeps_scale f) keeps_word) free in
     let y = both_free (scale_judged f) word keeps_word x.1 in
     let z = both_free (int_judged w) place keeps_place y.1 in
     let v = both_free (int_judged b) last keeps_last z.1 in

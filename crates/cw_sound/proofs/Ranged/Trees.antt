@@ -82,7 +82,7 @@ module _ (named : Named) (numbers : Numbers) (u : SourceUnit) (who : Option ℕ)
       let oks = parts (is_regular_reference r) (is_regular e) ok in
       let sides = halves_of named numbers u who (reference_uses r reading.Whole) (expression_uses e reading.Value) s in
       let both_parts : Judgement = both (reference_judged named r) (expression_judged named 0 e) in
-      let calm = both_free (bits_judged bits) both_parts (keeps_both (reference_judged named r) (expression_judged named 0 e) (place_keeps named r) (whole_keeps named 0 e)) free in
+      let calm = both_free (bits_judged bits) both_parts (keeps_both (place_keeps named r) (whole_keeps named 0 e)) free in
       let calms = both_free (reference_judged named r) (expression_judged named 0 e) (whole_keeps named 0 e) calm.1 in
       put_bits_good u who named numbers bits.at (within 255 (place_amount bits.size.first)) (within 255 (place_amount bits.size.second)) r e (bits_are_part bits calm.0)
       (place_right r reading.Whole refl oks.0 sides.0 calms.0) (λ few. expression_ranged named numbers u who declared e 0 oks.1 sides.1.0 calms.1 (omega arith) few)

@@ -31,15 +31,16 @@ use Rattle.cw_unit.specs.declared.unit.Arg.TheFolds.{fold-roll-Arg}
 use Rattle.cw_unit.specs.declared.unit.Arg.TheViews.{out-roll-Expr}
 use Rattle.cw_gen_expr.specs.BuiltExpressions.{most_levels}
 use Rattle.cw_writable.specs.Coded.RangedExpressions as ranged
-use Rattle.cw_writable.specs.Coded.RangedExpressions.{RangedValue, RangedReference, in_range, all_ranged, is_ranged_argument, ranged_reference}
+use Rattle.cw_writable.specs.Coded.RangedExpressions.{RangedValue, RangedReference, all_ranged, is_ranged_argument, ranged_reference}
 use Rattle.cw_writable.proofs.Coded.RangedLayers.{ranged_argument_layer}
 use Rattle.cw_sound.specs.Expressions.Levels.{largest}
 use Rattle.cw_sound.proofs.Expressions.Truth.{no, both, parts, le_true}
 use Rattle.cw_sound.proofs.Expressions.Judging.{Keeps, NoFault, keeps_fine, keeps_wrong, keeps_both, both_free}
 use Rattle.cw_sound.proofs.Expressions.Numbers.{type_small}
-use Rattle.cw_sound.proofs.Ranges.Parts.{value, Sound, Sounds, no_sound, more_sounds}
+use Rattle.cw_sound.proofs.Ranges.Parts.{value, Sound, Sounds}
 use Rattle.cw_sound.proofs.Ranges.Nodes.{value_rolled}
 use Rattle.cw_sound.proofs.Ranges.Places.{bound_is_word}
+use Rattle.cw_sound.proofs.Expressions.Lists.{all_none, all_more}
 
 module _ (u : SourceUnit) (who : Option ℕ) where
   argument_rolled : (x : Arg-F Arg Cond Expr Spot Ref) → is_ranged_argument u (roll-Arg x) ≡ ranged_argument_layer u x
@@ -130,20 +131,20 @@ module _ (u : SourceUnit) (who : Option ℕ) where
 
     arguments_keep : (params : List RawPs) {js : List Judged} {ms : List Made} {ls : List ℕ} → Sounds named numbers u who reading.Argument js ms ls → IsTrue (all_taken named params js) → Keeps (arguments_faults named params js)
     arguments_keep [] ss h = keeps_fine
-    arguments_keep (p ∷ more) no_sound h = keeps_fine
-    arguments_keep (p ∷ more) (more_sounds {j = j} {m = m} {l = l} {js = js} s ss) h =
+    arguments_keep (p ∷ more) all_none h = keeps_fine
+    arguments_keep (p ∷ more) (all_more {j = j} {m = m} {l = l} {js = js} s ss) h =
         let halves = parts (takes named p j.shape) (all_taken named more js) h in
-        keeps_both (argument_faults named p j) (arguments_faults named more js) (argument_keeps j m l s p halves.0) (arguments_keep more ss halves.1)
+        keeps_both (argument_keeps j m l s p halves.0) (arguments_keep more ss halves.1)
 
     abbrev pub AllGiven : List Arg → Type 0
     AllGiven args = IsTrue (all_ranged (map (is_ranged_argument u) args))
 
     arguments_given : (params : List RawPs) {js : List Judged} {ms : List Made} {ls : List ℕ} → Sounds named numbers u who reading.Argument js ms ls → IsTrue (all_taken named params js) → largest ls ≤ most_levels → NoFault (arguments_faults named params js)
         → AllGiven (arguments_for ms params)
-    arguments_given [] no_sound h few free = refl
-    arguments_given [] (more_sounds s ss) h few free = no h
-    arguments_given (p ∷ more) no_sound h few free = no h
-    arguments_given (p ∷ more) (more_sounds {j = j} {m = m} {l = l} {js = js} {ms = ms} {ls = ls} s ss) h few free =
+    arguments_given [] all_none h few free = refl
+    arguments_given [] (all_more s ss) h few free = no h
+    arguments_given (p ∷ more) all_none h few free = no h
+    arguments_given (p ∷ more) (all_more {j = j} {m = m} {l = l} {js = js} {ms = ms} {ls = ls} s ss) h few free =
         let halves = parts (takes named p j.shape) (all_taken named more js) h in
         let frees = both_free (argument_faults named p j) (arguments_faults named more js) (arguments_keep more ss halves.1) free in
         let first = argument_given j m l s p halves.0 (omega (arith, few)) frees.0 in
@@ -166,8 +167,8 @@ module _ (u : SourceUnit) (who : Option ℕ) where
     taken_given params n false ss e few free = absurd (cc)
 
     signed_given : (o : Option Signature) (n : RawName) {js : List Judged} {ms : List Made} {ls : List ℕ} → Sounds named numbers u who reading.Argument js ms ls → largest ls ≤ most_levels → NoFault (call_faults named o n js) → AllGiven (arguments_for ms (params_of o))
-    signed_given None n no_sound few free = refl
-    signed_given None n (more_sounds s ss) few free = refl
+    signed_given None n all_none few free = refl
+    signed_given None n (all_more s ss) few free = refl
     signed_given (Some s) n {js = js} ss few free = taken_given s.params n (all_taken named s.params js) ss refl few free
 
     pub call_given : (n : RawName) {js : List Judged} {ms : List Made} {ls : List ℕ} → Sounds named numbers u who reading.Argument js ms ls → largest ls ≤ most_levels → NoFault (call_faults named (signature_of named n) n js)

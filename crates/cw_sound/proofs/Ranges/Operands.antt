@@ -1,5 +1,6 @@
 -- Several operands of one rule.
-use Rattle.std.proofs.Common.{◌≡◌, ℕ, ◌≤◌, max, List, [], ◌∷◌, length, ◌+◌, Some, None, is_some, subst₂, ap, Bool, true, false, IsTrue, ◌&&◌, if◌then◌else◌, Option, nat_le, refl, sym, ap₂, subst, arith}
+use Rattle.std.proofs.Common.{◌≡◌, ℕ, ◌≤◌, max, List, [], ◌∷◌, length, ◌+◌, Some, None, is_some, subst₂, ap, Bool, true}
+use Rattle.std.proofs.Common.{false, IsTrue, ◌&&◌, Option, nat_le, refl, sym, ap₂, subst, arith, if◌then◌else◌}
 use Rattle.cw_tree.specs.declared.leaf.MulOp.{MulOp}
 use Rattle.cw_tree.specs.declared.leaf.MulOp.TheVariants as mul
 use Rattle.cw_tree.specs.declared.leaf.RawSign.{RawSign}
@@ -10,7 +11,7 @@ use Rattle.cw_scale.specs.declared.fault.Rule.TheVariants as rule
 use Rattle.cw_scale.specs.Faults.{Judgement, fine, unless, both}
 use Rattle.cw_scale.specs.Types.{int_judged, is_field, bits_judged, each_bits_judged}
 use Rattle.cw_built.specs.Coded.{is_part}
-use Rattle.cw_scale.specs.TypeRules.{Judged, plain, shape_from, logic_shape_from, each_at, operand_faults, is_division, can_divide, division_faults, factor_faults, scale_before, chain_faults, term_faults, scale_for, logic_faults}
+use Rattle.cw_scale.specs.TypeRules.{Judged, each_at, operand_faults, is_division, can_divide, division_faults, factor_faults, chain_faults, logic_faults}
 use Rattle.cw_make_expr.specs.Parts.{within}
 use Rattle.cw_make_expr.specs.Nodes.{logic, minus, added, multiplied}
 use Rattle.cw_make_expr.specs.Made.{Made, logic_from, factors_from, terms_from, signed_term, bits_around}
@@ -21,31 +22,11 @@ use Rattle.cw_gen_expr.specs.BuiltExpressions.{most_levels}
 use Rattle.cw_sound.specs.Expressions.Levels.{largest}
 use Rattle.cw_sound.proofs.Expressions.Truth.{both as both_true, parts, no, le_true, le_of, max_small}
 use Rattle.cw_sound.proofs.Expressions.Judging.{Keeps, NoFault, keeps_fine, keeps_unless, keeps_both, both_free, holds, keeps_int, keeps_each_bits}
-use Rattle.cw_sound.proofs.Ranges.Parts.{value, Ready, Result, Addend, Valued, Values, no_value, more_values}
+use Rattle.cw_sound.proofs.Ranges.Parts.{value, Ready, Result, Addend, Valued, Values}
 use Rattle.cw_sound.proofs.Ranges.Nodes.{result_ready, logic_result, bits_result, times_result, over_result, added_addend, minus_addend}
-
--- ---- shapes
-
-abbrev pub most : ℕ → List Judged → ℕ
-most n [] = n
-most n (j ∷ js) = most (max n j.shape.natural) js
-
-pub shape_most : (n : ℕ) (js : List Judged) → shape_from false (plain n) js ≡ plain (most n js)
-shape_most n [] = refl
-shape_most n (j ∷ js) = shape_most (max n j.shape.natural) js
-
-pub shape_none : (js : List Judged) → logic_shape_from false (plain 0) js ≡ plain 0
-shape_none [] = refl
-shape_none (j ∷ js) = shape_none js
-
--- ---- faults
-
-division_keeps : (b : Bool) (s : RawFactorSign) (asked f1 f2 : ℕ) → Keeps (division_faults b s asked f1 f2)
-division_keeps true s asked f1 f2 = keeps_unless (can_divide asked f1 f2) rule.ScaleRange s.at
-division_keeps false s asked f1 f2 = keeps_fine
-
-pub factor_keeps : (s : RawFactorSign) (asked f1 f2 : ℕ) → Keeps (factor_faults s asked f1 f2)
-factor_keeps s asked f1 f2 = division_keeps (is_division s.op) s asked f1 f2
+use Rattle.cw_sound.proofs.Expressions.Several.{AllKeeping, each_keeps, logic_keeps, factor_keeps, chain_keeps}
+use Rattle.cw_sound.proofs.Expressions.Operands.{most}
+use Rattle.cw_sound.proofs.Expressions.Lists.{all_keeping, all_none, all_more}
 
 -- ---- BITS
 
@@ -66,37 +47,18 @@ bits_are_part b free =
     let fits : Bool = is_field (place_amount b.size.first) (place_amount b.size.second) in
     let field : Judgement = unless fits rule.FieldRange b.at in
     let keeps_field : Keeps field = keeps_unless fits rule.FieldRange b.at in
-    let x = both_free (int_judged b.size.first) (both (int_judged b.size.second) field) (keeps_both (int_judged b.size.second) field (keeps_int b.size.second) keeps_field) free in
+    let x = both_free (int_judged b.size.first) (both (int_judged b.size.second) field) (keeps_both (keeps_int b.size.second) keeps_field) free in
     let y = both_free (int_judged b.size.second) field keeps_field x.1 in
     part_of (place_amount b.size.first) (place_amount b.size.second) (holds (is_some (place_amount b.size.first)) rule.NumberRange (number_position b.size.first) x.0)
     (holds (is_some (place_amount b.size.second)) rule.NumberRange (number_position b.size.second) y.0) (holds fits rule.FieldRange b.at y.1)
 
 module _ (u : SourceUnit) (who : Option ℕ) where
   pub most_small : (n : ℕ) {js : List Judged} {ms : List Made} {ls : List ℕ} → n ≤ 15 → Values u who js ms ls → most n js ≤ 15
-  most_small n h no_value = h
-  most_small n h (more_values {j = j} v vs) = most_small (max n j.shape.natural) (max_small n j.shape.natural 15 h v.natural_small) vs
+  most_small n h all_none = h
+  most_small n h (all_more {j = j} v vs) = most_small (max n j.shape.natural) (max_small n j.shape.natural 15 h v.natural_small) vs
 
-  pub each_keeps : (f : ℕ) {js : List Judged} {ms : List Made} {ls : List ℕ} → Values u who js ms ls → Keeps (each_at f js)
-  each_keeps f no_value = keeps_fine
-  each_keeps f (more_values {j = j} {js = js} v vs) = keeps_both (j.faults f) (each_at f js) (v.keeps f) (each_keeps f vs)
-
-  pub logic_keeps : (alone : Bool) (f : ℕ) {js : List Judged} {ms : List Made} {ls : List ℕ} → Values u who js ms ls → Keeps (logic_faults alone f js)
-  logic_keeps alone f no_value = keeps_fine
-  logic_keeps alone f (more_values {j = j} {js = js} v vs) = keeps_both (j.faults (scale_for alone f j.shape.operand)) (logic_faults alone f js) (v.keeps (scale_for alone f j.shape.operand)) (logic_keeps alone f vs)
-
-  pub chain_keeps : (asked f1 before : ℕ) {js : List Judged} {ms : List Made} {ls : List ℕ} (signs : List RawFactorSign) → Values u who js ms ls → Keeps (chain_faults asked f1 before js signs)
-  chain_keeps asked f1 before signs no_value = keeps_fine
-  chain_keeps asked f1 before [] (more_values v vs) = keeps_fine
-  chain_keeps asked f1 before (s ∷ signs) (more_values {j = j} {js = js} v vs) =
-      let n : ℕ = max before j.shape.natural in
-      keeps_both (operand_faults j) (both (factor_faults s (scale_before js asked n) f1 j.shape.operand) (chain_faults asked n n js signs)) (v.keeps j.shape.operand)
-      (keeps_both (factor_faults s (scale_before js asked n) f1 j.shape.operand) (chain_faults asked n n js signs) (factor_keeps s (scale_before js asked n) f1 j.shape.operand) (chain_keeps asked n n signs vs))
-
-  pub term_keeps : (asked : ℕ) {js : List Judged} {ms : List Made} {ls : List ℕ} (signs : List RawFactorSign) → Values u who js ms ls → Keeps (term_faults asked js signs)
-  term_keeps asked signs no_value = keeps_fine
-  term_keeps asked signs (more_values {j = j} {js = js} v vs) =
-      keeps_both (j.faults (scale_before js asked j.shape.operand)) (chain_faults asked j.shape.operand j.shape.natural js signs) (v.keeps (scale_before js asked j.shape.operand))
-      (chain_keeps asked j.shape.operand j.shape.natural signs vs)
+  pub keeping : {js : List Judged} {ms : List Made} {ls : List ℕ} → Values u who js ms ls → AllKeeping js
+  keeping = all_keeping Made (Valued u who) (λ j m l v. v.keeps)
 
   -- ---- operands that are evaluated at their scales as operands
 
@@ -122,9 +84,9 @@ module _ (u : SourceUnit) (who : Option ℕ) where
       }
 
   pub logic_operands : (f : ℕ) {js : List Judged} {ms : List Made} {ls : List ℕ} → Values u who js ms ls → largest ls ≤ most_levels → NoFault (logic_faults false f js) → Operands js ms
-  logic_operands f no_value few free = no_operand
-  logic_operands f (more_values {j = j} {m = m} {l = l} {js = js} {ls = ls} v vs) few free =
-      let halves = both_free (operand_faults j) (logic_faults false f js) (logic_keeps false f vs) free in
+  logic_operands f all_none few free = no_operand
+  logic_operands f (all_more {j = j} {m = m} {l = l} {js = js} {ls = ls} v vs) few free =
+      let halves = both_free (operand_faults j) (logic_faults false f js) (logic_keeps false f (keeping vs)) free in
       more_operands (operand_of j m l v (omega (arith, few)) halves.0) (logic_operands f vs (omega (arith, few)) halves.1)
 
   -- ---- word logic and BITS, at any scale
@@ -159,18 +121,18 @@ module _ (u : SourceUnit) (who : Option ℕ) where
   pub chain_result : (asked f1 n : ℕ) (e : Expr) (s : RawFactorSign) (signs : List RawFactorSign) {j : Judged} {m : Made} {l : ℕ} {js : List Judged} {ms : List Made} {ls : List ℕ} → n ≤ 15 → length ms ≤ length signs
       → (value u who e).natural ≡ n → (value u who e).operand ≡ f1 → Ready u who e → Valued u who j m l → Values u who js ms ls → largest (l ∷ ls) ≤ most_levels → NoFault (chain_faults asked f1 n (j ∷ js) (s ∷ signs))
       → Result u who (most (max n j.shape.natural) js) asked (factors_from (multiplied s.op e (m.made true)) ms signs)
-  chain_result asked f1 n e s signs {j = j} {m = m} {l = l} small enough is scale h v no_value few free =
+  chain_result asked f1 n e s signs {j = j} {m = m} {l = l} small enough is scale h v all_none few free =
       let sign : Judgement = factor_faults s asked f1 j.shape.operand in
-      let halves = both_free (operand_faults j) (both sign fine) (keeps_both sign fine (factor_keeps s asked f1 j.shape.operand) keeps_fine) free in
+      let halves = both_free (operand_faults j) (both sign fine) (keeps_both (factor_keeps s asked f1 j.shape.operand) keeps_fine) free in
       factor_result s asked f1 n e j m is scale h (operand_of j m l v (omega (arith, few)) halves.0) (both_free sign fine keeps_fine halves.1).0
-  chain_result asked f1 n e s [] small enough is scale h v (more_values w ws) few free = absurd (omega (arith, enough))
-  chain_result asked f1 n e s (t ∷ signs) {j = j} {m = m} {l = l} small enough is scale h v (more_values {j = k} {m = p} {l = i} {js = js} {ms = ms} {ls = ls} w ws) few free =
+  chain_result asked f1 n e s [] small enough is scale h v (all_more w ws) few free = absurd (omega (arith, enough))
+  chain_result asked f1 n e s (t ∷ signs) {j = j} {m = m} {l = l} small enough is scale h v (all_more {j = k} {m = p} {l = i} {js = js} {ms = ms} {ls = ls} w ws) few free =
       let top : ℕ = max n j.shape.natural in
       let low : top ≤ 15 = max_small n j.shape.natural 15 small v.natural_small in
       let sign : Judgement = factor_faults s top f1 j.shape.operand in
       let rest : Judgement = chain_faults asked top top (k ∷ js) (t ∷ signs) in
-      let keeps_rest : Keeps rest = chain_keeps asked top top (t ∷ signs) (more_values w ws) in
-      let halves = both_free (operand_faults j) (both sign rest) (keeps_both sign rest (factor_keeps s top f1 j.shape.operand) keeps_rest) free in
+      let keeps_rest : Keeps rest = chain_keeps asked top top (t ∷ signs) (keeping (all_more w ws)) in
+      let halves = both_free (operand_faults j) (both sign rest) (keeps_both (factor_keeps s top f1 j.shape.operand) keeps_rest) free in
       let behind = both_free sign rest keeps_rest halves.1 in
       let r = factor_result s top f1 n e j m is scale h (operand_of j m l v (omega (arith, few)) halves.0) behind.0 in
       chain_result asked top top (multiplied s.op e (m.made true)) t signs {j = k} {m = p} {l = i} {js = js} {ms = ms} {ls = ls} low (omega (arith, enough)) r.natural r.operand (result_ready u who top (multiplied s.op e (m.made true)) low r) w ws (omega (arith, few)) behind.1
@@ -182,9 +144,9 @@ module _ (u : SourceUnit) (who : Option ℕ) where
     more_addends : {f : ℕ} {j : Judged} {m : Made} {js : List Judged} {ms : List Made} → Addend u who f j.shape.natural (m.made false) → Addends f js ms → Addends f (j ∷ js) (m ∷ ms)
 
   pub all_addends : (f : ℕ) {js : List Judged} {ms : List Made} {ls : List ℕ} → f ≤ 15 → largest ls ≤ most_levels → Values u who js ms ls → NoFault (each_at f js) → Addends f js ms
-  all_addends f small few no_value free = no_addend
-  all_addends f small few (more_values {j = j} {m = m} {l = l} {js = js} {ls = ls} v vs) free =
-      let halves = both_free (j.faults f) (each_at f js) (each_keeps f vs) free in
+  all_addends f small few all_none free = no_addend
+  all_addends f small few (all_more {j = j} {m = m} {l = l} {js = js} {ls = ls} v vs) free =
+      let halves = both_free (j.faults f) (each_at f js) (each_keeps f (keeping vs)) free in
       let g = v.good f small (omega (arith, few)) halves.0 in
       more_addends (record { natural = g.natural false; at = g.at }) (all_addends f small (omega (arith, few)) vs halves.1)
 

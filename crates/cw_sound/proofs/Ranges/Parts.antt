@@ -1,5 +1,5 @@
 -- What is known of the parts of a text's expressions: of their judgement, and of the trees that are made of them.
-use Rattle.std.proofs.Common.{◌≡◌, ℕ, ◌≤◌, List, [], ◌∷◌, Bool, true, false, IsTrue, Option}
+use Rattle.std.proofs.Common.{◌≡◌, ℕ, ◌≤◌, List, Bool, true, false, IsTrue, Option}
 use Rattle.cw_facts.specs.declared.fact.Reading.{Reading}
 use Rattle.cw_facts.specs.Uses.{Uses}
 use Rattle.cw_scope.specs.declared.resolve.Named.{Named}
@@ -18,6 +18,7 @@ use Rattle.cw_sound.specs.Uses.Stands.{FactsStand}
 use Rattle.cw_sound.specs.Expressions.Readings.{is_placed}
 use Rattle.cw_sound.proofs.Expressions.Parts.{AsValue, made_of}
 use Rattle.cw_sound.proofs.Expressions.Judging.{Keeps, NoFault}
+use Rattle.cw_sound.proofs.Expressions.Lists.{Each, All, Standing}
 
 -- ---- trees
 
@@ -73,10 +74,10 @@ module _ (named : Named) (numbers : Numbers) (u : SourceUnit) (who : Option ℕ)
     pub valued : AsValue named r j.shape.bare → Valued u who j m l
 
   abbrev pub Right : Judged → Made → Uses → (levels : ℕ) → Type 0
-  Right j m uses l = (r : Reading) → FactsStand named numbers u (uses r) who → Sound r j m l
+  Right = Standing named numbers u who Made Sound
 
   abbrev pub RightTest : Judged → Cond → Uses → (levels : ℕ) → Type 0
-  RightTest j c uses l = (r : Reading) → FactsStand named numbers u (uses r) who → Tested u who j c l
+  RightTest = Standing named numbers u who Cond (λ r. Tested u who)
 
   pub record RightPlace (j : Judged) (p : Placed) (uses : Uses) (l : ℕ) : Type 0 where
     pub scale : (ranged_reference u p.place).scale ≡ j.shape.natural
@@ -85,19 +86,15 @@ module _ (named : Named) (numbers : Numbers) (u : SourceUnit) (who : Option ℕ)
 
   -- ---- several, one by one
 
-  pub data Rights : List Judged → List Made → List Uses → List ℕ → Type 0 where
-    none : Rights [] [] [] []
-    more : {j : Judged} {m : Made} {x : Uses} {l : ℕ} {js : List Judged} {ms : List Made} {xs : List Uses} {ls : List ℕ} → Right j m x l → Rights js ms xs ls → Rights (j ∷ js) (m ∷ ms) (x ∷ xs) (l ∷ ls)
+  abbrev pub Rights : List Judged → List Made → List Uses → List ℕ → Type 0
+  Rights = Each Made Right
 
-  pub data RightTests : List Judged → List Cond → List Uses → List ℕ → Type 0 where
-    no_test : RightTests [] [] [] []
-    more_tests : {j : Judged} {c : Cond} {x : Uses} {l : ℕ} {js : List Judged} {cs : List Cond} {xs : List Uses} {ls : List ℕ} → RightTest j c x l → RightTests js cs xs ls → RightTests (j ∷ js) (c ∷ cs) (x ∷ xs) (l ∷ ls)
+  abbrev pub RightTests : List Judged → List Cond → List Uses → List ℕ → Type 0
+  RightTests = Each Cond RightTest
 
-  pub data Sounds : Reading → List Judged → List Made → List ℕ → Type 0 where
-    no_sound : {r : Reading} → Sounds r [] [] []
-    more_sounds : {r : Reading} {j : Judged} {m : Made} {l : ℕ} {js : List Judged} {ms : List Made} {ls : List ℕ} → Sound r j m l → Sounds r js ms ls → Sounds r (j ∷ js) (m ∷ ms) (l ∷ ls)
+  abbrev pub Sounds : Reading → List Judged → List Made → List ℕ → Type 0
+  Sounds r = All Made (Sound r)
 
 module _ (u : SourceUnit) (who : Option ℕ) where
-  pub data Values : List Judged → List Made → List ℕ → Type 0 where
-    no_value : Values [] [] []
-    more_values : {j : Judged} {m : Made} {l : ℕ} {js : List Judged} {ms : List Made} {ls : List ℕ} → Valued u who j m l → Values js ms ls → Values (j ∷ js) (m ∷ ms) (l ∷ ls)
+  abbrev pub Values : List Judged → List Made → List ℕ → Type 0
+  Values = All Made (Valued u who)

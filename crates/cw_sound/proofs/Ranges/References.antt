@@ -22,7 +22,7 @@ use Rattle.cw_unit.specs.declared.unit.Arg.TheOpen as unit_layer
 use Rattle.cw_sound.proofs.Expressions.Truth.{no, parts}
 use Rattle.cw_sound.proofs.Expressions.Judging.{Keeps, NoFault, keeps_both, both_free}
 use Rattle.cw_sound.proofs.Expressions.Standing.{split, use_stands}
-use Rattle.cw_sound.proofs.Ranges.Parts.{Valued, Sound, Right, RightPlace, no_sound}
+use Rattle.cw_sound.proofs.Ranges.Parts.{Valued, Sound, Right, RightPlace}
 use Rattle.cw_sound.proofs.Expressions.Numbers.{name_small}
 use Rattle.cw_sound.proofs.Ranges.Arguments.{call_keeps}
 use Rattle.cw_facts.specs.declared.fact.Kind.{Kind as NameKind}
@@ -31,7 +31,7 @@ use Rattle.cw_scope.specs.NameRules.{is_reference, is_part, answers, fits_readin
 use Rattle.cw_scale.specs.Arguments.{is_word_item_if, is_whole_if, answers_alone}
 use Rattle.cw_make_expr.specs.Nodes.{reference}
 use Rattle.cw_make_expr.specs.Parts.{number_of, is_called, field_of, handed, named_spot, indexed_spot, twice_indexed_spot}
-use Rattle.cw_make_expr.specs.Made.{value_of_name, target, item_of, place_of_name, reference_at}
+use Rattle.cw_make_expr.specs.Made.{value_of_name, target, item_of, place_of_name}
 use Rattle.cw_unit.specs.declared.unit.Spot.{Spot, roll-Spot}
 use Rattle.cw_unit.specs.declared.unit.Field.{Field}
 use Rattle.cw_sound.specs.Uses.Stands.{Stands}
@@ -46,6 +46,7 @@ use Rattle.cw_sound.proofs.Ranges.Arguments.{handed_given, nothing_given}
 use Rattle.cw_sound.specs.Ranges.Declared.{DeclarationsInRange}
 use Rattle.cw_gen_expr.specs.BuiltExpressions.{most_levels}
 use Rattle.cw_writable.specs.Coded.RangedExpressions.{is_field}
+use Rattle.cw_sound.proofs.Expressions.Lists.{all_none}
 
 -- ---- what a name may be
 
@@ -82,7 +83,7 @@ module _ (named : Named) (numbers : Numbers) (u : SourceUnit) (who : Option ℕ)
     valued = λ h.
         result_valued named numbers u who (fraction_of_kind (kind_of named n)) (judged.name_shape n (fraction_of_kind (kind_of named n)) (is_word_item_if (kind_of named n))) (λ f. call_faults named (signature_of named n) n [])
         (value_of_name (is_called (kind_of named n)) (target named numbers n) (place_of_name named numbers n)) (handed (kind_of named n) (number_of named numbers n)) 0 refl refl (name_small (kind_of named n))
-        (λ f. call_keeps u who named numbers (signature_of named n) n no_sound)
+        (λ f. call_keeps u who named numbers (signature_of named n) n all_none)
         (λ w. (place_of_name named numbers n, ap (λ b. value_of_name b (target named numbers n) (place_of_name named numbers n)) (word_not_called (kind_of named n) w)))
         (λ f small few free. name_value named numbers u who f n s.named_kind s.is_kind s.stands_as (kind_ranges named declared n s.named_kind s.is_kind));
   }
@@ -98,7 +99,7 @@ module _ (named : Named) (numbers : Numbers) (u : SourceUnit) (who : Option ℕ)
             let s = use_stands named numbers u who n (form.Reference r 0) h in
             let part : IsTrue (is_field (field_of (kind_of named n))) = field_in named numbers u who n s.named_kind s.is_kind (kind_ranges named declared n s.named_kind s.is_kind) in
             record {
-              keeps = λ g. call_keeps u who named numbers (signature_of named n) n no_sound;
+              keeps = λ g. call_keeps u who named numbers (signature_of named n) n all_none;
               ranged = λ g few free. place_good u who spot f (field_of (kind_of named n)) (name_small (kind_of named n)) part (name_good named numbers u who n s.named_kind s.is_kind);
             };
       }
@@ -158,7 +159,7 @@ module _ (named : Named) (numbers : Numbers) (u : SourceUnit) (who : Option ℕ)
       let z = use_stands named numbers u who n (form.Reference (uses.indexed r) 2) halves.0 in
       let v = (s reading.Value sides.0).valued tt in
       let w = (t reading.Value sides.1).valued tt in (
-        λ f. keeps_both (j.faults 0) (k.faults 0) (v.keeps 0) (w.keeps 0),
+        λ f. keeps_both (v.keeps 0) (w.keeps 0),
         λ f few free.
             let frees = both_free (j.faults 0) (k.faults 0) (w.keeps 0) free in
             let d = kind_ranges named declared n z.named_kind z.is_kind in (

@@ -20,9 +20,11 @@ use Rattle.cw_tokens.specs.TreeTokens as tokens
 use Rattle.cw_sound.specs.Expressions.Regular as regular
 use Rattle.cw_sound.proofs.Expressions.Truth.{both}
 use Rattle.cw_sound.proofs.Regular.Fits.{ExprFits, expr_rolled, CondFits, PrimaryFits, primary_rolled, RefFits, ref_rolled}
-use Rattle.cw_sound.proofs.Regular.Lists.{Each, all_each}
+use Rattle.cw_sound.proofs.Regular.Lists.{all_each}
 use Rattle.cw_sound.proofs.Regular.Operands.{mask_made, union_made, differ_made, term_made, sum_made, expr_made, prim_made, cand_made, cond_made, cmp_made}
-use Rattle.cw_sound.proofs.Regular.Good.{IsByte, OfOption, OfEither, Keeps, given_good}
+use Rattle.cw_sound.proofs.Regular.Good.{IsByte, Keeps, given_good}
+use Rattle.cw_sound.proofs.Kept.{OfOption, OfEither}
+use Rattle.cw_macro.specs.Premises.{Each}
 
 -- ---- trees
 

@@ -21,6 +21,10 @@ pub record Fits (is : Bool) (n : ℕ) : Type 0 where
   pub right : IsTrue is
   pub some : 1 ≤ n
 
+-- the same of equal ones
+alike : {a b : Bool} {m n : ℕ} → a ≡ b → m ≡ n → Fits b n → Fits a m
+alike e f h = record { right = subst IsTrue (sym e) h.right; some = subst (λ (k : ℕ). 1 ≤ k) (sym f) h.some }
+
 -- the same of equal trees
 pub moved : {X : Type 0} (f : X → Bool) (g : X → ℕ) {x y : X} → x ≡ y → Fits (f x) (g x) → Fits (f y) (g y)
 moved {X = X} f g e h = subst (λ (z : X). Fits (f z) (g z)) e h
@@ -39,18 +43,14 @@ ExprLayerFits l =
     (tokens.expr_step (map-RawExpr RawExpr RawPrimary RawRef RawCand RawCmp RawCond RawDiffer RawMask RawPrim RawSum RawTerm RawUnion ℕ ℕ ℕ ℕ ℕ ℕ ℕ ℕ ℕ ℕ ℕ ℕ tokens.expr_tokens tokens.primary_tokens tokens.ref_tokens tokens.cand_tokens tokens.cmp_tokens tokens.cond_tokens tokens.differ_tokens tokens.mask_tokens tokens.prim_tokens tokens.sum_tokens tokens.term_tokens tokens.union_tokens l))
 
 pub expr_rolled : (l : ExprLayer) → ExprLayerFits l → ExprFits (roll-RawExpr l)
-expr_rolled l h = record {
-  right = subst IsTrue (sym (fold-roll-RawExpr Bool Bool Bool Bool Bool Bool Bool Bool Bool Bool Bool Bool regular.expression_step regular.primary_step regular.reference_step regular.conjunction_step regular.comparison_step regular.condition_step regular.differ_step regular.mask_step regular.prim_step regular.sum_step regular.term_step regular.union_step l)) h.right;
-  some = subst (λ (n : ℕ). 1 ≤ n) (sym (fold-roll-RawExpr ℕ ℕ ℕ ℕ ℕ ℕ ℕ ℕ ℕ ℕ ℕ ℕ tokens.expr_step tokens.primary_step tokens.ref_step tokens.cand_step tokens.cmp_step tokens.cond_step tokens.differ_step tokens.mask_step tokens.prim_step tokens.sum_step tokens.term_step tokens.union_step l)) h.some;
-}
+expr_rolled l h =
+    alike (fold-roll-RawExpr Bool Bool Bool Bool Bool Bool Bool Bool Bool Bool Bool Bool regular.expression_step regular.primary_step regular.reference_step regular.conjunction_step regular.comparison_step regular.condition_step regular.differ_step regular.mask_step regular.prim_step regular.sum_step regular.term_step regular.union_step l)
+    (fold-roll-RawExpr ℕ ℕ ℕ ℕ ℕ ℕ ℕ ℕ ℕ ℕ ℕ ℕ tokens.expr_step tokens.primary_step tokens.ref_step tokens.cand_step tokens.cmp_step tokens.cond_step tokens.differ_step tokens.mask_step tokens.prim_step tokens.sum_step tokens.term_step tokens.union_step l) h
 
 pub expr_opened : (x : RawExpr) → ExprFits x → ExprLayerFits (out-RawExpr x)
 expr_opened x h =
-    let k = moved regular.is_regular tokens.expr_tokens (sym (roll-out-RawExpr x)) h in
-    record {
-      right = subst IsTrue (fold-roll-RawExpr Bool Bool Bool Bool Bool Bool Bool Bool Bool Bool Bool Bool regular.expression_step regular.primary_step regular.reference_step regular.conjunction_step regular.comparison_step regular.condition_step regular.differ_step regular.mask_step regular.prim_step regular.sum_step regular.term_step regular.union_step (out-RawExpr x)) k.right;
-      some = subst (λ (n : ℕ). 1 ≤ n) (fold-roll-RawExpr ℕ ℕ ℕ ℕ ℕ ℕ ℕ ℕ ℕ ℕ ℕ ℕ tokens.expr_step tokens.primary_step tokens.ref_step tokens.cand_step tokens.cmp_step tokens.cond_step tokens.differ_step tokens.mask_step tokens.prim_step tokens.sum_step tokens.term_step tokens.union_step (out-RawExpr x)) k.some;
-    }
+    alike (sym (fold-roll-RawExpr Bool Bool Bool Bool Bool Bool Bool Bool Bool Bool Bool Bool regular.expression_step regular.primary_step regular.reference_step regular.conjunction_step regular.comparison_step regular.condition_step regular.differ_step regular.mask_step regular.prim_step regular.sum_step regular.term_step regular.union_step (out-RawExpr x)))
+    (sym (fold-roll-RawExpr ℕ ℕ ℕ ℕ ℕ ℕ ℕ ℕ ℕ ℕ ℕ ℕ tokens.expr_step tokens.primary_step tokens.ref_step tokens.cand_step tokens.cmp_step tokens.cond_step tokens.differ_step tokens.mask_step tokens.prim_step tokens.sum_step tokens.term_step tokens.union_step (out-RawExpr x))) (moved regular.is_regular tokens.expr_tokens (sym (roll-out-RawExpr x)) h)
 
 -- ---- primary
 
@@ -66,18 +66,14 @@ PrimaryLayerFits l =
     (tokens.primary_step (map-RawPrimary RawExpr RawPrimary RawRef RawCand RawCmp RawCond RawDiffer RawMask RawPrim RawSum RawTerm RawUnion ℕ ℕ ℕ ℕ ℕ ℕ ℕ ℕ ℕ ℕ ℕ ℕ tokens.expr_tokens tokens.primary_tokens tokens.ref_tokens tokens.cand_tokens tokens.cmp_tokens tokens.cond_tokens tokens.differ_tokens tokens.mask_tokens tokens.prim_tokens tokens.sum_tokens tokens.term_tokens tokens.union_tokens l))
 
 pub primary_rolled : (l : PrimaryLayer) → PrimaryLayerFits l → PrimaryFits (roll-RawPrimary l)
-primary_rolled l h = record {
-  right = subst IsTrue (sym (fold-roll-RawPrimary Bool Bool Bool Bool Bool Bool Bool Bool Bool Bool Bool Bool regular.expression_step regular.primary_step regular.reference_step regular.conjunction_step regular.comparison_step regular.condition_step regular.differ_step regular.mask_step regular.prim_step regular.sum_step regular.term_step regular.union_step l)) h.right;
-  some = subst (λ (n : ℕ). 1 ≤ n) (sym (fold-roll-RawPrimary ℕ ℕ ℕ ℕ ℕ ℕ ℕ ℕ ℕ ℕ ℕ ℕ tokens.expr_step tokens.primary_step tokens.ref_step tokens.cand_step tokens.cmp_step tokens.cond_step tokens.differ_step tokens.mask_step tokens.prim_step tokens.sum_step tokens.term_step tokens.union_step l)) h.some;
-}
+primary_rolled l h =
+    alike (fold-roll-RawPrimary Bool Bool Bool Bool Bool Bool Bool Bool Bool Bool Bool Bool regular.expression_step regular.primary_step regular.reference_step regular.conjunction_step regular.comparison_step regular.condition_step regular.differ_step regular.mask_step regular.prim_step regular.sum_step regular.term_step regular.union_step l)
+    (fold-roll-RawPrimary ℕ ℕ ℕ ℕ ℕ ℕ ℕ ℕ ℕ ℕ ℕ ℕ tokens.expr_step tokens.primary_step tokens.ref_step tokens.cand_step tokens.cmp_step tokens.cond_step tokens.differ_step tokens.mask_step tokens.prim_step tokens.sum_step tokens.term_step tokens.union_step l) h
 
 pub primary_opened : (x : RawPrimary) → PrimaryFits x → PrimaryLayerFits (out-RawPrimary x)
 primary_opened x h =
-    let k = moved regular.is_regular_primary tokens.primary_tokens (sym (roll-out-RawPrimary x)) h in
-    record {
-      right = subst IsTrue (fold-roll-RawPrimary Bool Bool Bool Bool Bool Bool Bool Bool Bool Bool Bool Bool regular.expression_step regular.primary_step regular.reference_step regular.conjunction_step regular.comparison_step regular.condition_step regular.differ_step regular.mask_step regular.prim_step regular.sum_step regular.term_step regular.union_step (out-RawPrimary x)) k.right;
-      some = subst (λ (n : ℕ). 1 ≤ n) (fold-roll-RawPrimary ℕ ℕ ℕ ℕ ℕ ℕ ℕ ℕ ℕ ℕ ℕ ℕ tokens.expr_step tokens.primary_step tokens.ref_step tokens.cand_step tokens.cmp_step tokens.cond_step tokens.differ_step tokens.mask_step tokens.prim_step tokens.sum_step tokens.term_step tokens.union_step (out-RawPrimary x)) k.some;
-    }
+    alike (sym (fold-roll-RawPrimary Bool Bool Bool Bool Bool Bool Bool Bool Bool Bool Bool Bool regular.expression_step regular.primary_step regular.reference_step regular.conjunction_step regular.comparison_step regular.condition_step regular.differ_step regular.mask_step regular.prim_step regular.sum_step regular.term_step regular.union_step (out-RawPrimary x)))
+    (sym (fold-roll-RawPrimary ℕ ℕ ℕ ℕ ℕ ℕ ℕ ℕ ℕ ℕ ℕ ℕ tokens.expr_step tokens.primary_step tokens.ref_step tokens.cand_step tokens.cmp_step tokens.cond_step tokens.differ_step tokens.mask_step tokens.prim_step tokens.sum_step tokens.term_step tokens.union_step (out-RawPrimary x))) (moved regular.is_regular_primary tokens.primary_tokens (sym (roll-out-RawPrimary x)) h)
 
 -- ---- ref
 
@@ -93,10 +89,9 @@ RefLayerFits l =
     (tokens.ref_step (map-RawRef RawExpr RawPrimary RawRef RawCand RawCmp RawCond RawDiffer RawMask RawPrim RawSum RawTerm RawUnion ℕ ℕ ℕ ℕ ℕ ℕ ℕ ℕ ℕ ℕ ℕ ℕ tokens.expr_tokens tokens.primary_tokens tokens.ref_tokens tokens.cand_tokens tokens.cmp_tokens tokens.cond_tokens tokens.differ_tokens tokens.mask_tokens tokens.prim_tokens tokens.sum_tokens tokens.term_tokens tokens.union_tokens l))
 
 pub ref_rolled : (l : RefLayer) → RefLayerFits l → RefFits (roll-RawRef l)
-ref_rolled l h = record {
-  right = subst IsTrue (sym (fold-roll-RawRef Bool Bool Bool Bool Bool Bool Bool Bool Bool Bool Bool Bool regular.expression_step regular.primary_step regular.reference_step regular.conjunction_step regular.comparison_step regular.condition_step regular.differ_step regular.mask_step regular.prim_step regular.sum_step regular.term_step regular.union_step l)) h.right;
-  some = subst (λ (n : ℕ). 1 ≤ n) (sym (fold-roll-RawRef ℕ ℕ ℕ ℕ ℕ ℕ ℕ ℕ ℕ ℕ ℕ ℕ tokens.expr_step tokens.primary_step tokens.ref_step tokens.cand_step tokens.cmp_step tokens.cond_step tokens.differ_step tokens.mask_step tokens.prim_step tokens.sum_step tokens.term_step tokens.union_step l)) h.some;
-}
+ref_rolled l h =
+    alike (fold-roll-RawRef Bool Bool Bool Bool Bool Bool Bool Bool Bool Bool Bool Bool regular.expression_step regular.primary_step regular.reference_step regular.conjunction_step regular.comparison_step regular.condition_step regular.differ_step regular.mask_step regular.prim_step regular.sum_step regular.term_step regular.union_step l)
+    (fold-roll-RawRef ℕ ℕ ℕ ℕ ℕ ℕ ℕ ℕ ℕ ℕ ℕ ℕ tokens.expr_step tokens.primary_step tokens.ref_step tokens.cand_step tokens.cmp_step tokens.cond_step tokens.differ_step tokens.mask_step tokens.prim_step tokens.sum_step tokens.term_step tokens.union_step l) h
 
 -- ---- cand
 
@@ -112,10 +107,9 @@ CandLayerFits l =
     (tokens.cand_step (map-RawCand RawExpr RawPrimary RawRef RawCand RawCmp RawCond RawDiffer RawMask RawPrim RawSum RawTerm RawUnion ℕ ℕ ℕ ℕ ℕ ℕ ℕ ℕ ℕ ℕ ℕ ℕ tokens.expr_tokens tokens.primary_tokens tokens.ref_tokens tokens.cand_tokens tokens.cmp_tokens tokens.cond_tokens tokens.differ_tokens tokens.mask_tokens tokens.prim_tokens tokens.sum_tokens tokens.term_tokens tokens.union_tokens l))
 
 pub cand_rolled : (l : CandLayer) → CandLayerFits l → CandFits (roll-RawCand l)
-cand_rolled l h = record {
-  right = subst IsTrue (sym (fold-roll-RawCand Bool Bool Bool Bool Bool Bool Bool Bool Bool Bool Bool Bool regular.expression_step regular.primary_step regular.reference_step regular.conjunction_step regular.comparison_step regular.condition_step regular.differ_step regular.mask_step regular.prim_step regular.sum_step regular.term_step regular.union_step l)) h.right;
-  some = subst (λ (n : ℕ). 1 ≤ n) (sym (fold-roll-RawCand ℕ ℕ ℕ ℕ ℕ ℕ ℕ ℕ ℕ ℕ ℕ ℕ tokens.expr_step tokens.primary_step tokens.ref_step tokens.cand_step tokens.cmp_step tokens.cond_step tokens.differ_step tokens.mask_step tokens.prim_step tokens.sum_step tokens.term_step tokens.union_step l)) h.some;
-}
+cand_rolled l h =
+    alike (fold-roll-RawCand Bool Bool Bool Bool Bool Bool Bool Bool Bool Bool Bool Bool regular.expression_step regular.primary_step regular.reference_step regular.conjunction_step regular.comparison_step regular.condition_step regular.differ_step regular.mask_step regular.prim_step regular.sum_step regular.term_step regular.union_step l)
+    (fold-roll-RawCand ℕ ℕ ℕ ℕ ℕ ℕ ℕ ℕ ℕ ℕ ℕ ℕ tokens.expr_step tokens.primary_step tokens.ref_step tokens.cand_step tokens.cmp_step tokens.cond_step tokens.differ_step tokens.mask_step tokens.prim_step tokens.sum_step tokens.term_step tokens.union_step l) h
 
 -- ---- cmp
 
@@ -131,10 +125,9 @@ CmpLayerFits l =
     (tokens.cmp_step (map-RawCmp RawExpr RawPrimary RawRef RawCand RawCmp RawCond RawDiffer RawMask RawPrim RawSum RawTerm RawUnion ℕ ℕ ℕ ℕ ℕ ℕ ℕ ℕ ℕ ℕ ℕ ℕ tokens.expr_tokens tokens.primary_tokens tokens.ref_tokens tokens.cand_tokens tokens.cmp_tokens tokens.cond_tokens tokens.differ_tokens tokens.mask_tokens tokens.prim_tokens tokens.sum_tokens tokens.term_tokens tokens.union_tokens l))
 
 pub cmp_rolled : (l : CmpLayer) → CmpLayerFits l → CmpFits (roll-RawCmp l)
-cmp_rolled l h = record {
-  right = subst IsTrue (sym (fold-roll-RawCmp Bool Bool Bool Bool Bool Bool Bool Bool Bool Bool Bool Bool regular.expression_step regular.primary_step regular.reference_step regular.conjunction_step regular.comparison_step regular.condition_step regular.differ_step regular.mask_step regular.prim_step regular.sum_step regular.term_step regular.union_step l)) h.right;
-  some = subst (λ (n : ℕ). 1 ≤ n) (sym (fold-roll-RawCmp ℕ ℕ ℕ ℕ ℕ ℕ ℕ ℕ ℕ ℕ ℕ ℕ tokens.expr_step tokens.primary_step tokens.ref_step tokens.cand_step tokens.cmp_step tokens.cond_step tokens.differ_step tokens.mask_step tokens.prim_step tokens.sum_step tokens.term_step tokens.union_step l)) h.some;
-}
+cmp_rolled l h =
+    alike (fold-roll-RawCmp Bool Bool Bool Bool Bool Bool Bool Bool Bool Bool Bool Bool regular.expression_step regular.primary_step regular.reference_step regular.conjunction_step regular.comparison_step regular.condition_step regular.differ_step regular.mask_step regular.prim_step regular.sum_step regular.term_step regular.union_step l)
+    (fold-roll-RawCmp ℕ ℕ ℕ ℕ ℕ ℕ ℕ ℕ ℕ ℕ ℕ ℕ tokens.expr_step tokens.primary_step tokens.ref_step tokens.cand_step tokens.cmp_step tokens.cond_step tokens.differ_step tokens.mask_step tokens.prim_step tokens.sum_step tokens.term_step tokens.union_step l) h
 
 -- ---- cond
 
@@ -150,10 +143,9 @@ CondLayerFits l =
     (tokens.cond_step (map-RawCond RawExpr RawPrimary RawRef RawCand RawCmp RawCond RawDiffer RawMask RawPrim RawSum RawTerm RawUnion ℕ ℕ ℕ ℕ ℕ ℕ ℕ ℕ ℕ ℕ ℕ ℕ tokens.expr_tokens tokens.primary_tokens tokens.ref_tokens tokens.cand_tokens tokens.cmp_tokens tokens.cond_tokens tokens.differ_tokens tokens.mask_tokens tokens.prim_tokens tokens.sum_tokens tokens.term_tokens tokens.union_tokens l))
 
 pub cond_rolled : (l : CondLayer) → CondLayerFits l → CondFits (roll-RawCond l)
-cond_rolled l h = record {
-  right = subst IsTrue (sym (fold-roll-RawCond Bool Bool Bool Bool Bool Bool Bool Bool Bool Bool Bool Bool regular.expression_step regular.primary_step regular.reference_step regular.conjunction_step regular.comparison_step regular.condition_step regular.differ_step regular.mask_step regular.prim_step regular.sum_step regular.term_step regular.union_step l)) h.right;
-  some = subst (λ (n : ℕ). 1 ≤ n) (sym (fold-roll-RawCond ℕ ℕ ℕ ℕ ℕ ℕ ℕ ℕ ℕ ℕ ℕ ℕ tokens.expr_step tokens.primary_step tokens.ref_step tokens.cand_step tokens.cmp_step tokens.cond_step tokens.differ_step tokens.mask_step tokens.prim_step tokens.sum_step tokens.term_step tokens.union_step l)) h.some;
-}
+cond_rolled l h =
+    alike (fold-roll-RawCond Bool Bool Bool Bool Bool Bool Bool Bool Bool Bool Bool Bool regular.expression_step regular.primary_step regular.reference_step regular.conjunction_step regular.comparison_step regular.condition_step regular.differ_step regular.mask_step regular.prim_step regular.sum_step regular.term_step regular.union_step l)
+    (fold-roll-RawCond ℕ ℕ ℕ ℕ ℕ ℕ ℕ ℕ ℕ ℕ ℕ ℕ tokens.expr_step tokens.primary_step tokens.ref_step tokens.cand_step tokens.cmp_step tokens.cond_step tokens.differ_step tokens.mask_step tokens.prim_step tokens.sum_step tokens.term_step tokens.union_step l) h
 
 -- ---- differ
 
@@ -169,18 +161,14 @@ DifferLayerFits l =
     (tokens.differ_step (map-RawDiffer RawExpr RawPrimary RawRef RawCand RawCmp RawCond RawDiffer RawMask RawPrim RawSum RawTerm RawUnion ℕ ℕ ℕ ℕ ℕ ℕ ℕ ℕ ℕ ℕ ℕ ℕ tokens.expr_tokens tokens.primary_tokens tokens.ref_tokens tokens.cand_tokens tokens.cmp_tokens tokens.cond_tokens tokens.differ_tokens tokens.mask_tokens tokens.prim_tokens tokens.sum_tokens tokens.term_tokens tokens.union_tokens l))
 
 pub differ_rolled : (l : DifferLayer) → DifferLayerFits l → DifferFits (roll-RawDiffer l)
-differ_rolled l h = record {
-  right = subst IsTrue (sym (fold-roll-RawDiffer Bool Bool Bool Bool Bool Bool Bool Bool Bool Bool Bool Bool regular.expression_step regular.primary_step regular.reference_step regular.conjunction_step regular.comparison_step regular.condition_step regular.differ_step regular.mask_step regular.prim_step regular.sum_step regular.term_step regular.union_step l)) h.right;
-  some = subst (λ (n : ℕ). 1 ≤ n) (sym (fold-roll-RawDiffer ℕ ℕ ℕ ℕ ℕ ℕ ℕ ℕ ℕ ℕ ℕ ℕ tokens.expr_step tokens.primary_step tokens.ref_step tokens.cand_step tokens.cmp_step tokens.cond_step tokens.differ_step tokens.mask_step tokens.prim_step tokens.sum_step tokens.term_step tokens.union_step l)) h.some;
-}
+differ_rolled l h =
+    alike (fold-roll-RawDiffer Bool Bool Bool Bool Bool Bool Bool Bool Bool Bool Bool Bool regular.expression_step regular.primary_step regular.reference_step regular.conjunction_step regular.comparison_step regular.condition_step regular.differ_step regular.mask_step regular.prim_step regular.sum_step regular.term_step regular.union_step l)
+    (fold-roll-RawDiffer ℕ ℕ ℕ ℕ ℕ ℕ ℕ ℕ ℕ ℕ ℕ ℕ tokens.expr_step tokens.primary_step tokens.ref_step tokens.cand_step tokens.cmp_step tokens.cond_step tokens.differ_step tokens.mask_step tokens.prim_step tokens.sum_step tokens.term_step tokens.union_step l) h
 
 pub differ_opened : (x : RawDiffer) → DifferFits x → DifferLayerFits (out-RawDiffer x)
 differ_opened x h =
-    let k = moved regular.is_regular_differ tokens.differ_tokens (sym (roll-out-RawDiffer x)) h in
-    record {
-      right = subst IsTrue (fold-roll-RawDiffer Bool Bool Bool Bool Bool Bool Bool Bool Bool Bool Bool Bool regular.expression_step regular.primary_step regular.reference_step regular.conjunction_step regular.comparison_step regular.condition_step regular.differ_step regular.mask_step regular.prim_step regular.sum_step regular.term_step regular.union_step (out-RawDiffer x)) k.right;
-      some = subst (λ (n : ℕ). 1 ≤ n) (fold-roll-RawDiffer ℕ ℕ ℕ ℕ ℕ ℕ ℕ ℕ ℕ ℕ ℕ ℕ tokens.expr_step tokens.primary_step tokens.ref_step tokens.cand_step tokens.cmp_step tokens.cond_step tokens.differ_step tokens.mask_step tokens.prim_step tokens.sum_step tokens.term_step tokens.union_step (out-RawDiffer x)) k.some;
-    }
+    alike (sym (fold-roll-RawDiffer Bool Bool Bool Bool Bool Bool Bool Bool Bool Bool Bool Bool regular.expression_step regular.primary_step regular.reference_step regular.conjunction_step regular.comparison_step regular.condition_step regular.differ_step regular.mask_step regular.prim_step regular.sum_step regular.term_step regular.union_step (out-RawDiffer x)))
+    (sym (fold-roll-RawDiffer ℕ ℕ ℕ ℕ ℕ ℕ ℕ ℕ ℕ ℕ ℕ ℕ tokens.expr_step tokens.primary_step tokens.ref_step tokens.cand_step tokens.cmp_step tokens.cond_step tokens.differ_step tokens.mask_step tokens.prim_step tokens.sum_step tokens.term_step tokens.union_step (out-RawDiffer x))) (moved regular.is_regular_differ tokens.differ_tokens (sym (roll-out-RawDiffer x)) h)
 
 -- ---- mask
 
@@ -196,18 +184,14 @@ MaskLayerFits l =
     (tokens.mask_step (map-RawMask RawExpr RawPrimary RawRef RawCand RawCmp RawCond RawDiffer RawMask RawPrim RawSum RawTerm RawUnion ℕ ℕ ℕ ℕ ℕ ℕ ℕ ℕ ℕ ℕ ℕ ℕ tokens.expr_tokens tokens.primary_tokens tokens.ref_tokens tokens.cand_tokens tokens.cmp_tokens tokens.cond_tokens tokens.differ_tokens tokens.mask_tokens tokens.prim_tokens tokens.sum_tokens tokens.term_tokens tokens.union_tokens l))
 
 pub mask_rolled : (l : MaskLayer) → MaskLayerFits l → MaskFits (roll-RawMask l)
-mask_rolled l h = record {
-  right = subst IsTrue (sym (fold-roll-RawMask Bool Bool Bool Bool Bool Bool Bool Bool Bool Bool Bool Bool regular.expression_step regular.primary_step regular.reference_step regular.conjunction_step regular.comparison_step regular.condition_step regular.differ_step regular.mask_step regular.prim_step regular.sum_step regular.term_step regular.union_step l)) h.right;
-  some = subst (λ (n : ℕ). 1 ≤ n) (sym (fold-roll-RawMask ℕ ℕ ℕ ℕ ℕ ℕ ℕ ℕ ℕ ℕ ℕ ℕ tokens.expr_step tokens.primary_step tokens.ref_step tokens.cand_step tokens.cmp_step tokens.cond_step tokens.differ_step tokens.mask_step tokens.prim_step tokens.sum_step tokens.term_step tokens.union_step l)) h.some;
-}
+mask_rolled l h =
+    alike (fold-roll-RawMask Bool Bool Bool Bool Bool Bool Bool Bool Bool Bool Bool Bool regular.expression_step regular.primary_step regular.reference_step regular.conjunction_step regular.comparison_step regular.condition_step regular.differ_step regular.mask_step regular.prim_step regular.sum_step regular.term_step regular.union_step l)
+    (fold-roll-RawMask ℕ ℕ ℕ ℕ ℕ ℕ ℕ ℕ ℕ ℕ ℕ ℕ tokens.expr_step tokens.primary_step tokens.ref_step tokens.cand_step tokens.cmp_step tokens.cond_step tokens.differ_step tokens.mask_step tokens.prim_step tokens.sum_step tokens.term_step tokens.union_step l) h
 
 pub mask_opened : (x : RawMask) → MaskFits x → MaskLayerFits (out-RawMask x)
 mask_opened x h =
-    let k = moved regular.is_regular_mask tokens.mask_tokens (sym (roll-out-RawMask x)) h in
-    record {
-      right = subst IsTrue (fold-roll-RawMask Bool Bool Bool Bool Bool Bool Bool Bool Bool Bool Bool Bool regular.expression_step regular.primary_step regular.reference_step regular.conjunction_step regular.comparison_step regular.condition_step regular.differ_step regular.mask_step regular.prim_step regular.sum_step regular.term_step regular.union_step (out-RawMask x)) k.right;
-      some = subst (λ (n : ℕ). 1 ≤ n) (fold-roll-RawMask ℕ ℕ ℕ ℕ ℕ ℕ ℕ ℕ ℕ ℕ ℕ ℕ tokens.expr_step tokens.primary_step tokens.ref_step tokens.cand_step tokens.cmp_step tokens.cond_step tokens.differ_step tokens.mask_step tokens.prim_step tokens.sum_step tokens.term_step tokens.union_step (out-RawMask x)) k.some;
-    }
+    alike (sym (fold-roll-RawMask Bool Bool Bool Bool Bool Bool Bool Bool Bool Bool Bool Bool regular.expression_step regular.primary_step regular.reference_step regular.conjunction_step regular.comparison_step regular.condition_step regular.differ_step regular.mask_step regular.prim_step regular.sum_step regular.term_step regular.union_step (out-RawMask x)))
+    (sym (fold-roll-RawMask ℕ ℕ ℕ ℕ ℕ ℕ ℕ ℕ ℕ ℕ ℕ ℕ tokens.expr_step tokens.primary_step tokens.ref_step tokens.cand_step tokens.cmp_step tokens.cond_step tokens.differ_step tokens.mask_step tokens.prim_step tokens.sum_step tokens.term_step tokens.union_step (out-RawMask x))) (moved regular.is_regular_mask tokens.mask_tokens (sym (roll-out-RawMask x)) h)
 
 -- ---- prim
 
@@ -223,18 +207,14 @@ PrimLayerFits l =
     (tokens.prim_step (map-RawPrim RawExpr RawPrimary RawRef RawCand RawCmp RawCond RawDiffer RawMask RawPrim RawSum RawTerm RawUnion ℕ ℕ ℕ ℕ ℕ ℕ ℕ ℕ ℕ ℕ ℕ ℕ tokens.expr_tokens tokens.primary_tokens tokens.ref_tokens tokens.cand_tokens tokens.cmp_tokens tokens.cond_tokens tokens.differ_tokens tokens.mask_tokens tokens.prim_tokens tokens.sum_tokens tokens.term_tokens tokens.union_tokens l))
 
 pub prim_rolled : (l : PrimLayer) → PrimLayerFits l → PrimFits (roll-RawPrim l)
-prim_rolled l h = record {
-  right = subst IsTrue (sym (fold-roll-RawPrim Bool Bool Bool Bool Bool Bool Bool Bool Bool Bool Bool Bool regular.expression_step regular.primary_step regular.reference_step regular.conjunction_step regular.comparison_step regular.condition_step regular.differ_step regular.mask_step regular.prim_step regular.sum_step regular.term_step regular.union_step l)) h.right;
-  some = subst (λ (n : ℕ). 1 ≤ n) (sym (fold-roll-RawPrim ℕ ℕ ℕ ℕ ℕ ℕ ℕ ℕ ℕ ℕ ℕ ℕ tokens.expr_step tokens.primary_step tokens.ref_step tokens.cand_step tokens.cmp_step tokens.cond_step tokens.differ_step tokens.mask_step tokens.prim_step tokens.sum_step tokens.term_step tokens.union_step l)) h.some;
-}
+prim_rolled l h =
+    alike (fold-roll-RawPrim Bool Bool Bool Bool Bool Bool Bool Bool Bool Bool Bool Bool regular.expression_step regular.primary_step regular.reference_step regular.conjunction_step regular.comparison_step regular.condition_step regular.differ_step regular.mask_step regular.prim_step regular.sum_step regular.term_step regular.union_step l)
+    (fold-roll-RawPrim ℕ ℕ ℕ ℕ ℕ ℕ ℕ ℕ ℕ ℕ ℕ ℕ tokens.expr_step tokens.primary_step tokens.ref_step tokens.cand_step tokens.cmp_step tokens.cond_step tokens.differ_step tokens.mask_step tokens.prim_step tokens.sum_step tokens.term_step tokens.union_step l) h
 
 pub prim_opened : (x : RawPrim) → PrimFits x → PrimLayerFits (out-RawPrim x)
 prim_opened x h =
-    let k = moved regular.is_regular_prim tokens.prim_tokens (sym (roll-out-RawPrim x)) h in
-    record {
-      right = subst IsTrue (fold-roll-RawPrim Bool Bool Bool Bool Bool Bool Bool Bool Bool Bool Bool Bool regular.expression_step regular.primary_step regular.reference_step regular.conjunction_step regular.comparison_step regular.condition_step regular.differ_step regular.mask_step regular.prim_step regular.sum_step regular.term_step regular.union_step (out-RawPrim x)) k.right;
-      some = subst (λ (n : ℕ). 1 ≤ n) (fold-roll-RawPrim ℕ ℕ ℕ ℕ ℕ ℕ ℕ ℕ ℕ ℕ ℕ ℕ tokens.expr_step tokens.primary_step tokens.ref_step tokens.cand_step tokens.cmp_step tokens.cond_step tokens.differ_step tokens.mask_step tokens.prim_step tokens.sum_step tokens.term_step tokens.union_step (out-RawPrim x)) k.some;
-    }
+    alike (sym (fold-roll-RawPrim Bool Bool Bool Bool Bool Bool Bool Bool Bool Bool Bool Bool regular.expression_step regular.primary_step regular.reference_step regular.conjunction_step regular.comparison_step regular.condition_step regular.differ_step regular.mask_step regular.prim_step regular.sum_step regular.term_step regular.union_step (out-RawPrim x)))
+    (sym (fold-roll-RawPrim ℕ ℕ ℕ ℕ ℕ ℕ ℕ ℕ ℕ ℕ ℕ ℕ tokens.expr_step tokens.primary_step tokens.ref_step tokens.cand_step tokens.cmp_step tokens.cond_step tokens.differ_step tokens.mask_step tokens.prim_step tokens.sum_step tokens.term_step tokens.union_step (out-RawPrim x))) (moved regular.is_regular_prim tokens.prim_tokens (sym (roll-out-RawPrim x)) h)
 
 -- ---- sum
 
@@ -250,18 +230,14 @@ SumLayerFits l =
     (tokens.sum_step (map-RawSum RawExpr RawPrimary RawRef RawCand RawCmp RawCond RawDiffer RawMask RawPrim RawSum RawTerm RawUnion ℕ ℕ ℕ ℕ ℕ ℕ ℕ ℕ ℕ ℕ ℕ ℕ tokens.expr_tokens tokens.primary_tokens tokens.ref_tokens tokens.cand_tokens tokens.cmp_tokens tokens.cond_tokens tokens.differ_tokens tokens.mask_tokens tokens.prim_tokens tokens.sum_tokens tokens.term_tokens tokens.union_tokens l))
 
 pub sum_rolled : (l : SumLayer) → SumLayerFits l → SumFits (roll-RawSum l)
-sum_rolled l h = record {
-  right = subst IsTrue (sym (fold-roll-RawSum Bool Bool Bool Bool Bool Bool Bool Bool Bool Bool Bool Bool regular.expression_step regular.primary_step regular.reference_step regular.conjunction_step regular.comparison_step regular.condition_step regular.differ_step regular.mask_step regular.prim_step regular.sum_step regular.term_step regular.union_step l)) h.right;
-  some = subst (λ (n : ℕ). 1 ≤ n) (sym (fold-roll-RawSum ℕ ℕ ℕ ℕ ℕ ℕ ℕ ℕ ℕ ℕ ℕ ℕ tokens.expr_step tokens.primary_step tokens.ref_step tokens.cand_step tokens.cmp_step tokens.cond_step tokens.differ_step tokens.mask_step tokens.prim_step tokens.sum_step tokens.term_step tokens.union_step l)) h.some;
-}
+sum_rolled l h =
+    alike (fold-roll-RawSum Bool Bool Bool Bool Bool Bool Bool Bool Bool Bool Bool Bool regular.expression_step regular.primary_step regular.reference_step regular.conjunction_step regular.comparison_step regular.condition_step regular.differ_step regular.mask_step regular.prim_step regular.sum_step regular.term_step regular.union_step l)
+    (fold-roll-RawSum ℕ ℕ ℕ ℕ ℕ ℕ ℕ ℕ ℕ ℕ ℕ ℕ tokens.expr_step tokens.primary_step tokens.ref_step tokens.cand_step tokens.cmp_step tokens.cond_step tokens.differ_step tokens.mask_step tokens.prim_step tokens.sum_step tokens.term_step tokens.union_step l) h
 
 pub sum_opened : (x : RawSum) → SumFits x → SumLayerFits (out-RawSum x)
 sum_opened x h =
-    let k = moved regular.is_regular_sum tokens.sum_tokens (sym (roll-out-RawSum x)) h in
-    record {
-      right = subst IsTrue (fold-roll-RawSum Bool Bool Bool Bool Bool Bool Bool Bool Bool Bool Bool Bool regular.expression_step regular.primary_step regular.reference_step regular.conjunction_step regular.comparison_step regular.condition_step regular.differ_step regular.mask_step regular.prim_step regular.sum_step regular.term_step regular.union_step (out-RawSum x)) k.right;
-      some = subst (λ (n : ℕ). 1 ≤ n) (fold-roll-RawSum ℕ ℕ ℕ ℕ ℕ ℕ ℕ ℕ ℕ ℕ ℕ ℕ tokens.expr_step tokens.primary_step tokens.ref_step tokens.cand_step tokens.cmp_step tokens.cond_step tokens.differ_step tokens.mask_step tokens.prim_step tokens.sum_step tokens.term_step tokens.union_step (out-RawSum x)) k.some;
-    }
+    alike (sym (fold-roll-RawSum Bool Bool Bool Bool Bool Bool Bool Bool Bool Bool Bool Bool regular.expression_step regular.primary_step regular.reference_step regular.conjunction_step regular.comparison_step regular.condition_step regular.differ_step regular.mask_step regular.prim_step regular.sum_step regular.term_step regular.union_step (out-RawSum x)))
+    (sym (fold-roll-RawSum ℕ ℕ ℕ ℕ ℕ ℕ ℕ ℕ ℕ ℕ ℕ ℕ tokens.expr_step tokens.primary_step tokens.ref_step tokens.cand_step tokens.cmp_step tokens.cond_step tokens.differ_step tokens.mask_step tokens.prim_step tokens.sum_step tokens.term_step tokens.union_step (out-RawSum x))) (moved regular.is_regular_sum tokens.sum_tokens (sym (roll-out-RawSum x)) h)
 
 -- ---- term
 
@@ -277,18 +253,14 @@ TermLayerFits l =
     (tokens.term_step (map-RawTerm RawExpr RawPrimary RawRef RawCand RawCmp RawCond RawDiffer RawMask RawPrim RawSum RawTerm RawUnion ℕ ℕ ℕ ℕ ℕ ℕ ℕ ℕ ℕ ℕ ℕ ℕ tokens.expr_tokens tokens.primary_tokens tokens.ref_tokens tokens.cand_tokens tokens.cmp_tokens tokens.cond_tokens tokens.differ_tokens tokens.mask_tokens tokens.prim_tokens tokens.sum_tokens tokens.term_tokens tokens.union_tokens l))
 
 pub term_rolled : (l : TermLayer) → TermLayerFits l → TermFits (roll-RawTerm l)
-term_rolled l h = record {
-  right = subst IsTrue (sym (fold-roll-RawTerm Bool Bool Bool Bool Bool Bool Bool Bool Bool Bool Bool Bool regular.expression_step regular.primary_step regular.reference_step regular.conjunction_step regular.comparison_step regular.condition_step regular.differ_step regular.mask_step regular.prim_step regular.sum_step regular.term_step regular.union_step l)) h.right;
-  some = subst (λ (n : ℕ). 1 ≤ n) (sym (fold-roll-RawTerm ℕ ℕ ℕ ℕ ℕ ℕ ℕ ℕ ℕ ℕ ℕ ℕ tokens.expr_step tokens.primary_step tokens.ref_step tokens.cand_step tokens.cmp_step tokens.cond_step tokens.differ_step tokens.mask_step tokens.prim_step tokens.sum_step tokens.term_step tokens.union_step l)) h.some;
-}
+term_rolled l h =
+    alike (fold-roll-RawTerm Bool Bool Bool Bool Bool Bool Bool Bool Bool Bool Bool Bool regular.expression_step regular.primary_step regular.reference_step regular.conjunction_step regular.comparison_step regular.condition_step regular.differ_step regular.mask_step regular.prim_step regular.sum_step regular.term_step regular.union_step l)
+    (fold-roll-RawTerm ℕ ℕ ℕ ℕ ℕ ℕ ℕ ℕ ℕ ℕ ℕ ℕ tokens.expr_step tokens.primary_step tokens.ref_step tokens.cand_step tokens.cmp_step tokens.cond_step tokens.differ_step tokens.mask_step tokens.prim_step tokens.sum_step tokens.term_step tokens.union_step l) h
 
 pub term_opened : (x : RawTerm) → TermFits x → TermLayerFits (out-RawTerm x)
 term_opened x h =
-    let k = moved regular.is_regular_term tokens.term_tokens (sym (roll-out-RawTerm x)) h in
-    record {
-      right = subst IsTrue (fold-roll-RawTerm Bool Bool Bool Bool Bool Bool Bool Bool Bool Bool Bool Bool regular.expression_step regular.primary_step regular.reference_step regular.conjunction_step regular.comparison_step regular.condition_step regular.differ_step regular.mask_step regular.prim_step regular.sum_step regular.term_step regular.union_step (out-RawTerm x)) k.right;
-      some = subst (λ (n : ℕ). 1 ≤ n) (fold-roll-RawTerm ℕ ℕ ℕ ℕ ℕ ℕ ℕ ℕ ℕ ℕ ℕ ℕ tokens.expr_step tokens.primary_step tokens.ref_step tokens.cand_step tokens.cmp_step tokens.cond_step tokens.differ_step tokens.mask_step tokens.prim_step tokens.sum_step tokens.term_step tokens.union_step (out-RawTerm x)) k.some;
-    }
+    alike (sym (fold-roll-RawTerm Bool Bool Bool Bool Bool Bool Bool Bool Bool Bool Bool Bool regular.expression_step regular.primary_step regular.reference_step regular.conjunction_step regular.comparison_step regular.condition_step regular.differ_step regular.mask_step regular.prim_step regular.sum_step regular.term_step regular.union_step (out-RawTerm x)))
+    (sym (fold-roll-RawTerm ℕ ℕ ℕ ℕ ℕ ℕ ℕ ℕ ℕ ℕ ℕ ℕ tokens.expr_step tokens.primary_step tokens.ref_step tokens.cand_step tokens.cmp_step tokens.cond_step tokens.differ_step tokens.mask_step tokens.prim_step tokens.sum_step tokens.term_step tokens.union_step (out-RawTerm x))) (moved regular.is_regular_term tokens.term_tokens (sym (roll-out-RawTerm x)) h)
 
 -- ---- union
 
@@ -304,15 +276,11 @@ UnionLayerFits l =
     (tokens.union_step (map-RawUnion RawExpr RawPrimary RawRef RawCand RawCmp RawCond RawDiffer RawMask RawPrim RawSum RawTerm RawUnion ℕ ℕ ℕ ℕ ℕ ℕ ℕ ℕ ℕ ℕ ℕ ℕ tokens.expr_tokens tokens.primary_tokens tokens.ref_tokens tokens.cand_tokens tokens.cmp_tokens tokens.cond_tokens tokens.differ_tokens tokens.mask_tokens tokens.prim_tokens tokens.sum_tokens tokens.term_tokens tokens.union_tokens l))
 
 pub union_rolled : (l : UnionLayer) → UnionLayerFits l → UnionFits (roll-RawUnion l)
-union_rolled l h = record {
-  right = subst IsTrue (sym (fold-roll-RawUnion Bool Bool Bool Bool Bool Bool Bool Bool Bool Bool Bool Bool regular.expression_step regular.primary_step regular.reference_step regular.conjunction_step regular.comparison_step regular.condition_step regular.differ_step regular.mask_step regular.prim_step regular.sum_step regular.term_step regular.union_step l)) h.right;
-  some = subst (λ (n : ℕ). 1 ≤ n) (sym (fold-roll-RawUnion ℕ ℕ ℕ ℕ ℕ ℕ ℕ ℕ ℕ ℕ ℕ ℕ tokens.expr_step tokens.primary_step tokens.ref_step tokens.cand_step tokens.cmp_step tokens.cond_step tokens.differ_step tokens.mask_step tokens.prim_step tokens.sum_step tokens.term_step tokens.union_step l)) h.some;
-}
+union_rolled l h =
+    alike (fold-roll-RawUnion Bool Bool Bool Bool Bool Bool Bool Bool Bool Bool Bool Bool regular.expression_step regular.primary_step regular.reference_step regular.conjunction_step regular.comparison_step regular.condition_step regular.differ_step regular.mask_step regular.prim_step regular.sum_step regular.term_step regular.union_step l)
+    (fold-roll-RawUnion ℕ ℕ ℕ ℕ ℕ ℕ ℕ ℕ ℕ ℕ ℕ ℕ tokens.expr_step tokens.primary_step tokens.ref_step tokens.cand_step tokens.cmp_step tokens.cond_step tokens.differ_step tokens.mask_step tokens.prim_step tokens.sum_step tokens.term_step tokens.union_step l) h
 
 pub union_opened : (x : RawUnion) → UnionFits x → UnionLayerFits (out-RawUnion x)
 union_opened x h =
-    let k = moved regular.is_regular_union tokens.union_tokens (sym (roll-out-RawUnion x)) h in
-    record {
-      right = subst IsTrue (fold-roll-RawUnion Bool Bool Bool Bool Bool Bool Bool Bool Bool Bool Bool Bool regular.expression_step regular.primary_step regular.reference_step regular.conjunction_step regular.comparison_step regular.condition_step regular.differ_step regular.mask_step regular.prim_step regular.sum_step regular.term_step regular.union_step (out-RawUnion x)) k.right;
-      some = subst (λ (n : ℕ). 1 ≤ n) (fold-roll-RawUnion ℕ ℕ ℕ ℕ ℕ ℕ ℕ ℕ ℕ ℕ ℕ ℕ tokens.expr_step tokens.primary_step tokens.ref_step tokens.cand_step tokens.cmp_step tokens.cond_step tokens.differ_step tokens.mask_step tokens.prim_step tokens.sum_step tokens.term_step tokens.union_step (out-RawUnion x)) k.some;
-    }
+    alike (sym (fold-roll-RawUnion Bool Bool Bool Bool Bool Bool Bool Bool Bool Bool Bool Bool regular.expression_step regular.primary_step regular.reference_step regular.conjunction_step regular.comparison_step regular.condition_step regular.differ_step regular.mask_step regular.prim_step regular.sum_step regular.term_step regular.union_step (out-RawUnion x)))
+    (sym (fold-roll-RawUnion ℕ ℕ ℕ ℕ ℕ ℕ ℕ ℕ ℕ ℕ ℕ ℕ tokens.expr_step tokens.primary_step tokens.ref_step tokens.cand_step tokens.cmp_step tokens.cond_step tokens.differ_step tokens.mask_step tokens.prim_step tokens.sum_step tokens.term_step tokens.union_step (out-RawUnion x))) (moved regular.is_regular_union tokens.union_tokens (sym (roll-out-RawUnion x)) h)

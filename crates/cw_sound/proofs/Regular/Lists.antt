@@ -8,14 +8,7 @@ use Rattle.cw_derived.proofs.Held.{not_none, same_some}
 use Rattle.cw_sound.specs.Expressions.Regular.{all}
 use Rattle.cw_sound.proofs.Expressions.Truth.{both, parts}
 use Rattle.cw_sound.proofs.Regular.Fits.{Fits}
-
-abbrev pub Each : {A : Type 0} (P : A → Type 0) → List A → Type 0
-Each P [] = Unit {0}
-Each P (x ∷ xs) = P x × Each P xs
-
-pub each_append : {A : Type 0} (P : A → Type 0) (xs ys : List A) → Each P xs → Each P ys → Each P (xs ++ ys)
-each_append P [] ys h k = k
-each_append P (x ∷ xs) ys h k = (h.0, each_append P xs ys h.1 k)
+use Rattle.cw_macro.specs.Premises.{Each}
 
 pub each_of : {A : Type 0} (P : A → Type 0) (xs : List A) → All P xs → Each P xs
 each_of P [] h = tt

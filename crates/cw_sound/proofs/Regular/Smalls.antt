@@ -14,7 +14,7 @@ use Rattle.cw_sound.specs.Statements.Bodies.{Body, Bodies}
 use Rattle.cw_sound.specs.Statements.Bodies as bodies
 use Rattle.cw_sound.specs.Statements.Levels.{statement_levels}
 use Rattle.cw_sound.specs.Statements.Regular as regular
-use Rattle.cw_sound.proofs.Regular.Lists.{Each}
+use Rattle.cw_macro.specs.Premises.{Each}
 
 -- within n levels
 pub record BodyFits (n : ℕ) (b : Body) : Type 0 where

@@ -35,11 +35,14 @@ use Rattle.cw_sound.proofs.Expressions.Truth.{both, lt_true}
 use Rattle.cw_sound.specs.Statements.Bodies as bodies
 use Rattle.cw_sound.specs.Statements.Levels.{statement_levels}
 use Rattle.cw_sound.specs.Statements.Regular as regular
-use Rattle.cw_sound.proofs.Regular.Lists.{Each, each_append, all_each, two_each}
+use Rattle.cw_sound.proofs.Regular.Lists.{all_each, two_each}
 use Rattle.cw_sound.proofs.Regular.Fits.{Fits, ExprFits, CondFits, RefFits}
 use Rattle.cw_sound.proofs.Regular.Smalls.{BodyFits, Sound, SimpleSmall, simple_rolled, FormSmall, form_rolled, StmtSmall, stmt_rolled, stmt_opened, BlockSmall, block_rolled, DeclSmall, decl_rolled, ProcSmall, proc_rolled}
 use Rattle.cw_sound.proofs.Regular.Expressions.{name_fits, index_fits, bare_fits, reference_keeps, condition_keeps, expr_keeps}
-use Rattle.cw_sound.proofs.Regular.Good.{OfOption, Keeps, given_good}
+use Rattle.cw_sound.proofs.Regular.Good.{Keeps, given_good}
+use Rattle.cw_sound.proofs.Kept.{OfOption}
+use Rattle.cw_macro.specs.Premises.{Each}
+use Rattle.cw_sound.proofs.Items.Lists.{each-append}
 
 -- ---- elements of FOR
 
@@ -102,7 +105,7 @@ module _ (m : ℕ) where
       let p = k (omega (arith, count)) in
       record {
         right = both (expressions.is_regular_condition c) (regular.is_regular_simple s && true) h.right (both (regular.is_regular_simple s) true p.right refl);
-        inner = each_append (BodyFits m) (bodies.simple_bodies s) [] p.inner tt;
+        inner = each-append (BodyFits m) (bodies.simple_bodies s) [] p.inner tt;
       }))
   if_small at c ls s (Some x) h k l =
       subst (FormSmall m) (form_tree.rolls-If at c ls s (Some x))
@@ -112,7 +115,7 @@ module _ (m : ℕ) where
       let q = l (omega (arith, count)) in
       record {
         right = both (expressions.is_regular_condition c) (regular.is_regular_simple s && regular.is_regular_statement x) h.right (both (regular.is_regular_simple s) (regular.is_regular_statement x) p.right q.right);
-        inner = each_append (BodyFits m) (bodies.simple_bodies s) (bodies.statement_bodies x) p.inner q.inner;
+        inner = each-append (BodyFits m) (bodies.simple_bodies s) (bodies.statement_bodies x) p.inner q.inner;
       }))
 
   -- A FOR has two tokens for each element, and more.
@@ -155,13 +158,13 @@ module _ (m : ℕ) where
       let q = statements_in ss h.1 (omega (arith, few)) in
       record {
         right = both (regular.is_regular_statement s) (expressions.all (map regular.is_regular_statement ss)) p.right q.right;
-        inner = each_append (BodyFits m) (bodies.statement_bodies s) (bodies.joined (map (λ z. (z, bodies.statement_bodies z)) ss)) p.inner q.inner;
+        inner = each-append (BodyFits m) (bodies.statement_bodies s) (bodies.joined (map (λ z. (z, bodies.statement_bodies z)) ss)) p.inner q.inner;
       }
 
   declarations_in : (ds : List RawDecl) → Each (DeclSmall m) ds → tokens.total (map tokens.decl_tokens ds) ≤ 65535 → Each (BodyFits m) (bodies.joined (map (λ d. (d, bodies.declaration_bodies d)) ds))
   declarations_in [] h few = tt
   declarations_in (d ∷ ds) h few =
-      each_append (BodyFits m) (bodies.declaration_bodies d) (bodies.joined (map (λ z. (z, bodies.declaration_bodies z)) ds)) (h.0 (omega (arith, few))).inner (declarations_in ds h.1 (omega (arith, few)))
+      each-append (BodyFits m) (bodies.declaration_bodies d) (bodies.joined (map (λ z. (z, bodies.declaration_bodies z)) ds)) (h.0 (omega (arith, few))).inner (declarations_in ds h.1 (omega (arith, few)))
 
   whole_small : (t : Item) (ds : List RawDecl) (ss : List RawStmt) → Each (DeclSmall m) ds → Each (StmtSmall m) ss → BlockSmall m (block_tree t ds ss)
   whole_small t ds ss h k =
@@ -170,7 +173,7 @@ module _ (m : ℕ) where
       let p = statements_in ss k (omega (arith, count)) in
       record {
         right = p.right;
-        inner = each_append (BodyFits m) (bodies.joined (map (λ d. (d, bodies.declaration_bodies d)) ds)) (bodies.joined (map (λ s. (s, bodies.statement_bodies s)) ss)) (declarations_in ds h (omega (arith, count))) p.inner;
+        inner = each-append (BodyFits m) (bodies.joined (map (λ d. (d, bodies.declaration_bodies d)) ds)) (bodies.joined (map (λ s. (s, bodies.statement_bodies s)) ss)) (declarations_in ds h (omega (arith, count))) p.inner;
       })
 
   data_small : (d : RawData) → DeclSmall m (decl_tree.Data d)

@@ -24,10 +24,11 @@ use Rattle.cw_sound.specs.Statements.Bodies.{Body, Bodies, block_bodies}
 use Rattle.cw_sound.specs.Statements.Levels.{statement_levels}
 use Rattle.cw_sound.specs.Statements.Regular.{is_regular_statement, is_regular_block}
 use Rattle.cw_spelled.specs.Proper.{IsProperAs, IsProperToken}
-use Rattle.cw_sound.proofs.Regular.Lists.{Each, each_of}
+use Rattle.cw_sound.proofs.Regular.Lists.{each_of}
 use Rattle.cw_sound.proofs.Regular.Smalls.{BodyFits, Sound}
 use Rattle.cw_sound.proofs.Regular.Good.{IsByte, good}
 use Rattle.cw_sound.proofs.Regular.Statements.{rule_keeps, again_keeps, text_keeps}
+use Rattle.cw_macro.specs.Premises.{Each}
 
 -- ---- a LITERAL is a byte
 

@@ -1,10 +1,10 @@
 -- What stands in a text stands in the bodies of its procedures, and where the text has no fault none of them has one.
-use Rattle.std.proofs.Common.{◌≡◌, inl, inr, ℕ, List, [], ◌∷◌, ◌++◌, length, map, Bool, false, not, ◌||◌, ◌==◌, Option, Some, None, sym, subst}
+use Rattle.std.proofs.Common.{inl, inr, ℕ, List, [], ◌∷◌, ◌++◌, length, map, Bool, false, not, ◌||◌, ◌==◌, Option, Some, None, sym, subst}
 use Rattle.cw_table.specs.declared.table.Row.{Row}
 use Rattle.cw_tree.specs.declared.statement.RawDecl.{RawDecl, RawDecl-F, roll-RawDecl, map-RawDecl, fold-roll-RawDecl}
 use Rattle.cw_tree.specs.declared.statement.RawDecl.TheOpen as layer
 use Rattle.cw_tree.specs.declared.statement.RawDecl.TheOpen.{RawForm-F, RawSimple-F, RawBlock-F, RawProc-F, RawStmt-F}
-use Rattle.cw_tree.specs.declared.statement.RawDecl.TheFolds.{ind-RawBlock, para-roll-RawDecl, para-roll-RawForm, para-roll-RawSimple, para-roll-RawBlock, para-roll-RawProc, para-roll-RawStmt}
+use Rattle.cw_tree.specs.declared.statement.RawDecl.TheFolds.{para-roll-RawDecl, para-roll-RawForm, para-roll-RawSimple, para-roll-RawBlock, para-roll-RawProc, para-roll-RawStmt}
 use Rattle.cw_tree.specs.declared.statement.RawForm.{RawForm, roll-RawForm, map-RawForm, fold-roll-RawForm}
 use Rattle.cw_tree.specs.declared.statement.RawSimple.{RawSimple, roll-RawSimple, map-RawSimple, fold-roll-RawSimple}
 use Rattle.cw_tree.specs.declared.statement.RawBlock.{RawBlock, roll-RawBlock, map-RawBlock, fold-roll-RawBlock}
@@ -28,12 +28,13 @@ use Rattle.cw_make.specs.Labels.{proc_within}
 use Rattle.cw_make_expr.specs.Parts.{Numbers}
 use Rattle.cw_unit.specs.declared.unit.Unit.{Unit as SourceUnit}
 use Rattle.cw_sound.specs.Uses.Mentions.{In}
-use Rattle.cw_sound.proofs.Expressions.Judging.{Keeps, NoFault, keeps_fine, keeps_both, both_free}
+use Rattle.cw_sound.proofs.Expressions.Judging.{NoFault, keeps_fine, keeps_both, both_free}
 use Rattle.cw_sound.proofs.Expressions.Standing.{in_either, owned_is_in}
 use Rattle.cw_sound.specs.Statements.Bodies.{Body, Bodies}
 use Rattle.cw_sound.specs.Statements.Bodies as bodies
-use Rattle.cw_sound.proofs.Statements.Keeping.{elements_keep, declaration_keeps, simple_keeps, statement_keeps}
+use Rattle.cw_sound.proofs.Statements.Keeping.{elements_keep, declaration_keeps, simple_keeps, statement_keeps, all_keep}
 use Rattle.cw_sound.proofs.Statements.Parts.{Stood, halves_of, opened}
+use Rattle.cw_sound.proofs.Statements.Layers.{Known, WithDecl, WithStmt, DeclParts, FormParts, SimpleParts, BlockParts, ProcParts, StmtParts, decl_layer, form_layer, simple_layer, block_layer, proc_layer, stmt_layer, Rules, each_block}
 
 module _ (named : Named) (sites : List (Row Site)) (numbers : Numbers) (u : SourceUnit) where
   -- what is said of a body
@@ -59,9 +60,6 @@ module _ (named : Named) (sites : List (Row Site)) (numbers : Numbers) (u : Sour
   declaration_rolls x h who s free =
       subst AllRight (sym (para-roll-RawDecl Bodies Bodies Bodies Bodies Bodies Bodies bodies.declaration_step bodies.form_step bodies.simple_step bodies.block_step bodies.procedure_step bodies.statement_step x)) (h who (subst (λ (f : List Fact). Stood named numbers u who f) (fold-roll-RawDecl (List Fact) (List Fact) (List Fact) BlockFacts (List Fact) (List Fact) facts.declaration_step facts.form_step facts.simple_step facts.block_step facts.procedure_step facts.statement_step x) s) (subst NoFault (fold-roll-RawDecl Judgement Judgement Judgement Judgement Judgement Judgement (judged.declaration_step named sites) (judged.form_step named sites) (judged.simple_step named sites) (judged.block_step named sites) (judged.procedure_step named sites) (judged.statement_step named sites) x) free))
 
-  abbrev WithDeclaration : Type 0
-  WithDeclaration = (x : RawDecl) × DeclarationRight x
-
   abbrev FormRight : RawForm → Type 0
   FormRight x = (who : Option ℕ) → Stood named numbers u who (facts.form_facts x) → NoFault (judged.form_judged named sites x) → AllRight (bodies.form_bodies x)
 
@@ -71,9 +69,6 @@ module _ (named : Named) (sites : List (Row Site)) (numbers : Numbers) (u : Sour
   form_rolls : (x : RawForm-F RawDecl RawForm RawSimple RawBlock RawProc RawStmt) → FormLayerRight x → FormRight (roll-RawForm x)
   form_rolls x h who s free =
       subst AllRight (sym (para-roll-RawForm Bodies Bodies Bodies Bodies Bodies Bodies bodies.declaration_step bodies.form_step bodies.simple_step bodies.block_step bodies.procedure_step bodies.statement_step x)) (h who (subst (λ (f : List Fact). Stood named numbers u who f) (fold-roll-RawForm (List Fact) (List Fact) (List Fact) BlockFacts (List Fact) (List Fact) facts.declaration_step facts.form_step facts.simple_step facts.block_step facts.procedure_step facts.statement_step x) s) (subst NoFault (fold-roll-RawForm Judgement Judgement Judgement Judgement Judgement Judgement (judged.declaration_step named sites) (judged.form_step named sites) (judged.simple_step named sites) (judged.block_step named sites) (judged.procedure_step named sites) (judged.statement_step named sites) x) free))
-
-  abbrev WithForm : Type 0
-  WithForm = (x : RawForm) × FormRight x
 
   abbrev SimpleRight : RawSimple → Type 0
   SimpleRight x = (who : Option ℕ) → Stood named numbers u who (facts.simple_facts x) → NoFault (judged.simple_judged named sites x) → AllRight (bodies.simple_bodies x)
@@ -85,9 +80,6 @@ module _ (named : Named) (sites : List (Row Site)) (numbers : Numbers) (u : Sour
   simple_rolls x h who s free =
       subst AllRight (sym (para-roll-RawSimple Bodies Bodies Bodies Bodies Bodies Bodies bodies.declaration_step bodies.form_step bodies.simple_step bodies.block_step bodies.procedure_step bodies.statement_step x)) (h who (subst (λ (f : List Fact). Stood named numbers u who f) (fold-roll-RawSimple (List Fact) (List Fact) (List Fact) BlockFacts (List Fact) (List Fact) facts.declaration_step facts.form_step facts.simple_step facts.block_step facts.procedure_step facts.statement_step x) s) (subst NoFault (fold-roll-RawSimple Judgement Judgement Judgement Judgement Judgement Judgement (judged.declaration_step named sites) (judged.form_step named sites) (judged.simple_step named sites) (judged.block_step named sites) (judged.procedure_step named sites) (judged.statement_step named sites) x) free))
 
-  abbrev WithSimple : Type 0
-  WithSimple = (x : RawSimple) × SimpleRight x
-
   abbrev pub BlockRight : RawBlock → Type 0
   BlockRight x = (who : Option ℕ) (outermost : Bool) → Stood named numbers u who (facts.block_facts x outermost) → NoFault (judged.block_judged named sites x) → AllRight (bodies.block_bodies x)
 
@@ -97,9 +89,6 @@ module _ (named : Named) (sites : List (Row Site)) (numbers : Numbers) (u : Sour
   block_rolls : (x : RawBlock-F RawDecl RawForm RawSimple RawBlock RawProc RawStmt) → BlockLayerRight x → BlockRight (roll-RawBlock x)
   block_rolls x h who outermost s free =
       subst AllRight (sym (para-roll-RawBlock Bodies Bodies Bodies Bodies Bodies Bodies bodies.declaration_step bodies.form_step bodies.simple_step bodies.block_step bodies.procedure_step bodies.statement_step x)) (h who outermost (subst (λ (f : BlockFacts). Stood named numbers u who (f outermost)) (fold-roll-RawBlock (List Fact) (List Fact) (List Fact) BlockFacts (List Fact) (List Fact) facts.declaration_step facts.form_step facts.simple_step facts.block_step facts.procedure_step facts.statement_step x) s) (subst NoFault (fold-roll-RawBlock Judgement Judgement Judgement Judgement Judgement Judgement (judged.declaration_step named sites) (judged.form_step named sites) (judged.simple_step named sites) (judged.block_step named sites) (judged.procedure_step named sites) (judged.statement_step named sites) x) free))
-
-  abbrev WithBlock : Type 0
-  WithBlock = (x : RawBlock) × BlockRight x
 
   abbrev ProcedureRight : RawProc → Type 0
   ProcedureRight x = (who : Option ℕ) → Stood named numbers u who (facts.procedure_facts x) → NoFault (judged.procedure_judged named sites x) → AllRight (bodies.procedure_bodies x)
@@ -111,11 +100,11 @@ module _ (named : Named) (sites : List (Row Site)) (numbers : Numbers) (u : Sour
   procedure_rolls x h who s free =
       subst AllRight (sym (para-roll-RawProc Bodies Bodies Bodies Bodies Bodies Bodies bodies.declaration_step bodies.form_step bodies.simple_step bodies.block_step bodies.procedure_step bodies.statement_step x)) (h who (subst (λ (f : List Fact). Stood named numbers u who f) (fold-roll-RawProc (List Fact) (List Fact) (List Fact) BlockFacts (List Fact) (List Fact) facts.declaration_step facts.form_step facts.simple_step facts.block_step facts.procedure_step facts.statement_step x) s) (subst NoFault (fold-roll-RawProc Judgement Judgement Judgement Judgement Judgement Judgement (judged.declaration_step named sites) (judged.form_step named sites) (judged.simple_step named sites) (judged.block_step named sites) (judged.procedure_step named sites) (judged.statement_step named sites) x) free))
 
-  abbrev WithProcedure : Type 0
-  WithProcedure = (x : RawProc) × ProcedureRight x
-
   abbrev StatementRight : RawStmt → Type 0
   StatementRight x = (who : Option ℕ) → Stood named numbers u who (facts.statement_facts x) → NoFault (judged.statement_judged named sites x) → AllRight (bodies.statement_bodies x)
+
+  abbrev known : Known
+  known = record { Decl = DeclarationRight; Form = FormRight; Simple = SimpleRight; Block = BlockRight; Proc = ProcedureRight; Stmt = StatementRight }
 
   abbrev StatementLayerRight : RawStmt-F RawDecl RawForm RawSimple RawBlock RawProc RawStmt → Type 0
   StatementLayerRight x = (who : Option ℕ) → Stood named numbers u who (facts.statement_step (map-RawStmt RawDecl RawForm RawSimple RawBlock RawProc RawStmt (List Fact) (List Fact) (List Fact) BlockFacts (List Fact) (List Fact) facts.declaration_facts facts.form_facts facts.simple_facts facts.block_facts facts.procedure_facts facts.statement_facts x)) → NoFault (judged.statement_step named sites (map-RawStmt RawDecl RawForm RawSimple RawBlock RawProc RawStmt Judgement Judgement Judgement Judgement Judgement Judgement (judged.declaration_judged named sites) (judged.form_judged named sites) (judged.simple_judged named sites) (judged.block_judged named sites) (judged.procedure_judged named sites) (judged.statement_judged named sites) x)) → AllRight (bodies.statement_step (map-RawStmt RawDecl RawForm RawSimple RawBlock RawProc RawStmt (RawDecl × Bodies) (RawForm × Bodies) (RawSimple × Bodies) (RawBlock × Bodies) (RawProc × Bodies) (RawStmt × Bodies) (λ z. (z, bodies.declaration_bodies z)) (λ z. (z, bodies.form_bodies z)) (λ z. (z, bodies.simple_bodies z)) (λ z. (z, bodies.block_bodies z)) (λ z. (z, bodies.procedure_bodies z)) (λ z. (z, bodies.statement_bodies z)) x))
@@ -124,53 +113,42 @@ module _ (named : Named) (sites : List (Row Site)) (numbers : Numbers) (u : Sour
   statement_rolls x h who s free =
       subst AllRight (sym (para-roll-RawStmt Bodies Bodies Bodies Bodies Bodies Bodies bodies.declaration_step bodies.form_step bodies.simple_step bodies.block_step bodies.procedure_step bodies.statement_step x)) (h who (subst (λ (f : List Fact). Stood named numbers u who f) (fold-roll-RawStmt (List Fact) (List Fact) (List Fact) BlockFacts (List Fact) (List Fact) facts.declaration_step facts.form_step facts.simple_step facts.block_step facts.procedure_step facts.statement_step x) s) (subst NoFault (fold-roll-RawStmt Judgement Judgement Judgement Judgement Judgement Judgement (judged.declaration_step named sites) (judged.form_step named sites) (judged.simple_step named sites) (judged.block_step named sites) (judged.procedure_step named sites) (judged.statement_step named sites) x) free))
 
-  abbrev WithStatement : Type 0
-  WithStatement = (x : RawStmt) × StatementRight x
-
-  all_declarations_keep : (zs : List RawDecl) → Keeps (all_judged (map (judged.declaration_judged named sites) zs))
-  all_declarations_keep [] = keeps_fine
-  all_declarations_keep (z ∷ zs) = keeps_both (judged.declaration_judged named sites z) (all_judged (map (judged.declaration_judged named sites) zs)) (declaration_keeps named sites z) (all_declarations_keep zs)
-
-  all_declarations : (who : Option ℕ) (ts : List WithDeclaration) → let zs : List RawDecl = map (λ y. y.0) ts in
+  all_declarations : (who : Option ℕ) (ts : List (WithDecl known)) → let zs : List RawDecl = map (λ y. y.0) ts in
       Stood named numbers u who (joined (map facts.declaration_facts zs)) → NoFault (all_judged (map (judged.declaration_judged named sites) zs)) → AllRight (bodies.joined (map (λ z. (z, bodies.declaration_bodies z)) zs))
   all_declarations who [] s free = none_right
   all_declarations who (t ∷ ts) s free =
       let zs : List RawDecl = map (λ y. y.0) ts in
       let sides = halves_of named numbers u who (facts.declaration_facts t.0) (joined (map facts.declaration_facts zs)) s in
-      let calm = both_free (judged.declaration_judged named sites t.0) (all_judged (map (judged.declaration_judged named sites) zs)) (all_declarations_keep zs) free in
+      let calm = both_free (judged.declaration_judged named sites t.0) (all_judged (map (judged.declaration_judged named sites) zs)) (all_keep (judged.declaration_judged named sites) (declaration_keeps named sites) zs) free in
       two_right (bodies.declaration_bodies t.0) (bodies.joined (map (λ z. (z, bodies.declaration_bodies z)) zs)) (t.1 who sides.0 calm.0) (all_declarations who ts sides.1 calm.1)
 
-  all_statements_keep : (zs : List RawStmt) → Keeps (all_judged (map (judged.statement_judged named sites) zs))
-  all_statements_keep [] = keeps_fine
-  all_statements_keep (z ∷ zs) = keeps_both (judged.statement_judged named sites z) (all_judged (map (judged.statement_judged named sites) zs)) (statement_keeps named sites z) (all_statements_keep zs)
-
-  all_statements : (who : Option ℕ) (ts : List WithStatement) → let zs : List RawStmt = map (λ y. y.0) ts in
+  all_statements : (who : Option ℕ) (ts : List (WithStmt known)) → let zs : List RawStmt = map (λ y. y.0) ts in
       Stood named numbers u who (joined (map facts.statement_facts zs)) → NoFault (all_judged (map (judged.statement_judged named sites) zs)) → AllRight (bodies.joined (map (λ z. (z, bodies.statement_bodies z)) zs))
   all_statements who [] s free = none_right
   all_statements who (t ∷ ts) s free =
       let zs : List RawStmt = map (λ y. y.0) ts in
       let sides = halves_of named numbers u who (facts.statement_facts t.0) (joined (map facts.statement_facts zs)) s in
-      let calm = both_free (judged.statement_judged named sites t.0) (all_judged (map (judged.statement_judged named sites) zs)) (all_statements_keep zs) free in
+      let calm = both_free (judged.statement_judged named sites t.0) (all_judged (map (judged.statement_judged named sites) zs)) (all_keep (judged.statement_judged named sites) (statement_keeps named sites) zs) free in
       two_right (bodies.statement_bodies t.0) (bodies.joined (map (λ z. (z, bodies.statement_bodies z)) zs)) (t.1 who sides.0 calm.0) (all_statements who ts sides.1 calm.1)
 
   first_right : (c : Body) (bs : Bodies) → BodyRight c → AllRight bs → AllRight (c ∷ bs)
   first_right c bs h k b (inl e) = subst BodyRight e h
   first_right c bs h k b (inr i) = k b i
 
-  declaration_rule : (y : RawDecl-F WithDeclaration WithForm WithSimple WithBlock WithProcedure WithStatement) → DeclarationLayerRight (map-RawDecl WithDeclaration WithForm WithSimple WithBlock WithProcedure WithStatement RawDecl RawForm RawSimple RawBlock RawProc RawStmt (λ y. y.0) (λ y. y.0) (λ y. y.0) (λ y. y.0) (λ y. y.0) (λ y. y.0) y)
+  declaration_rule : (y : DeclParts known) → DeclarationLayerRight (decl_layer known y)
   declaration_rule (layer.Data d) who s free = none_right
   declaration_rule (layer.Overlay at b d) who s free = none_right
   declaration_rule (layer.Switch at n labels) who s free = none_right
   declaration_rule (layer.Proc p) who s free = p.1 who s free
 
-  form_rule : (y : RawForm-F WithDeclaration WithForm WithSimple WithBlock WithProcedure WithStatement) → FormLayerRight (map-RawForm WithDeclaration WithForm WithSimple WithBlock WithProcedure WithStatement RawDecl RawForm RawSimple RawBlock RawProc RawStmt (λ y. y.0) (λ y. y.0) (λ y. y.0) (λ y. y.0) (λ y. y.0) (λ y. y.0) y)
+  form_rule : (y : FormParts known) → FormLayerRight (form_layer known y)
   form_rule (layer.Simple x) who s free = x.1 who s free
   form_rule (layer.If at test labels first None) who s free =
       let test_side = halves_of named numbers u who (condition_uses test reading.Value) (each_declares kind.Label labels ++ (facts.simple_facts first.0 ++ facts_if None)) s in
       let rest = (halves_of named numbers u who (each_declares kind.Label labels) (facts.simple_facts first.0 ++ facts_if None) test_side.1).1 in
       let sides = halves_of named numbers u who (facts.simple_facts first.0) (facts_if None) rest in
       let last : Judgement = judged_if None in
-      let calm = both_free (condition_judged named test) (both (judged.simple_judged named sites first.0) last) (keeps_both (judged.simple_judged named sites first.0) last (simple_keeps named sites first.0) keeps_fine) free in
+      let calm = both_free (condition_judged named test) (both (judged.simple_judged named sites first.0) last) (keeps_both (simple_keeps named sites first.0) keeps_fine) free in
       let calms = both_free (judged.simple_judged named sites first.0) last keeps_fine calm.1 in
       two_right (bodies.simple_bodies first.0) [] (first.1 who sides.0 calms.0) none_right
   form_rule (layer.If at test labels first (Some second)) who s free =
@@ -178,7 +156,7 @@ module _ (named : Named) (sites : List (Row Site)) (numbers : Numbers) (u : Sour
       let rest = (halves_of named numbers u who (each_declares kind.Label labels) (facts.simple_facts first.0 ++ facts_if (Some (facts.statement_facts second.0))) test_side.1).1 in
       let sides = halves_of named numbers u who (facts.simple_facts first.0) (facts_if (Some (facts.statement_facts second.0))) rest in
       let last : Judgement = judged_if (Some (judged.statement_judged named sites second.0)) in
-      let calm = both_free (condition_judged named test) (both (judged.simple_judged named sites first.0) last) (keeps_both (judged.simple_judged named sites first.0) last (simple_keeps named sites first.0) (statement_keeps named sites second.0)) free in
+      let calm = both_free (condition_judged named test) (both (judged.simple_judged named sites first.0) last) (keeps_both (simple_keeps named sites first.0) (statement_keeps named sites second.0)) free in
       let calms = both_free (judged.simple_judged named sites first.0) last (statement_keeps named sites second.0) calm.1 in
       two_right (bodies.simple_bodies first.0) (bodies.statement_bodies second.0) (first.1 who sides.0 calms.0) (second.1 who sides.1 calms.1)
   form_rule (layer.For at variable elems body) who s free =
@@ -187,11 +165,11 @@ module _ (named : Named) (sites : List (Row Site)) (numbers : Numbers) (u : Sour
       let place = halves_of named numbers u who (reference_uses variable reading.Whole) (felems_facts elems ++ facts.statement_facts body.0) loop.1 in
       let sides = halves_of named numbers u who (felems_facts elems) (facts.statement_facts body.0) place.1 in
       let inside : Judgement = judged.statement_judged named sites body.0 in
-      let calm = both_free (reference_judged named variable) (both (felems_judged named f elems) inside) (keeps_both (felems_judged named f elems) inside (elements_keep named f elems) (statement_keeps named sites body.0)) free in
+      let calm = both_free (reference_judged named variable) (both (felems_judged named f elems) inside) (keeps_both (elements_keep named f elems) (statement_keeps named sites body.0)) free in
       let calms = both_free (felems_judged named f elems) inside (statement_keeps named sites body.0) calm.1 in
       body.1 who sides.1 calms.1
 
-  simple_rule : (y : RawSimple-F WithDeclaration WithForm WithSimple WithBlock WithProcedure WithStatement) → SimpleLayerRight (map-RawSimple WithDeclaration WithForm WithSimple WithBlock WithProcedure WithStatement RawDecl RawForm RawSimple RawBlock RawProc RawStmt (λ y. y.0) (λ y. y.0) (λ y. y.0) (λ y. y.0) (λ y. y.0) (λ y. y.0) y)
+  simple_rule : (y : SimpleParts known) → SimpleLayerRight (simple_layer known y)
   simple_rule layer.Empty who s free = none_right
   simple_rule (layer.Assign r e) who s free = none_right
   simple_rule (layer.AssignBits bits r e) who s free = none_right
@@ -201,16 +179,16 @@ module _ (named : Named) (sites : List (Row Site)) (numbers : Numbers) (u : Sour
   simple_rule (layer.Answer at e) who s free = none_right
   simple_rule (layer.Block b) who s free = b.1 who false s free
 
-  block_rule : (y : RawBlock-F WithDeclaration WithForm WithSimple WithBlock WithProcedure WithStatement) → BlockLayerRight (map-RawBlock WithDeclaration WithForm WithSimple WithBlock WithProcedure WithStatement RawDecl RawForm RawSimple RawBlock RawProc RawStmt (λ y. y.0) (λ y. y.0) (λ y. y.0) (λ y. y.0) (λ y. y.0) (λ y. y.0) y)
+  block_rule : (y : BlockParts known) → BlockLayerRight (block_layer known y)
   block_rule y who outermost s free =
       let ds : List RawDecl = map (λ z. z.0) y.decls in
       let zs : List RawStmt = map (λ z. z.0) y.stmts in
       let inside = opened named numbers u who (outermost || not (length (map facts.declaration_facts ds) == 0)) (joined (map facts.declaration_facts ds) ++ joined (map facts.statement_facts zs)) s in
       let sides = halves_of named numbers u who (joined (map facts.declaration_facts ds)) (joined (map facts.statement_facts zs)) inside in
-      let calm = both_free (all_judged (map (judged.declaration_judged named sites) ds)) (all_judged (map (judged.statement_judged named sites) zs)) (all_statements_keep zs) free in
+      let calm = both_free (all_judged (map (judged.declaration_judged named sites) ds)) (all_judged (map (judged.statement_judged named sites) zs)) (all_keep (judged.statement_judged named sites) (statement_keeps named sites) zs) free in
       two_right (bodies.joined (map (λ z. (z, bodies.declaration_bodies z)) ds)) (bodies.joined (map (λ z. (z, bodies.statement_bodies z)) zs)) (all_declarations who y.decls sides.0 calm.0) (all_statements who y.stmts sides.1 calm.1)
 
-  procedure_rule : (y : RawProc-F WithDeclaration WithForm WithSimple WithBlock WithProcedure WithStatement) → ProcedureLayerRight (map-RawProc WithDeclaration WithForm WithSimple WithBlock WithProcedure WithStatement RawDecl RawForm RawSimple RawBlock RawProc RawStmt (λ y. y.0) (λ y. y.0) (λ y. y.0) (λ y. y.0) (λ y. y.0) (λ y. y.0) y)
+  procedure_rule : (y : ProcParts known) → ProcedureLayerRight (proc_layer known y)
   procedure_rule y who s free =
       let token : ℕ = y.name.at.token in
       let body : RawStmt = y.body.0 in
@@ -223,26 +201,18 @@ module _ (named : Named) (sites : List (Row Site)) (numbers : Numbers) (u : Sour
       let calm = (both_free (heading_judged named y.answer y.name y.params) (judged.statement_judged named sites body) (statement_keeps named sites body) free).1 in
       first_right (record { token = token; statement = body }) (bodies.statement_bodies body) (stood, calm) (y.body.1 there stood calm)
 
-  statement_rule : (y : RawStmt-F WithDeclaration WithForm WithSimple WithBlock WithProcedure WithStatement) → StatementLayerRight (map-RawStmt WithDeclaration WithForm WithSimple WithBlock WithProcedure WithStatement RawDecl RawForm RawSimple RawBlock RawProc RawStmt (λ y. y.0) (λ y. y.0) (λ y. y.0) (λ y. y.0) (λ y. y.0) (λ y. y.0) y)
+  statement_rule : (y : StmtParts known) → StatementLayerRight (stmt_layer known y)
   statement_rule y who s free = y.form.1 who (halves_of named numbers u who (each_declares kind.Label y.labels) (facts.form_facts y.form.0) s).1 free
 
-  declaration_up : (x : RawDecl-F RawDecl RawForm RawSimple RawBlock RawProc RawStmt) (y : RawDecl-F WithDeclaration WithForm WithSimple WithBlock WithProcedure WithStatement) → map-RawDecl WithDeclaration WithForm WithSimple WithBlock WithProcedure WithStatement RawDecl RawForm RawSimple RawBlock RawProc RawStmt (λ y. y.0) (λ y. y.0) (λ y. y.0) (λ y. y.0) (λ y. y.0) (λ y. y.0) y ≡ x → DeclarationRight (roll-RawDecl x)
-  declaration_up x y is = declaration_rolls x (subst DeclarationLayerRight is (declaration_rule y))
-
-  form_up : (x : RawForm-F RawDecl RawForm RawSimple RawBlock RawProc RawStmt) (y : RawForm-F WithDeclaration WithForm WithSimple WithBlock WithProcedure WithStatement) → map-RawForm WithDeclaration WithForm WithSimple WithBlock WithProcedure WithStatement RawDecl RawForm RawSimple RawBlock RawProc RawStmt (λ y. y.0) (λ y. y.0) (λ y. y.0) (λ y. y.0) (λ y. y.0) (λ y. y.0) y ≡ x → FormRight (roll-RawForm x)
-  form_up x y is = form_rolls x (subst FormLayerRight is (form_rule y))
-
-  simple_up : (x : RawSimple-F RawDecl RawForm RawSimple RawBlock RawProc RawStmt) (y : RawSimple-F WithDeclaration WithForm WithSimple WithBlock WithProcedure WithStatement) → map-RawSimple WithDeclaration WithForm WithSimple WithBlock WithProcedure WithStatement RawDecl RawForm RawSimple RawBlock RawProc RawStmt (λ y. y.0) (λ y. y.0) (λ y. y.0) (λ y. y.0) (λ y. y.0) (λ y. y.0) y ≡ x → SimpleRight (roll-RawSimple x)
-  simple_up x y is = simple_rolls x (subst SimpleLayerRight is (simple_rule y))
-
-  block_up : (x : RawBlock-F RawDecl RawForm RawSimple RawBlock RawProc RawStmt) (y : RawBlock-F WithDeclaration WithForm WithSimple WithBlock WithProcedure WithStatement) → map-RawBlock WithDeclaration WithForm WithSimple WithBlock WithProcedure WithStatement RawDecl RawForm RawSimple RawBlock RawProc RawStmt (λ y. y.0) (λ y. y.0) (λ y. y.0) (λ y. y.0) (λ y. y.0) (λ y. y.0) y ≡ x → BlockRight (roll-RawBlock x)
-  block_up x y is = block_rolls x (subst BlockLayerRight is (block_rule y))
-
-  procedure_up : (x : RawProc-F RawDecl RawForm RawSimple RawBlock RawProc RawStmt) (y : RawProc-F WithDeclaration WithForm WithSimple WithBlock WithProcedure WithStatement) → map-RawProc WithDeclaration WithForm WithSimple WithBlock WithProcedure WithStatement RawDecl RawForm RawSimple RawBlock RawProc RawStmt (λ y. y.0) (λ y. y.0) (λ y. y.0) (λ y. y.0) (λ y. y.0) (λ y. y.0) y ≡ x → ProcedureRight (roll-RawProc x)
-  procedure_up x y is = procedure_rolls x (subst ProcedureLayerRight is (procedure_rule y))
-
-  statement_up : (x : RawStmt-F RawDecl RawForm RawSimple RawBlock RawProc RawStmt) (y : RawStmt-F WithDeclaration WithForm WithSimple WithBlock WithProcedure WithStatement) → map-RawStmt WithDeclaration WithForm WithSimple WithBlock WithProcedure WithStatement RawDecl RawForm RawSimple RawBlock RawProc RawStmt (λ y. y.0) (λ y. y.0) (λ y. y.0) (λ y. y.0) (λ y. y.0) (λ y. y.0) y ≡ x → StatementRight (roll-RawStmt x)
-  statement_up x y is = statement_rolls x (subst StatementLayerRight is (statement_rule y))
+  rules : Rules known
+  rules = record {
+    decl = λ y. declaration_rolls (decl_layer known y) (declaration_rule y);
+    form = λ y. form_rolls (form_layer known y) (form_rule y);
+    simple = λ y. simple_rolls (simple_layer known y) (simple_rule y);
+    block = λ y. block_rolls (block_layer known y) (block_rule y);
+    proc = λ y. procedure_rolls (proc_layer known y) (procedure_rule y);
+    stmt = λ y. statement_rolls (stmt_layer known y) (statement_rule y);
+  }
 
   pub bodies_are_right : (x : RawBlock) → BlockRight x
-  bodies_are_right = ind-RawBlock DeclarationRight FormRight SimpleRight BlockRight ProcedureRight StatementRight declaration_up form_up simple_up block_up procedure_up statement_up
+  bodies_are_right = each_block known rules

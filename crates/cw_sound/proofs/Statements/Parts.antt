@@ -52,7 +52,8 @@ use Rattle.cw_sound.proofs.Expressions.Whole.{expression_good}
 use Rattle.cw_sound.specs.Statements.Answers.{AnswersStand, AnswersAs}
 use Rattle.cw_sound.specs.Statements.Levels.{element_levels}
 use Rattle.cw_sound.specs.Statements.Regular.{is_regular_element}
-use Rattle.cw_sound.proofs.Statements.Keeping.{few_keeps, few_each_keeps, whole_keeps, test_keeps, elements_keep}
+use Rattle.cw_sound.proofs.Statements.Keeping.{whole_keeps, test_keeps, elements_keep}
+use Rattle.cw_sound.proofs.Items.Keeping.{keeps_few, keeps_few_each}
 
 module _ (named : Named) (numbers : Numbers) (u : SourceUnit) (who : Option ℕ) where
   -- ---- facts that stand, with ANSWER
@@ -80,7 +81,7 @@ module _ (named : Named) (numbers : Numbers) (u : SourceUnit) (who : Option ℕ)
 
   pub fit_of : (e : RawExpr) (f : ℕ) → IsTrue (is_regular e) → FactsStand named numbers u (expression_uses e reading.Value) who → NoFault (expression_judged named f e) → f ≤ 15 → then_levels e ≤ most_levels → Fit e f
   fit_of e f regular facts free small few =
-      let g = expression_good named numbers u who reading.Value e f regular refl facts (both_free ((expression named e).faults f) (few_operators (expression_operators e)) (few_keeps (expression_operators e)) free).0 small few in
+      let g = expression_good named numbers u who reading.Value e f regular refl facts (both_free ((expression named e).faults f) (few_operators (expression_operators e)) (keeps_few (expression_operators e)) free).0 small few in
       record {
         built = λ levels low high. both (nat_le f 15) ((built_value u (has_words u who) (expression_of named numbers e)).at f levels) (le_true f 15 small) (g.at levels low high);
         formed = g.formed false;
@@ -93,7 +94,7 @@ module _ (named : Named) (numbers : Numbers) (u : SourceUnit) (who : Option ℕ)
   pub test_fit : (c : RawCond) → IsTrue (is_regular_condition c) → FactsStand named numbers u (condition_uses c reading.Value) who → NoFault (condition_judged named c) → condition_levels c ≤ most_levels → TestFit c
   test_fit c regular facts free few =
       let t = condition_is_right named numbers u who c regular reading.Value facts in
-      let calm = (both_free ((condition named c).faults 0) (few_operators (condition_operators c)) (few_keeps (condition_operators c)) free).0 in
+      let calm = (both_free ((condition named c).faults 0) (few_operators (condition_operators c)) (keeps_few (condition_operators c)) free).0 in
       record { built = t.built 0 few calm; formed = t.formed 0 few calm }
 
   -- a reference that is assigned to, with the scale of what is assigned
@@ -113,7 +114,7 @@ module _ (named : Named) (numbers : Numbers) (u : SourceUnit) (who : Option ℕ)
   place_fit r x placed regular facts free few =
       let p = reference_is_right named numbers u who r regular in
       let l = p.located x placed facts in
-      let calm = (both_free ((reference named r).faults 0) (few_each (reference_operators r)) (few_each_keeps (reference_operators r)) free).0 in
+      let calm = (both_free ((reference named r).faults 0) (few_each (reference_operators r)) (keeps_few_each (reference_operators r)) free).0 in
       record {
         built = l.built 0 few calm;
         formed = l.formed 0 few calm;
@@ -206,7 +207,7 @@ module _ (named : Named) (numbers : Numbers) (u : SourceUnit) (who : Option ℕ)
       let oks = parts (is_regular b) (is_regular d) ok.1 in
       let first = split named numbers u who (expression_uses a reading.Value) (expression_uses b reading.Value ++ expression_uses d reading.Value) facts in
       let rest = split named numbers u who (expression_uses b reading.Value) (expression_uses d reading.Value) first.1 in
-      let calm = both_free (expression_judged named f a) (judged_both (expression_judged named f b) (expression_judged named f d)) (keeps_both (expression_judged named f b) (expression_judged named f d) (whole_keeps named f b) (whole_keeps named f d)) free in
+      let calm = both_free (expression_judged named f a) (judged_both (expression_judged named f b) (expression_judged named f d)) (keeps_both (whole_keeps named f b) (whole_keeps named f d)) free in
       let calms = both_free (expression_judged named f b) (expression_judged named f d) (whole_keeps named f d) calm.1 in
       let x = fit_of a f ok.0 first.0 calm.0 small (omega (arith, few)) in
       let y = fit_of b f oks.0 rest.0 calms.0 small (omega (arith, few)) in

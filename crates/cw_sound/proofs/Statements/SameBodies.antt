@@ -1,10 +1,10 @@
 -- The unit's procedures have the bodies that are declared, in order.
-use Rattle.std.proofs.Common.{◌≡◌, List, [], ◌∷◌, ◌++◌, map, Some, None, refl, sym, ap, ap₂, subst, ◌∙◌}
+use Rattle.std.proofs.Common.{◌≡◌, List, [], ◌∷◌, ◌++◌, map, Some, None, refl, sym, ap, ap₂, ◌∙◌}
 use Rattle.cw_tree.specs.declared.statement.RawDecl.{RawDecl, RawDecl-F, roll-RawDecl, map-RawDecl}
 use Rattle.cw_tree.specs.declared.statement.RawDecl.TheOpen as layer
 use Rattle.cw_tree.specs.declared.statement.RawDecl.TheOpen.{RawForm-F, RawSimple-F, RawBlock-F, RawProc-F, RawStmt-F}
 use Rattle.cw_tree.specs.declared.statement.RawDecl.TheViews.{out-roll-RawProc}
-use Rattle.cw_tree.specs.declared.statement.RawDecl.TheFolds.{ind-RawBlock, para-roll-RawDecl, para-roll-RawForm, para-roll-RawSimple, para-roll-RawBlock, para-roll-RawProc, para-roll-RawStmt}
+use Rattle.cw_tree.specs.declared.statement.RawDecl.TheFolds.{para-roll-RawDecl, para-roll-RawForm, para-roll-RawSimple, para-roll-RawBlock, para-roll-RawProc, para-roll-RawStmt}
 use Rattle.cw_tree.specs.declared.statement.RawForm.{RawForm, roll-RawForm, map-RawForm}
 use Rattle.cw_tree.specs.declared.statement.RawSimple.{RawSimple, roll-RawSimple, map-RawSimple}
 use Rattle.cw_tree.specs.declared.statement.RawBlock.{RawBlock, roll-RawBlock, map-RawBlock}
@@ -19,6 +19,7 @@ use Rattle.cw_unit.specs.declared.unit.Proc.{Proc}
 use Rattle.cw_unit.specs.declared.unit.Stmt.{Stmt}
 use Rattle.cw_sound.specs.Statements.Bodies.{Body, Bodies}
 use Rattle.cw_sound.specs.Statements.Bodies as bodies
+use Rattle.cw_sound.proofs.Statements.Layers.{Known, WithDecl, WithStmt, DeclParts, FormParts, SimpleParts, BlockParts, ProcParts, StmtParts, decl_layer, form_layer, simple_layer, block_layer, proc_layer, stmt_layer, Rules, each_block}
 
 map_append : {X Y : Type 0} (f : X → Y) (xs ys : List X) → map f (xs ++ ys) ≡ map f xs ++ map f ys
 map_append f [] ys = refl
@@ -51,9 +52,6 @@ module _ (named : Named) (numbers : Numbers) where
   declaration_rolls : (x : RawDecl-F RawDecl RawForm RawSimple RawBlock RawProc RawStmt) → DeclarationLayerSame x → DeclarationSame (roll-RawDecl x)
   declaration_rolls x h = ap own_bodies (declaration_procs_roll x) ∙ h ∙ sym (ap made_bodies (para-roll-RawDecl Bodies Bodies Bodies Bodies Bodies Bodies bodies.declaration_step bodies.form_step bodies.simple_step bodies.block_step bodies.procedure_step bodies.statement_step x))
 
-  abbrev WithDeclaration : Type 0
-  WithDeclaration = (x : RawDecl) × DeclarationSame x
-
   abbrev pub FormSame : RawForm → Type 0
   FormSame x = Same (procs.form_procs named numbers x) (bodies.form_bodies x)
 
@@ -66,9 +64,6 @@ module _ (named : Named) (numbers : Numbers) where
 
   form_rolls : (x : RawForm-F RawDecl RawForm RawSimple RawBlock RawProc RawStmt) → FormLayerSame x → FormSame (roll-RawForm x)
   form_rolls x h = ap own_bodies (form_procs_roll x) ∙ h ∙ sym (ap made_bodies (para-roll-RawForm Bodies Bodies Bodies Bodies Bodies Bodies bodies.declaration_step bodies.form_step bodies.simple_step bodies.block_step bodies.procedure_step bodies.statement_step x))
-
-  abbrev WithForm : Type 0
-  WithForm = (x : RawForm) × FormSame x
 
   abbrev pub SimpleSame : RawSimple → Type 0
   SimpleSame x = Same (procs.simple_procs named numbers x) (bodies.simple_bodies x)
@@ -83,9 +78,6 @@ module _ (named : Named) (numbers : Numbers) where
   simple_rolls : (x : RawSimple-F RawDecl RawForm RawSimple RawBlock RawProc RawStmt) → SimpleLayerSame x → SimpleSame (roll-RawSimple x)
   simple_rolls x h = ap own_bodies (simple_procs_roll x) ∙ h ∙ sym (ap made_bodies (para-roll-RawSimple Bodies Bodies Bodies Bodies Bodies Bodies bodies.declaration_step bodies.form_step bodies.simple_step bodies.block_step bodies.procedure_step bodies.statement_step x))
 
-  abbrev WithSimple : Type 0
-  WithSimple = (x : RawSimple) × SimpleSame x
-
   abbrev pub BlockSame : RawBlock → Type 0
   BlockSame x = Same (procs.block_procs named numbers x) (bodies.block_bodies x)
 
@@ -98,9 +90,6 @@ module _ (named : Named) (numbers : Numbers) where
 
   block_rolls : (x : RawBlock-F RawDecl RawForm RawSimple RawBlock RawProc RawStmt) → BlockLayerSame x → BlockSame (roll-RawBlock x)
   block_rolls x h = ap own_bodies (block_procs_roll x) ∙ h ∙ sym (ap made_bodies (para-roll-RawBlock Bodies Bodies Bodies Bodies Bodies Bodies bodies.declaration_step bodies.form_step bodies.simple_step bodies.block_step bodies.procedure_step bodies.statement_step x))
-
-  abbrev WithBlock : Type 0
-  WithBlock = (x : RawBlock) × BlockSame x
 
   abbrev ProcedureSame : RawProc → Type 0
   ProcedureSame x = (statement_of named numbers (out-RawProc x).body ∷ own_bodies (procs.procedure_procs named numbers x)) ≡ made_bodies (bodies.procedure_bodies x)
@@ -115,11 +104,11 @@ module _ (named : Named) (numbers : Numbers) where
   procedure_rolls : (x : RawProc-F RawDecl RawForm RawSimple RawBlock RawProc RawStmt) → ProcedureLayerSame x → ProcedureSame (roll-RawProc x)
   procedure_rolls x h = ap₂ (λ s qs. s ∷ own_bodies qs) (ap (λ (z : RawProc-F RawDecl RawForm RawSimple RawBlock RawProc RawStmt). statement_of named numbers z.body) (out-roll-RawProc x)) (procedure_procs_roll x) ∙ h ∙ sym (ap made_bodies (para-roll-RawProc Bodies Bodies Bodies Bodies Bodies Bodies bodies.declaration_step bodies.form_step bodies.simple_step bodies.block_step bodies.procedure_step bodies.statement_step x))
 
-  abbrev WithProcedure : Type 0
-  WithProcedure = (x : RawProc) × ProcedureSame x
-
   abbrev pub StatementSame : RawStmt → Type 0
   StatementSame x = Same (procs.statement_procs named numbers x) (bodies.statement_bodies x)
+
+  abbrev known : Known
+  known = record { Decl = DeclarationSame; Form = FormSame; Simple = SimpleSame; Block = BlockSame; Proc = ProcedureSame; Stmt = StatementSame }
 
   abbrev StatementLayerSame : RawStmt-F RawDecl RawForm RawSimple RawBlock RawProc RawStmt → Type 0
   StatementLayerSame x = Same (procs.statement_step named numbers (map-RawStmt RawDecl RawForm RawSimple RawBlock RawProc RawStmt (RawDecl × Procs) (RawForm × Procs) (RawSimple × Procs) (RawBlock × Procs) (RawProc × Procs) (RawStmt × Procs) (λ z. (z, procs.declaration_procs named numbers z)) (λ z. (z, procs.form_procs named numbers z)) (λ z. (z, procs.simple_procs named numbers z)) (λ z. (z, procs.block_procs named numbers z)) (λ z. (z, procs.procedure_procs named numbers z)) (λ z. (z, procs.statement_procs named numbers z)) x)) (bodies.statement_step (map-RawStmt RawDecl RawForm RawSimple RawBlock RawProc RawStmt (RawDecl × Bodies) (RawForm × Bodies) (RawSimple × Bodies) (RawBlock × Bodies) (RawProc × Bodies) (RawStmt × Bodies) (λ z. (z, bodies.declaration_bodies z)) (λ z. (z, bodies.form_bodies z)) (λ z. (z, bodies.simple_bodies z)) (λ z. (z, bodies.block_bodies z)) (λ z. (z, bodies.procedure_bodies z)) (λ z. (z, bodies.statement_bodies z)) x))
@@ -131,34 +120,31 @@ module _ (named : Named) (numbers : Numbers) where
   statement_rolls : (x : RawStmt-F RawDecl RawForm RawSimple RawBlock RawProc RawStmt) → StatementLayerSame x → StatementSame (roll-RawStmt x)
   statement_rolls x h = ap own_bodies (statement_procs_roll x) ∙ h ∙ sym (ap made_bodies (para-roll-RawStmt Bodies Bodies Bodies Bodies Bodies Bodies bodies.declaration_step bodies.form_step bodies.simple_step bodies.block_step bodies.procedure_step bodies.statement_step x))
 
-  abbrev WithStatement : Type 0
-  WithStatement = (x : RawStmt) × StatementSame x
-
-  all_declarations : (ts : List WithDeclaration) → let zs : List RawDecl = map (λ y. y.0) ts in Same (procs.joined (map (λ z. (z, procs.declaration_procs named numbers z)) zs)) (bodies.joined (map (λ z. (z, bodies.declaration_bodies z)) zs))
+  all_declarations : (ts : List (WithDecl known)) → let zs : List RawDecl = map (λ y. y.0) ts in Same (procs.joined (map (λ z. (z, procs.declaration_procs named numbers z)) zs)) (bodies.joined (map (λ z. (z, bodies.declaration_bodies z)) zs))
   all_declarations [] = refl
   all_declarations (t ∷ ts) =
       let zs : List RawDecl = map (λ y. y.0) ts in
       both_same (procs.declaration_procs named numbers t.0) (procs.joined (map (λ z. (z, procs.declaration_procs named numbers z)) zs)) (bodies.declaration_bodies t.0) (bodies.joined (map (λ z. (z, bodies.declaration_bodies z)) zs)) t.1 (all_declarations ts)
 
-  all_statements : (ts : List WithStatement) → let zs : List RawStmt = map (λ y. y.0) ts in Same (procs.joined (map (λ z. (z, procs.statement_procs named numbers z)) zs)) (bodies.joined (map (λ z. (z, bodies.statement_bodies z)) zs))
+  all_statements : (ts : List (WithStmt known)) → let zs : List RawStmt = map (λ y. y.0) ts in Same (procs.joined (map (λ z. (z, procs.statement_procs named numbers z)) zs)) (bodies.joined (map (λ z. (z, bodies.statement_bodies z)) zs))
   all_statements [] = refl
   all_statements (t ∷ ts) =
       let zs : List RawStmt = map (λ y. y.0) ts in
       both_same (procs.statement_procs named numbers t.0) (procs.joined (map (λ z. (z, procs.statement_procs named numbers z)) zs)) (bodies.statement_bodies t.0) (bodies.joined (map (λ z. (z, bodies.statement_bodies z)) zs)) t.1 (all_statements ts)
 
-  declaration_rule : (y : RawDecl-F WithDeclaration WithForm WithSimple WithBlock WithProcedure WithStatement) → DeclarationLayerSame (map-RawDecl WithDeclaration WithForm WithSimple WithBlock WithProcedure WithStatement RawDecl RawForm RawSimple RawBlock RawProc RawStmt (λ y. y.0) (λ y. y.0) (λ y. y.0) (λ y. y.0) (λ y. y.0) (λ y. y.0) y)
+  declaration_rule : (y : DeclParts known) → DeclarationLayerSame (decl_layer known y)
   declaration_rule (layer.Data d) = refl
   declaration_rule (layer.Overlay at b d) = refl
   declaration_rule (layer.Switch at n labels) = refl
   declaration_rule (layer.Proc p) = p.1
 
-  form_rule : (y : RawForm-F WithDeclaration WithForm WithSimple WithBlock WithProcedure WithStatement) → FormLayerSame (map-RawForm WithDeclaration WithForm WithSimple WithBlock WithProcedure WithStatement RawDecl RawForm RawSimple RawBlock RawProc RawStmt (λ y. y.0) (λ y. y.0) (λ y. y.0) (λ y. y.0) (λ y. y.0) (λ y. y.0) y)
+  form_rule : (y : FormParts known) → FormLayerSame (form_layer known y)
   form_rule (layer.Simple s) = s.1
   form_rule (layer.If at test labels first None) = both_same (procs.simple_procs named numbers first.0) [] (bodies.simple_bodies first.0) [] first.1 refl
   form_rule (layer.If at test labels first (Some second)) = both_same (procs.simple_procs named numbers first.0) (procs.statement_procs named numbers second.0) (bodies.simple_bodies first.0) (bodies.statement_bodies second.0) first.1 second.1
   form_rule (layer.For at variable elems body) = body.1
 
-  simple_rule : (y : RawSimple-F WithDeclaration WithForm WithSimple WithBlock WithProcedure WithStatement) → SimpleLayerSame (map-RawSimple WithDeclaration WithForm WithSimple WithBlock WithProcedure WithStatement RawDecl RawForm RawSimple RawBlock RawProc RawStmt (λ y. y.0) (λ y. y.0) (λ y. y.0) (λ y. y.0) (λ y. y.0) (λ y. y.0) y)
+  simple_rule : (y : SimpleParts known) → SimpleLayerSame (simple_layer known y)
   simple_rule layer.Empty = refl
   simple_rule (layer.Assign r e) = refl
   simple_rule (layer.AssignBits bits r e) = refl
@@ -168,36 +154,28 @@ module _ (named : Named) (numbers : Numbers) where
   simple_rule (layer.Answer at e) = refl
   simple_rule (layer.Block b) = b.1
 
-  block_rule : (y : RawBlock-F WithDeclaration WithForm WithSimple WithBlock WithProcedure WithStatement) → BlockLayerSame (map-RawBlock WithDeclaration WithForm WithSimple WithBlock WithProcedure WithStatement RawDecl RawForm RawSimple RawBlock RawProc RawStmt (λ y. y.0) (λ y. y.0) (λ y. y.0) (λ y. y.0) (λ y. y.0) (λ y. y.0) y)
+  block_rule : (y : BlockParts known) → BlockLayerSame (block_layer known y)
   block_rule y =
       let ds : List RawDecl = map (λ z. z.0) y.decls in
       let zs : List RawStmt = map (λ z. z.0) y.stmts in
       both_same (procs.joined (map (λ z. (z, procs.declaration_procs named numbers z)) ds)) (procs.joined (map (λ z. (z, procs.statement_procs named numbers z)) zs)) (bodies.joined (map (λ z. (z, bodies.declaration_bodies z)) ds)) (bodies.joined (map (λ z. (z, bodies.statement_bodies z)) zs))
       (all_declarations y.decls) (all_statements y.stmts)
 
-  procedure_rule : (y : RawProc-F WithDeclaration WithForm WithSimple WithBlock WithProcedure WithStatement) → ProcedureLayerSame (map-RawProc WithDeclaration WithForm WithSimple WithBlock WithProcedure WithStatement RawDecl RawForm RawSimple RawBlock RawProc RawStmt (λ y. y.0) (λ y. y.0) (λ y. y.0) (λ y. y.0) (λ y. y.0) (λ y. y.0) y)
+  procedure_rule : (y : ProcParts known) → ProcedureLayerSame (proc_layer known y)
   procedure_rule y = ap (λ ss. statement_of named numbers y.body.0 ∷ ss) y.body.1
 
-  statement_rule : (y : RawStmt-F WithDeclaration WithForm WithSimple WithBlock WithProcedure WithStatement) → StatementLayerSame (map-RawStmt WithDeclaration WithForm WithSimple WithBlock WithProcedure WithStatement RawDecl RawForm RawSimple RawBlock RawProc RawStmt (λ y. y.0) (λ y. y.0) (λ y. y.0) (λ y. y.0) (λ y. y.0) (λ y. y.0) y)
+  statement_rule : (y : StmtParts known) → StatementLayerSame (stmt_layer known y)
   statement_rule y = y.form.1
 
-  declaration_up : (x : RawDecl-F RawDecl RawForm RawSimple RawBlock RawProc RawStmt) (y : RawDecl-F WithDeclaration WithForm WithSimple WithBlock WithProcedure WithStatement) → map-RawDecl WithDeclaration WithForm WithSimple WithBlock WithProcedure WithStatement RawDecl RawForm RawSimple RawBlock RawProc RawStmt (λ y. y.0) (λ y. y.0) (λ y. y.0) (λ y. y.0) (λ y. y.0) (λ y. y.0) y ≡ x → DeclarationSame (roll-RawDecl x)
-  declaration_up x y is = declaration_rolls x (subst DeclarationLayerSame is (declaration_rule y))
-
-  form_up : (x : RawForm-F RawDecl RawForm RawSimple RawBlock RawProc RawStmt) (y : RawForm-F WithDeclaration WithForm WithSimple WithBlock WithProcedure WithStatement) → map-RawForm WithDeclaration WithForm WithSimple WithBlock WithProcedure WithStatement RawDecl RawForm RawSimple RawBlock RawProc RawStmt (λ y. y.0) (λ y. y.0) (λ y. y.0) (λ y. y.0) (λ y. y.0) (λ y. y.0) y ≡ x → FormSame (roll-RawForm x)
-  form_up x y is = form_rolls x (subst FormLayerSame is (form_rule y))
-
-  simple_up : (x : RawSimple-F RawDecl RawForm RawSimple RawBlock RawProc RawStmt) (y : RawSimple-F WithDeclaration WithForm WithSimple WithBlock WithProcedure WithStatement) → map-RawSimple WithDeclaration WithForm WithSimple WithBlock WithProcedure WithStatement RawDecl RawForm RawSimple RawBlock RawProc RawStmt (λ y. y.0) (λ y. y.0) (λ y. y.0) (λ y. y.0) (λ y. y.0) (λ y. y.0) y ≡ x → SimpleSame (roll-RawSimple x)
-  simple_up x y is = simple_rolls x (subst SimpleLayerSame is (simple_rule y))
-
-  block_up : (x : RawBlock-F RawDecl RawForm RawSimple RawBlock RawProc RawStmt) (y : RawBlock-F WithDeclaration WithForm WithSimple WithBlock WithProcedure WithStatement) → map-RawBlock WithDeclaration WithForm WithSimple WithBlock WithProcedure WithStatement RawDecl RawForm RawSimple RawBlock RawProc RawStmt (λ y. y.0) (λ y. y.0) (λ y. y.0) (λ y. y.0) (λ y. y.0) (λ y. y.0) y ≡ x → BlockSame (roll-RawBlock x)
-  block_up x y is = block_rolls x (subst BlockLayerSame is (block_rule y))
-
-  procedure_up : (x : RawProc-F RawDecl RawForm RawSimple RawBlock RawProc RawStmt) (y : RawProc-F WithDeclaration WithForm WithSimple WithBlock WithProcedure WithStatement) → map-RawProc WithDeclaration WithForm WithSimple WithBlock WithProcedure WithStatement RawDecl RawForm RawSimple RawBlock RawProc RawStmt (λ y. y.0) (λ y. y.0) (λ y. y.0) (λ y. y.0) (λ y. y.0) (λ y. y.0) y ≡ x → ProcedureSame (roll-RawProc x)
-  procedure_up x y is = procedure_rolls x (subst ProcedureLayerSame is (procedure_rule y))
-
-  statement_up : (x : RawStmt-F RawDecl RawForm RawSimple RawBlock RawProc RawStmt) (y : RawStmt-F WithDeclaration WithForm WithSimple WithBlock WithProcedure WithStatement) → map-RawStmt WithDeclaration WithForm WithSimple WithBlock WithProcedure WithStatement RawDecl RawForm RawSimple RawBlock RawProc RawStmt (λ y. y.0) (λ y. y.0) (λ y. y.0) (λ y. y.0) (λ y. y.0) (λ y. y.0) y ≡ x → StatementSame (roll-RawStmt x)
-  statement_up x y is = statement_rolls x (subst StatementLayerSame is (statement_rule y))
+  rules : Rules known
+  rules = record {
+    decl = λ y. declaration_rolls (decl_layer known y) (declaration_rule y);
+    form = λ y. form_rolls (form_layer known y) (form_rule y);
+    simple = λ y. simple_rolls (simple_layer known y) (simple_rule y);
+    block = λ y. block_rolls (block_layer known y) (block_rule y);
+    proc = λ y. procedure_rolls (proc_layer known y) (procedure_rule y);
+    stmt = λ y. statement_rolls (stmt_layer known y) (statement_rule y);
+  }
 
   pub bodies_are_same : (x : RawBlock) → BlockSame x
-  bodies_are_same = ind-RawBlock DeclarationSame FormSame SimpleSame BlockSame ProcedureSame StatementSame declaration_up form_up simple_up block_up procedure_up statement_up
+  bodies_are_same = each_block known rules

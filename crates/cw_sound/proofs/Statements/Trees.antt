@@ -85,7 +85,7 @@ module _ (named : Named) (numbers : Numbers) (u : SourceUnit) (who : Option ℕ)
       let oks = parts (is_regular_reference r) (is_regular e) ok in
       let sides = halves_of named numbers u who (reference_uses r reading.Whole) (expression_uses e reading.Value) s in
       let both_parts : Judgement = both (reference_judged named r) (expression_judged named 0 e) in
-      let calm = both_free (reference_judged named r) (expression_judged named 0 e) (whole_keeps named 0 e) (both_free (bits_judged bits) both_parts (keeps_both (reference_judged named r) (expression_judged named 0 e) (place_keeps named r) (whole_keeps named 0 e)) free).1 in
+      let calm = both_free (reference_judged named r) (expression_judged named 0 e) (whole_keeps named 0 e) (both_free (bits_judged bits) both_parts (keeps_both (place_keeps named r) (whole_keeps named 0 e)) free).1 in
       put_bits_good u who named numbers (line_of bits.at) (within 255 (place_amount bits.size.first)) (within 255 (place_amount bits.size.second)) r e
       (λ few. place_fit named numbers u who r reading.Whole refl oks.0 sides.0.0 calm.0 few) (λ few. fit_of named numbers u who e 0 oks.1 sides.1.0 calm.1 (omega arith) few)
 

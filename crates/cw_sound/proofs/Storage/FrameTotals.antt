@@ -6,8 +6,9 @@ use Rattle.cw_table.specs.declared.table.Row.{Row}
 use Rattle.cw_items.specs.declared.families.Site.{Site}
 use Rattle.cw_items.specs.declared.thing.Thing.{Thing}
 use Rattle.cw_items.specs.Families.{Counts, count_in, with_count, site_of, Known, nothing_known, all_known, with_thing, things_judged, end_of, growth, area_with, with_area, has_room}
-use Rattle.cw_sound.proofs.Items.Lists.{In, in-left, in-right, Each, each-in}
+use Rattle.cw_sound.proofs.Items.Lists.{In, in-left, in-right, each-in}
 use Rattle.cw_sound.proofs.Items.Room.{count-same, count-other, room-of, area, room-within}
+use Rattle.cw_macro.specs.Premises.{Each}
 
 -- ---- sums
 

@@ -24,7 +24,7 @@ use Rattle.cw_sound.specs.Uses.Mentions.{block_mentions}
 use Rattle.cw_sound.specs.Items.Derived.{HasRisingTokens, IsRising}
 use Rattle.cw_sound.specs.Items.Bases.{BasesStand}
 use Rattle.cw_sound.specs.Items.Items.{things_of, item_made}
-use Rattle.cw_sound.proofs.Items.Lists.{In, Each, not-below}
+use Rattle.cw_sound.proofs.Items.Lists.{In, not-below}
 use Rattle.cw_sound.proofs.Items.Numbering.{tokens_of_things, made-of}
 use Rattle.cw_sound.proofs.Items.Room.{orderly-first, site_at, ends}
 use Rattle.cw_sound.proofs.Items.Storage.{offset-within, site-root}
@@ -34,6 +34,7 @@ use Rattle.cw_sound.proofs.Storage.FramesOwned.{thing_owned}
 use Rattle.cw_sound.proofs.Storage.ProcedureNumbers.{Counted, one_token}
 use Rattle.cw_sound.proofs.Storage.FrameTotals.{total, Distinct, OnlyIn, frame_total}
 use Rattle.cw_sound.proofs.Storage.Extents.{reached, below_capped, root_only}
+use Rattle.cw_macro.specs.Premises.{Each}
 
 -- ---- things of frames
 

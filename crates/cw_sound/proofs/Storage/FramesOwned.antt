@@ -23,9 +23,10 @@ use Rattle.cw_sound.specs.Uses.Mentions.{here, declares, block_mentions}
 use Rattle.cw_sound.specs.Names.Placed.{Placed}
 use Rattle.cw_sound.specs.Names.Standing.{CountsOwn}
 use Rattle.cw_sound.proofs.Names.OwnDeclarations.{Made, goals}
-use Rattle.cw_sound.proofs.Items.Lists.{Each, each-append, each-in, at-place}
+use Rattle.cw_sound.proofs.Items.Lists.{each-append, each-in, at-place}
 use Rattle.cw_sound.proofs.Storage.Owners.{AllSo, Owned, data_own}
 use Rattle.cw_sound.proofs.Storage.OwnersOfTrees.{block_owns}
+use Rattle.cw_macro.specs.Premises.{Each}
 
 -- ---- what communicators list has no owner
 

@@ -29,7 +29,8 @@ use Rattle.cw_sound.specs.Uses.Mentions.{In, Here, here, declares as declared, f
 use Rattle.cw_sound.proofs.Names.Lists.{in_left, in_right}
 use Rattle.cw_sound.proofs.Names.Rows.{mentions_append}
 use Rattle.cw_sound.proofs.Names.MentionsOf.{declared_first, specified_first, block_alone}
-use Rattle.cw_sound.proofs.Items.Lists.{Each, each-append}
+use Rattle.cw_sound.proofs.Items.Lists.{each-append}
+use Rattle.cw_macro.specs.Premises.{Each}
 
 abbrev pub procedure_here : Option ℕ → RawName → Option RawType → Here
 procedure_here who n answer = here who (declared (record { name = n; kind = kind.Proc answer }))

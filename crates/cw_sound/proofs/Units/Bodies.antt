@@ -12,7 +12,7 @@ use Rattle.cw_tree.specs.declared.statement.RawStmt.{RawStmt, roll-RawStmt, map-
 use Rattle.cw_tree.specs.declared.statement.RawDecl.TheOpen as layer
 use Rattle.cw_tree.specs.declared.statement.RawDecl.TheOpen.{RawForm-F, RawSimple-F, RawBlock-F, RawProc-F, RawStmt-F}
 use Rattle.cw_tree.specs.declared.statement.RawDecl.TheViews.{out-roll-RawProc}
-use Rattle.cw_tree.specs.declared.statement.RawDecl.TheFolds.{fold-roll-RawDecl, fold-roll-RawForm, fold-roll-RawSimple, fold-roll-RawBlock, fold-roll-RawProc, fold-roll-RawStmt, para-roll-RawDecl, para-roll-RawForm, para-roll-RawSimple, para-roll-RawBlock, para-roll-RawProc, para-roll-RawStmt, ind-RawBlock}
+use Rattle.cw_tree.specs.declared.statement.RawDecl.TheFolds.{para-roll-RawDecl, para-roll-RawForm, para-roll-RawSimple, para-roll-RawBlock, para-roll-RawProc, para-roll-RawStmt}
 use Rattle.cw_facts.specs.declared.fact.Fact.{Fact}
 use Rattle.cw_facts.specs.declared.fact.Fact.TheVariants as fact
 use Rattle.cw_facts.specs.declared.fact.Form.TheVariants as use_form
@@ -20,7 +20,7 @@ use Rattle.cw_facts.specs.declared.fact.Kind.TheVariants as kind
 use Rattle.cw_facts.specs.declared.fact.Reading.TheVariants as reading
 use Rattle.cw_facts.specs.Uses.{expression_uses, condition_uses, reference_uses, argument_uses}
 use Rattle.cw_facts.specs.Facts as facts
-use Rattle.cw_facts.specs.Facts.{BlockFacts, each_declares, each_uses, data_facts, base_name, felem_facts, felems_facts, enclosed, answer_name}
+use Rattle.cw_facts.specs.Facts.{BlockFacts, each_declares, base_name, felem_facts, felems_facts, enclosed, answer_name}
 use Rattle.cw_scope.specs.declared.resolve.Named.{Named}
 use Rattle.cw_make_items.specs.Lookup.{Numbers}
 use Rattle.cw_unit.specs.declared.unit.Switch.{Switch}
@@ -36,6 +36,8 @@ use Rattle.cw_sound.proofs.Names.PlainFacts.{plain_nothing, plain_both, plain_us
 use Rattle.cw_sound.proofs.Names.ExpressionUses.{expression_plain, condition_plain, reference_plain, arguments_plain}
 use Rattle.cw_sound.specs.Statements.Bodies.{Body, Bodies}
 use Rattle.cw_sound.specs.Statements.Bodies as bodies
+use Rattle.cw_sound.proofs.Statements.Layers.{Known, WithDecl, WithStmt, DeclParts, FormParts, SimpleParts, BlockParts, ProcParts, StmtParts, decl_layer, form_layer, simple_layer, block_layer, proc_layer, stmt_layer, each_block}
+use Rattle.cw_sound.proofs.Statements.Folds.{facts_decl, facts_form, facts_simple, facts_block, facts_proc, facts_stmt}
 
 -- a mention declares the procedure of a body
 abbrev pub Declares : Mention → (token : ℕ) → Type 0
@@ -123,38 +125,20 @@ module _ (named : Named) (numbers : Numbers) where
 
   -- ---- what each tree comes to, by its layer
 
-  abbrev facts_declaration : (x : RawDecl-F RawDecl RawForm RawSimple RawBlock RawProc RawStmt) → facts.declaration_facts (roll-RawDecl x) ≡ facts.declaration_step (map-RawDecl RawDecl RawForm RawSimple RawBlock RawProc RawStmt (List Fact) (List Fact) (List Fact) BlockFacts (List Fact) (List Fact) facts.declaration_facts facts.form_facts facts.simple_facts facts.block_facts facts.procedure_facts facts.statement_facts x)
-  facts_declaration x = fold-roll-RawDecl (List Fact) (List Fact) (List Fact) BlockFacts (List Fact) (List Fact) facts.declaration_step facts.form_step facts.simple_step facts.block_step facts.procedure_step facts.statement_step x
-
   abbrev bodies_declaration : (x : RawDecl-F RawDecl RawForm RawSimple RawBlock RawProc RawStmt) → bodies.declaration_bodies (roll-RawDecl x) ≡ bodies.declaration_step (map-RawDecl RawDecl RawForm RawSimple RawBlock RawProc RawStmt (RawDecl × Bodies) (RawForm × Bodies) (RawSimple × Bodies) (RawBlock × Bodies) (RawProc × Bodies) (RawStmt × Bodies) (λ z. (z, bodies.declaration_bodies z)) (λ z. (z, bodies.form_bodies z)) (λ z. (z, bodies.simple_bodies z)) (λ z. (z, bodies.block_bodies z)) (λ z. (z, bodies.procedure_bodies z)) (λ z. (z, bodies.statement_bodies z)) x)
   bodies_declaration x = para-roll-RawDecl Bodies Bodies Bodies Bodies Bodies Bodies bodies.declaration_step bodies.form_step bodies.simple_step bodies.block_step bodies.procedure_step bodies.statement_step x
-
-  abbrev facts_form : (x : RawForm-F RawDecl RawForm RawSimple RawBlock RawProc RawStmt) → facts.form_facts (roll-RawForm x) ≡ facts.form_step (map-RawForm RawDecl RawForm RawSimple RawBlock RawProc RawStmt (List Fact) (List Fact) (List Fact) BlockFacts (List Fact) (List Fact) facts.declaration_facts facts.form_facts facts.simple_facts facts.block_facts facts.procedure_facts facts.statement_facts x)
-  facts_form x = fold-roll-RawForm (List Fact) (List Fact) (List Fact) BlockFacts (List Fact) (List Fact) facts.declaration_step facts.form_step facts.simple_step facts.block_step facts.procedure_step facts.statement_step x
 
   abbrev bodies_form : (x : RawForm-F RawDecl RawForm RawSimple RawBlock RawProc RawStmt) → bodies.form_bodies (roll-RawForm x) ≡ bodies.form_step (map-RawForm RawDecl RawForm RawSimple RawBlock RawProc RawStmt (RawDecl × Bodies) (RawForm × Bodies) (RawSimple × Bodies) (RawBlock × Bodies) (RawProc × Bodies) (RawStmt × Bodies) (λ z. (z, bodies.declaration_bodies z)) (λ z. (z, bodies.form_bodies z)) (λ z. (z, bodies.simple_bodies z)) (λ z. (z, bodies.block_bodies z)) (λ z. (z, bodies.procedure_bodies z)) (λ z. (z, bodies.statement_bodies z)) x)
   bodies_form x = para-roll-RawForm Bodies Bodies Bodies Bodies Bodies Bodies bodies.declaration_step bodies.form_step bodies.simple_step bodies.block_step bodies.procedure_step bodies.statement_step x
 
-  abbrev facts_simple : (x : RawSimple-F RawDecl RawForm RawSimple RawBlock RawProc RawStmt) → facts.simple_facts (roll-RawSimple x) ≡ facts.simple_step (map-RawSimple RawDecl RawForm RawSimple RawBlock RawProc RawStmt (List Fact) (List Fact) (List Fact) BlockFacts (List Fact) (List Fact) facts.declaration_facts facts.form_facts facts.simple_facts facts.block_facts facts.procedure_facts facts.statement_facts x)
-  facts_simple x = fold-roll-RawSimple (List Fact) (List Fact) (List Fact) BlockFacts (List Fact) (List Fact) facts.declaration_step facts.form_step facts.simple_step facts.block_step facts.procedure_step facts.statement_step x
-
   abbrev bodies_simple : (x : RawSimple-F RawDecl RawForm RawSimple RawBlock RawProc RawStmt) → bodies.simple_bodies (roll-RawSimple x) ≡ bodies.simple_step (map-RawSimple RawDecl RawForm RawSimple RawBlock RawProc RawStmt (RawDecl × Bodies) (RawForm × Bodies) (RawSimple × Bodies) (RawBlock × Bodies) (RawProc × Bodies) (RawStmt × Bodies) (λ z. (z, bodies.declaration_bodies z)) (λ z. (z, bodies.form_bodies z)) (λ z. (z, bodies.simple_bodies z)) (λ z. (z, bodies.block_bodies z)) (λ z. (z, bodies.procedure_bodies z)) (λ z. (z, bodies.statement_bodies z)) x)
   bodies_simple x = para-roll-RawSimple Bodies Bodies Bodies Bodies Bodies Bodies bodies.declaration_step bodies.form_step bodies.simple_step bodies.block_step bodies.procedure_step bodies.statement_step x
-
-  abbrev facts_block : (x : RawBlock-F RawDecl RawForm RawSimple RawBlock RawProc RawStmt) → facts.block_facts (roll-RawBlock x) ≡ facts.block_step (map-RawBlock RawDecl RawForm RawSimple RawBlock RawProc RawStmt (List Fact) (List Fact) (List Fact) BlockFacts (List Fact) (List Fact) facts.declaration_facts facts.form_facts facts.simple_facts facts.block_facts facts.procedure_facts facts.statement_facts x)
-  facts_block x = fold-roll-RawBlock (List Fact) (List Fact) (List Fact) BlockFacts (List Fact) (List Fact) facts.declaration_step facts.form_step facts.simple_step facts.block_step facts.procedure_step facts.statement_step x
 
   abbrev bodies_block : (x : RawBlock-F RawDecl RawForm RawSimple RawBlock RawProc RawStmt) → bodies.block_bodies (roll-RawBlock x) ≡ bodies.block_step (map-RawBlock RawDecl RawForm RawSimple RawBlock RawProc RawStmt (RawDecl × Bodies) (RawForm × Bodies) (RawSimple × Bodies) (RawBlock × Bodies) (RawProc × Bodies) (RawStmt × Bodies) (λ z. (z, bodies.declaration_bodies z)) (λ z. (z, bodies.form_bodies z)) (λ z. (z, bodies.simple_bodies z)) (λ z. (z, bodies.block_bodies z)) (λ z. (z, bodies.procedure_bodies z)) (λ z. (z, bodies.statement_bodies z)) x)
   bodies_block x = para-roll-RawBlock Bodies Bodies Bodies Bodies Bodies Bodies bodies.declaration_step bodies.form_step bodies.simple_step bodies.block_step bodies.procedure_step bodies.statement_step x
 
-  abbrev facts_procedure : (x : RawProc-F RawDecl RawForm RawSimple RawBlock RawProc RawStmt) → facts.procedure_facts (roll-RawProc x) ≡ facts.procedure_step (map-RawProc RawDecl RawForm RawSimple RawBlock RawProc RawStmt (List Fact) (List Fact) (List Fact) BlockFacts (List Fact) (List Fact) facts.declaration_facts facts.form_facts facts.simple_facts facts.block_facts facts.procedure_facts facts.statement_facts x)
-  facts_procedure x = fold-roll-RawProc (List Fact) (List Fact) (List Fact) BlockFacts (List Fact) (List Fact) facts.declaration_step facts.form_step facts.simple_step facts.block_step facts.procedure_step facts.statement_step x
-
   abbrev bodies_procedure : (x : RawProc-F RawDecl RawForm RawSimple RawBlock RawProc RawStmt) → bodies.procedure_bodies (roll-RawProc x) ≡ bodies.procedure_step (map-RawProc RawDecl RawForm RawSimple RawBlock RawProc RawStmt (RawDecl × Bodies) (RawForm × Bodies) (RawSimple × Bodies) (RawBlock × Bodies) (RawProc × Bodies) (RawStmt × Bodies) (λ z. (z, bodies.declaration_bodies z)) (λ z. (z, bodies.form_bodies z)) (λ z. (z, bodies.simple_bodies z)) (λ z. (z, bodies.block_bodies z)) (λ z. (z, bodies.procedure_bodies z)) (λ z. (z, bodies.statement_bodies z)) x)
   bodies_procedure x = para-roll-RawProc Bodies Bodies Bodies Bodies Bodies Bodies bodies.declaration_step bodies.form_step bodies.simple_step bodies.block_step bodies.procedure_step bodies.statement_step x
-
-  abbrev facts_statement : (x : RawStmt-F RawDecl RawForm RawSimple RawBlock RawProc RawStmt) → facts.statement_facts (roll-RawStmt x) ≡ facts.statement_step (map-RawStmt RawDecl RawForm RawSimple RawBlock RawProc RawStmt (List Fact) (List Fact) (List Fact) BlockFacts (List Fact) (List Fact) facts.declaration_facts facts.form_facts facts.simple_facts facts.block_facts facts.procedure_facts facts.statement_facts x)
-  facts_statement x = fold-roll-RawStmt (List Fact) (List Fact) (List Fact) BlockFacts (List Fact) (List Fact) facts.declaration_step facts.form_step facts.simple_step facts.block_step facts.procedure_step facts.statement_step x
 
   abbrev bodies_statement : (x : RawStmt-F RawDecl RawForm RawSimple RawBlock RawProc RawStmt) → bodies.statement_bodies (roll-RawStmt x) ≡ bodies.statement_step (map-RawStmt RawDecl RawForm RawSimple RawBlock RawProc RawStmt (RawDecl × Bodies) (RawForm × Bodies) (RawSimple × Bodies) (RawBlock × Bodies) (RawProc × Bodies) (RawStmt × Bodies) (λ z. (z, bodies.declaration_bodies z)) (λ z. (z, bodies.form_bodies z)) (λ z. (z, bodies.simple_bodies z)) (λ z. (z, bodies.block_bodies z)) (λ z. (z, bodies.procedure_bodies z)) (λ z. (z, bodies.statement_bodies z)) x)
   bodies_statement x = para-roll-RawStmt Bodies Bodies Bodies Bodies Bodies Bodies bodies.declaration_step bodies.form_step bodies.simple_step bodies.block_step bodies.procedure_step bodies.statement_step x
@@ -164,53 +148,20 @@ module _ (named : Named) (numbers : Numbers) where
 
   -- ---- trees with what is said of them
 
-  abbrev D : Type 0
-  D = (x : RawDecl) × DeclHas x
-
-  abbrev F : Type 0
-  F = (x : RawForm) × FormHas x
-
-  abbrev S : Type 0
-  S = (x : RawSimple) × SimpleHas x
-
-  abbrev B : Type 0
-  B = (x : RawBlock) × BlockHas x
-
-  abbrev Q : Type 0
-  Q = (x : RawProc) × ProcHas x
-
-  abbrev T : Type 0
-  T = (x : RawStmt) × StmtHas x
-
-  abbrev declaration_x : RawDecl-F D F S B Q T → RawDecl-F RawDecl RawForm RawSimple RawBlock RawProc RawStmt
-  declaration_x = map-RawDecl D F S B Q T RawDecl RawForm RawSimple RawBlock RawProc RawStmt (λ e. e.0) (λ e. e.0) (λ e. e.0) (λ e. e.0) (λ e. e.0) (λ e. e.0)
-
-  abbrev form_x : RawForm-F D F S B Q T → RawForm-F RawDecl RawForm RawSimple RawBlock RawProc RawStmt
-  form_x = map-RawForm D F S B Q T RawDecl RawForm RawSimple RawBlock RawProc RawStmt (λ e. e.0) (λ e. e.0) (λ e. e.0) (λ e. e.0) (λ e. e.0) (λ e. e.0)
-
-  abbrev simple_x : RawSimple-F D F S B Q T → RawSimple-F RawDecl RawForm RawSimple RawBlock RawProc RawStmt
-  simple_x = map-RawSimple D F S B Q T RawDecl RawForm RawSimple RawBlock RawProc RawStmt (λ e. e.0) (λ e. e.0) (λ e. e.0) (λ e. e.0) (λ e. e.0) (λ e. e.0)
-
-  abbrev block_x : RawBlock-F D F S B Q T → RawBlock-F RawDecl RawForm RawSimple RawBlock RawProc RawStmt
-  block_x = map-RawBlock D F S B Q T RawDecl RawForm RawSimple RawBlock RawProc RawStmt (λ e. e.0) (λ e. e.0) (λ e. e.0) (λ e. e.0) (λ e. e.0) (λ e. e.0)
-
-  abbrev procedure_x : RawProc-F D F S B Q T → RawProc-F RawDecl RawForm RawSimple RawBlock RawProc RawStmt
-  procedure_x = map-RawProc D F S B Q T RawDecl RawForm RawSimple RawBlock RawProc RawStmt (λ e. e.0) (λ e. e.0) (λ e. e.0) (λ e. e.0) (λ e. e.0) (λ e. e.0)
-
-  abbrev statement_x : RawStmt-F D F S B Q T → RawStmt-F RawDecl RawForm RawSimple RawBlock RawProc RawStmt
-  statement_x = map-RawStmt D F S B Q T RawDecl RawForm RawSimple RawBlock RawProc RawStmt (λ e. e.0) (λ e. e.0) (λ e. e.0) (λ e. e.0) (λ e. e.0) (λ e. e.0)
+  abbrev known : Known
+  known = record { Decl = DeclHas; Form = FormHas; Simple = SimpleHas; Block = BlockHas; Proc = ProcHas; Stmt = StmtHas }
 
   -- ---- rules of the grammar
 
-  declaration_rule : (y : RawDecl-F D F S B Q T) → DeclHas (roll-RawDecl (declaration_x y))
-  declaration_rule (layer.Data d) = like (facts_declaration (layer.Data d)) (bodies_declaration (layer.Data d)) (none (items d))
+  declaration_rule : (y : DeclParts known) → DeclHas (roll-RawDecl (decl_layer known y))
+  declaration_rule (layer.Data d) = like (facts_decl (layer.Data d)) (bodies_declaration (layer.Data d)) (none (items d))
   declaration_rule (layer.Overlay at b d) =
-      like (facts_declaration (layer.Overlay at b d)) (bodies_declaration (layer.Overlay at b d))
+      like (facts_decl (layer.Overlay at b d)) (bodies_declaration (layer.Overlay at b d))
       (before (none (plain (plain_use numbers (record { name = base_name b; form = use_form.Base }) [] (plain_nothing numbers)))) (none (items d)))
-  declaration_rule (layer.Switch at n ns) = like (facts_declaration (layer.Switch at n ns)) (bodies_declaration (layer.Switch at n ns)) (none (switch n ns))
-  declaration_rule (layer.Proc p) = like (facts_declaration (layer.Proc p.0)) (bodies_declaration (layer.Proc p.0)) p.1
+  declaration_rule (layer.Switch at n ns) = like (facts_decl (layer.Switch at n ns)) (bodies_declaration (layer.Switch at n ns)) (none (switch n ns))
+  declaration_rule (layer.Proc p) = like (facts_decl (layer.Proc p.0)) (bodies_declaration (layer.Proc p.0)) p.1
 
-  form_rule : (y : RawForm-F D F S B Q T) → FormHas (roll-RawForm (form_x y))
+  form_rule : (y : FormParts known) → FormHas (roll-RawForm (form_layer known y))
   form_rule (layer.Simple s) = like (facts_form (layer.Simple s.0)) (bodies_form (layer.Simple s.0)) s.1
   form_rule (layer.If at test ns first None) =
       like (facts_form (layer.If at test ns first.0 None)) (bodies_form (layer.If at test ns first.0 None))
@@ -222,7 +173,7 @@ module _ (named : Named) (numbers : Numbers) where
       like (facts_form (layer.For at variable elems body.0)) (bodies_form (layer.For at variable elems body.0))
       (before (none (plain (plain_loop numbers at (reference_uses variable reading.Whole) (reference_plain numbers variable reading.Whole)))) (before (none (plain (felems_plain elems))) body.1))
 
-  simple_rule : (y : RawSimple-F D F S B Q T) → SimpleHas (roll-RawSimple (simple_x y))
+  simple_rule : (y : SimpleParts known) → SimpleHas (roll-RawSimple (simple_layer known y))
   simple_rule layer.Empty = like (facts_simple (layer.Empty)) (bodies_simple (layer.Empty)) nothing
   simple_rule (layer.Assign r e) =
       like (facts_simple (layer.Assign r e)) (bodies_simple (layer.Assign r e))
@@ -243,36 +194,29 @@ module _ (named : Named) (numbers : Numbers) where
       (none (plain (plain_use numbers (record { name = answer_name at; form = use_form.Answer }) (expression_uses e reading.Value) (expression_plain numbers e reading.Value))))
   simple_rule (layer.Block b) = like (facts_simple (layer.Block b.0)) (bodies_simple (layer.Block b.0)) (b.1 false)
 
-  all_declarations : (ts : List D) → let zs : List RawDecl = map (λ e. e.0) ts in Has (facts.joined (map facts.declaration_facts zs)) (bodies.joined (map (λ z. (z, bodies.declaration_bodies z)) zs))
+  all_declarations : (ts : List (WithDecl known)) → let zs : List RawDecl = map (λ e. e.0) ts in Has (facts.joined (map facts.declaration_facts zs)) (bodies.joined (map (λ z. (z, bodies.declaration_bodies z)) zs))
   all_declarations [] = nothing
   all_declarations (t ∷ ts) = two t.1 (all_declarations ts)
 
-  all_statements : (ts : List T) → let zs : List RawStmt = map (λ e. e.0) ts in Has (facts.joined (map facts.statement_facts zs)) (bodies.joined (map (λ z. (z, bodies.statement_bodies z)) zs))
+  all_statements : (ts : List (WithStmt known)) → let zs : List RawStmt = map (λ e. e.0) ts in Has (facts.joined (map facts.statement_facts zs)) (bodies.joined (map (λ z. (z, bodies.statement_bodies z)) zs))
   all_statements [] = nothing
   all_statements (t ∷ ts) = two t.1 (all_statements ts)
 
-  block_rule : (y : RawBlock-F D F S B Q T) → BlockHas (roll-RawBlock (block_x y))
+  block_rule : (y : BlockParts known) → BlockHas (roll-RawBlock (block_layer known y))
   block_rule y outermost =
-      like (ap (λ f. f outermost) (facts_block (block_x y))) (bodies_block (block_x y))
+      like (ap (λ f. f outermost) (facts_block (block_layer known y))) (bodies_block (block_layer known y))
       (either (outermost || not (length (map facts.declaration_facts (map (λ e. e.0) y.decls)) == 0)) (two (all_declarations y.decls) (all_statements y.stmts)))
 
-  procedure_rule : (y : RawProc-F D F S B Q T) → ProcHas (roll-RawProc (procedure_x y))
+  procedure_rule : (y : ProcParts known) → ProcHas (roll-RawProc (proc_layer known y))
   procedure_rule y =
-      let p : RawProc = roll-RawProc (procedure_x y) in
+      let p : RawProc = roll-RawProc (proc_layer known y) in
       let b : Body = record { token = y.name.at.token; statement = y.body.0 } in
-      like (facts_procedure (procedure_x y)) (bodies_procedure (procedure_x y))
-      (subst (λ z. Has (facts.procedure_step (map-RawProc RawDecl RawForm RawSimple RawBlock RawProc RawStmt (List Fact) (List Fact) (List Fact) BlockFacts (List Fact) (List Fact) facts.declaration_facts facts.form_facts facts.simple_facts facts.block_facts facts.procedure_facts facts.statement_facts z)) (b ∷ bodies.statement_bodies y.body.0)) (out-roll-RawProc (procedure_x y))
-      (procedure p b (ap (λ z. z.name.at.token) (out-roll-RawProc (procedure_x y))) (subst (λ z. Has (facts.statement_facts z.body) (bodies.statement_bodies y.body.0)) (sym (out-roll-RawProc (procedure_x y))) y.body.1)))
+      like (facts_proc (proc_layer known y)) (bodies_procedure (proc_layer known y))
+      (subst (λ z. Has (facts.procedure_step (map-RawProc RawDecl RawForm RawSimple RawBlock RawProc RawStmt (List Fact) (List Fact) (List Fact) BlockFacts (List Fact) (List Fact) facts.declaration_facts facts.form_facts facts.simple_facts facts.block_facts facts.procedure_facts facts.statement_facts z)) (b ∷ bodies.statement_bodies y.body.0)) (out-roll-RawProc (proc_layer known y))
+      (procedure p b (ap (λ z. z.name.at.token) (out-roll-RawProc (proc_layer known y))) (subst (λ z. Has (facts.statement_facts z.body) (bodies.statement_bodies y.body.0)) (sym (out-roll-RawProc (proc_layer known y))) y.body.1)))
 
-  statement_rule : (y : RawStmt-F D F S B Q T) → StmtHas (roll-RawStmt (statement_x y))
-  statement_rule y = like (facts_statement (statement_x y)) (bodies_statement (statement_x y)) (before (labels y.labels) y.form.1)
+  statement_rule : (y : StmtParts known) → StmtHas (roll-RawStmt (stmt_layer known y))
+  statement_rule y = like (facts_stmt (stmt_layer known y)) (bodies_statement (stmt_layer known y)) (before (labels y.labels) y.form.1)
 
   pub block_has : (b : RawBlock) → BlockHas b
-  block_has =
-      ind-RawBlock DeclHas FormHas SimpleHas BlockHas ProcHas StmtHas
-      (λ x y is. subst (λ z. DeclHas (roll-RawDecl z)) is (declaration_rule y))
-      (λ x y is. subst (λ z. FormHas (roll-RawForm z)) is (form_rule y))
-      (λ x y is. subst (λ z. SimpleHas (roll-RawSimple z)) is (simple_rule y))
-      (λ x y is. subst (λ z. BlockHas (roll-RawBlock z)) is (block_rule y))
-      (λ x y is. subst (λ z. ProcHas (roll-RawProc z)) is (procedure_rule y))
-      (λ x y is. subst (λ z. StmtHas (roll-RawStmt z)) is (statement_rule y))
+  block_has = each_block known (record { decl = declaration_rule; form = form_rule; simple = simple_rule; block = block_rule; proc = procedure_rule; stmt = statement_rule })

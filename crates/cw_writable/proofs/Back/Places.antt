@@ -251,7 +251,9 @@ saved-less (order.LoopWay marks) h = absurd h
 saved-less (order.Add line) h = absurd h
 saved-less (order.Sub line) h = absurd h
 saved-less (order.Neg line) h = absurd h
+saved-less (order.Rescale from to line) h = absurd h
 saved-less (order.Mul s line) h = absurd h
+saved-less (order.Div s line) h = absurd h
 saved-less o h = alone-long o h
 
 -- and so has that of the block which it begins

@@ -42,7 +42,7 @@ use Rattle.cw_tmpl.specs.declared.blocks.Block.{Block}
 use Rattle.cw_tmpl.specs.declared.blocks.Block.TheVariants as block
 use Rattle.cw_tmpl.specs.Blocks.{address_orders, bounds_orders, column_orders, orders_in_row, row_order, form_within, entries_within, element_orders, operand_orders, zero_word, block_at, orders_left}
 use Rattle.cw_tmpl.proofs.Shapes.{IsBlock, IsNear, TestNear, OperandIs, shape}
-use Rattle.cw_tmpl.specs.Templates.{word_compared, is_short, template, template_by, branch_by, pieces_size, mark_words, goal_words, landing_pieces, switch_pieces, times_if, times, rescale_if, product_start, product_down, less_bound, plus_word, times_width, based, in_row, element_of_two, block_pieces, block_size, entry_pieces, checked, checked_by, address_pieces, load_place, store_place, with_operand, product_with, operated, shifted_up, shifted_down, shifted_down_signed, lowest_if, part_taken, operate_place, change_place, index_added, index_loaded, from_lower, indexes_between, top_from_lower, top_below, times_entry, formed, bounded_address, element_tested, element_address, call_stop, argument_load_size, column_loaded, column_below, row_summed, column_tested, row_address}
+use Rattle.cw_tmpl.specs.Templates.{ended_back, times_before, rescale, rescale_before, product, product_before, quotient, quotient_before, is_checked, word_compared, is_short, template, template_by, branch_by, pieces_size, mark_words, goal_words, landing_pieces, switch_pieces, times_if, times, rescale_if, product_start, product_down, less_bound, plus_word, times_width, based, in_row, element_of_two, block_pieces, block_size, entry_pieces, checked, checked_by, address_pieces, load_place, store_place, with_operand, product_with, operated, shifted_up, shifted_down, shifted_down_signed, lowest_if, part_taken, operate_place, change_place, index_added, index_loaded, from_lower, indexes_between, top_from_lower, top_below, times_entry, formed, bounded_address, element_tested, element_address, call_stop, argument_load_size, column_loaded, column_below, row_summed, column_tested, row_address}
 use Rattle.cw_tmpl.specs.ReferenceCode.{templates, landings, switches, entry_size, landings_place, switches_place, names_of, pieces_of, landing_where, switch_where}
 use Rattle.cw_tmpl.proofs.Sizes.{pieces_by}
 use Rattle.cw_tmpl.specs.Blanks.{FillsBlank, Rise}
@@ -224,6 +224,23 @@ module _ (n : ℕ) (fs : List Family) where
   template-sound names place (order.Start line) h = no h
   template-sound names place _ h = refl
 
+  before-sound : (b : Bool) (k : ℕ) → Sound (times_before b k)
+  before-sound true k = refl
+  before-sound false k = refl
+
+  product-before-sound : (line : ℕ) (s : ℤ) → Sound (product_before line s)
+  product-before-sound line (pos zero) = refl
+  product-before-sound line (pos (suc k)) = sound-both (product_start line) (times_before (2 ^ suc k == 32768) (2 ^ suc k)) refl (before-sound (2 ^ suc k == 32768) (2 ^ suc k))
+  product-before-sound line (negsuc k) = refl
+
+  quotient-before-sound : (line : ℕ) (s : ℤ) → Sound (quotient_before line s)
+  quotient-before-sound line (pos k) = refl
+  quotient-before-sound line (negsuc k) = refl
+
+  ended-sound : (ends : Bool) (whole before : List Coded) (line place to : ℕ) → Sound whole → Sound before → Sound (ended_back ends whole before line place to)
+  ended-sound true whole before line place to h k = sound-both before (checked_by true line (place + pieces_size before) to) k refl
+  ended-sound false whole before line place to h k = h
+
   -- with its jump short or near, and its check whole or a jump back
   checked-sound : (short : Bool) (line place to : ℕ) → Sound (checked_by short line place to)
   checked-sound true line place to = refl
@@ -234,8 +251,12 @@ module _ (n : ℕ) (fs : List Family) where
   alone-sound names place number true (order.Add line) h = refl
   alone-sound names place number true (order.Sub line) h = refl
   alone-sound names place number true (order.Neg line) h = refl
-  alone-sound names place number true (order.Mul (pos zero) line) h = refl
-  alone-sound names place number true (order.Mul s line) h = template-sound names place (order.Mul s line) h
+  alone-sound names place number true (order.Rescale from to line) h =
+      ended-sound (nat_le from to) (rescale line from to) (rescale_before from to) line place (call_place names number) (template-sound names place (order.Rescale from to line) h) (before-sound (2 ^ (to - from) == 32768) (2 ^ (to - from)))
+  alone-sound names place number true (order.Mul s line) h =
+      ended-sound (is_checked s) (product line s) (product_before line s) line place (call_place names number) (template-sound names place (order.Mul s line) h) (product-before-sound line s)
+  alone-sound names place number true (order.Div s line) h =
+      ended-sound true (quotient line s) (quotient_before line s) line place (call_place names number) (template-sound names place (order.Div s line) h) (quotient-before-sound line s)
   alone-sound names place number true (order.Jump m) h = refl
   alone-sound names place number true (order.JumpIf c m) h = refl
   alone-sound names place number true (order.LoopWay []) h = template-sound names place (order.LoopWay []) h

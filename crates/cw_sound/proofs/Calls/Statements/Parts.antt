@@ -1,5 +1,5 @@
 -- The calls of statements fit, where those of their expressions do.
-use Rattle.std.proofs.Common.{◌≡◌, ℕ, List, [], ◌∷◌, ◌++◌, length, map, Bool, true, false, ◌==◌, if◌then◌else◌, Option, Some, refl, sym, subst}
+use Rattle.std.proofs.Common.{◌≡◌, ℕ, List, [], ◌∷◌, ◌++◌, length, map, Bool, true, false, ◌==◌, Option, Some, refl, sym, subst, if◌then◌else◌}
 use Rattle.cw_tree.specs.declared.leaf.Position.{Position}
 use Rattle.cw_tree.specs.declared.leaf.RawName.{RawName}
 use Rattle.cw_tree.specs.declared.expression.RawBits.{RawBits}
@@ -33,12 +33,13 @@ use Rattle.cw_unit.specs.declared.unit.Stmt.TheFolds.{fold-roll-Stmt}
 use Rattle.cw_deepest.specs.Programs.Calls as calls
 use Rattle.cw_deepest.specs.Programs.Calls.{Calls, in_expression, in_condition, in_reference, in_element, in_jump, in_statement, statement_step}
 use Rattle.cw_sound.proofs.Expressions.Judging.{NoFault, keeps_both, both_free}
-use Rattle.cw_sound.proofs.Statements.Keeping.{few_keeps, few_each_keeps, whole_keeps, test_keeps, place_keeps, elements_keep}
+use Rattle.cw_sound.proofs.Statements.Keeping.{whole_keeps, test_keeps, place_keeps, elements_keep}
 use Rattle.cw_sound.proofs.Calls.Trees.Parts.{Context, AllFit, Rights, none, more}
 use Rattle.cw_sound.proofs.Calls.Trees.Nodes.{joined}
 use Rattle.cw_sound.proofs.Calls.Trees.Rules.{sounds_for}
 use Rattle.cw_sound.proofs.Calls.Trees.Arguments.{call_fits}
 use Rattle.cw_sound.proofs.Calls.Trees.Trees.{expression_is_right, condition_is_right, reference_is_right}
+use Rattle.cw_sound.proofs.Items.Keeping.{keeps_few, keeps_few_each}
 
 abbrev statement_layer : Stmt-F Stmt → Calls
 statement_layer x = statement_step (map-Stmt Stmt Calls in_statement x)
@@ -72,15 +73,15 @@ module _ (named : Named) (numbers : Numbers) (body : Context named numbers) wher
 
   pub expression_fits : (e : RawExpr) (f : ℕ) → body.Stood (expression_uses e reading.Value) → NoFault (expression_judged named f e) → All (in_expression (expression_of named numbers e))
   expression_fits e f s free =
-      (expression_is_right named numbers body e reading.Value s).fits f (both_free ((expression named e).faults f) (few_operators (expression_operators e)) (few_keeps (expression_operators e)) free).0 false
+      (expression_is_right named numbers body e reading.Value s).fits f (both_free ((expression named e).faults f) (few_operators (expression_operators e)) (keeps_few (expression_operators e)) free).0 false
 
   pub test_fits : (c : RawCond) → body.Stood (condition_uses c reading.Value) → NoFault (condition_judged named c) → All (in_condition (condition_of named numbers c))
   test_fits c s free =
-      (condition_is_right named numbers body c reading.Value s).fits 0 (both_free ((condition named c).faults 0) (few_operators (condition_operators c)) (few_keeps (condition_operators c)) free).0
+      (condition_is_right named numbers body c reading.Value s).fits 0 (both_free ((condition named c).faults 0) (few_operators (condition_operators c)) (keeps_few (condition_operators c)) free).0
 
   pub place_fits : (r : RawRef) (x : Reading) → body.Stood (reference_uses r x) → NoFault (reference_judged named r) → All (in_reference (reference_of named numbers r))
   place_fits r x s free =
-      (reference_is_right named numbers body r x s).place 0 (both_free ((reference named r).faults 0) (few_each (reference_operators r)) (few_each_keeps (reference_operators r)) free).0
+      (reference_is_right named numbers body r x s).place 0 (both_free ((reference named r).faults 0) (few_each (reference_operators r)) (keeps_few_each (reference_operators r)) free).0
 
   -- ---- the elements of a FOR
 
@@ -93,7 +94,7 @@ module _ (named : Named) (numbers : Numbers) (body : Context named numbers) wher
   element_fits (felem.Step a b d) f s free =
       let first = body.split (expression_uses a reading.Value) (expression_uses b reading.Value ++ expression_uses d reading.Value) s in
       let rest = body.split (expression_uses b reading.Value) (expression_uses d reading.Value) first.1 in
-      let calm = both_free (expression_judged named f a) (both (expression_judged named f b) (expression_judged named f d)) (keeps_both (expression_judged named f b) (expression_judged named f d) (whole_keeps named f b) (whole_keeps named f d)) free in
+      let calm = both_free (expression_judged named f a) (both (expression_judged named f b) (expression_judged named f d)) (keeps_both (whole_keeps named f b) (whole_keeps named f d)) free in
       let calms = both_free (expression_judged named f b) (expression_judged named f d) (whole_keeps named f d) calm.1 in
       let x = in_expression (expression_of named numbers b) in
       let y = in_expression (expression_of named numbers d) in
@@ -140,7 +141,7 @@ module _ (named : Named) (numbers : Numbers) (body : Context named numbers) wher
   pub bits_fit : (bits : RawBits) (r : RawRef) (e : RawExpr) → body.Stood (reference_uses r reading.Whole ++ expression_uses e reading.Value) → NoFault (both (bits_judged bits) (both (reference_judged named r) (expression_judged named 0 e))) → Fits (made.bits_assignment named numbers bits r e)
   bits_fit bits r e s free =
       let sides = body.split (reference_uses r reading.Whole) (expression_uses e reading.Value) s in
-      let behind = both_free (bits_judged bits) (both (reference_judged named r) (expression_judged named 0 e)) (keeps_both (reference_judged named r) (expression_judged named 0 e) (place_keeps named r) (whole_keeps named 0 e)) free in
+      let behind = both_free (bits_judged bits) (both (reference_judged named r) (expression_judged named 0 e)) (keeps_both (place_keeps named r) (whole_keeps named 0 e)) free in
       let calm = both_free (reference_judged named r) (expression_judged named 0 e) (whole_keeps named 0 e) behind.1 in
       fits_of (statement.PutBits (made.line_of bits.at) _ _ (reference_of named numbers r) (expression_of named numbers e))
       (joined body.Fit (in_reference (reference_of named numbers r)) (in_expression (expression_of named numbers e)) (place_fits r reading.Whole sides.0 calm.0) (expression_fits e 0 sides.1 calm.1))

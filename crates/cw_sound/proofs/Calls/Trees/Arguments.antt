@@ -86,7 +86,7 @@ module _ (named : Named) (numbers : Numbers) (body : Context named numbers) wher
   arguments_keep : (params : List RawPs) {js : List Judged} {ms : List Made} → Sounds named numbers body js ms → Keeps (arguments_faults named params js)
   arguments_keep [] ss = keeps_fine
   arguments_keep (p ∷ more) no_sound = keeps_fine
-  arguments_keep (p ∷ more) (more_sounds {j = j} {m = m} {js = js} s ss) = keeps_both (argument_faults named p j) (arguments_faults named more js) (argument_keeps j m s p) (arguments_keep more ss)
+  arguments_keep (p ∷ more) (more_sounds {j = j} {m = m} {js = js} s ss) = keeps_both (argument_keeps j m s p) (arguments_keep more ss)
 
   -- arguments one after another
   pub record AllGiven (args : List Argument) (taken : List (Option Spec)) : Type 0 where

@@ -29,7 +29,7 @@ module _ (named : Named) (numbers : Numbers) (body : Context named numbers) wher
 
   tests_keep : {js : List Judged} {cs : List Cond} → Tests named numbers body js cs → Keeps (each_at 0 js)
   tests_keep no_tests = keeps_fine
-  tests_keep (more_tested {j = j} {js = js} t ts) = keeps_both (j.faults 0) (each_at 0 js) (t.keeps 0) (tests_keep ts)
+  tests_keep (more_tested {j = j} {js = js} t ts) = keeps_both (t.keeps 0) (tests_keep ts)
 
   data Conditions : List Cond → Type 0 where
     no_condition : Conditions []
@@ -80,7 +80,7 @@ module _ (named : Named) (numbers : Numbers) (body : Context named numbers) wher
       let w = t reading.Value halves.1 in
       let top : ℕ = max j.shape.natural k.shape.natural in
       record {
-        keeps = λ f. keeps_both (j.faults top) (k.faults top) (v.keeps top) (w.keeps top);
+        keeps = λ f. keeps_both (v.keeps top) (w.keeps top);
         fits = λ f free.
             let frees = both_free (j.faults top) (k.faults top) (w.keeps top) free in
             comparison_fits body.Fit (nodes.comparator o.op) (m.made false) (n.made false) (v.fits top frees.0 false) (w.fits top frees.1 false);

@@ -67,7 +67,7 @@ module _ (named : Named) (numbers : Numbers) (body : Context named numbers) wher
   forced_right t j m x s r h =
       let k = s reading.Value h in
       compound named numbers body (judged.primary_step named (layer.Forced t j)) (simply (nodes.force (fraction_of t) (m.made false))) refl
-      (λ f. keeps_both (type_judged t) (j.faults (fraction_of t)) (keeps_type t) (k.keeps (fraction_of t)))
+      (λ f. keeps_both (keeps_type t) (k.keeps (fraction_of t)))
       (λ f free operand. expression_of body.Fit (unit_layer.Force (fraction_of t) (m.made false)) (k.fits (fraction_of t) (both_free (type_judged t) (j.faults (fraction_of t)) (k.keeps (fraction_of t)) free).1 false))
 
   pub bracket_right : (at : Position) (j : Judged) (m : Made) (x : Uses) → Right named numbers body j m x → Right named numbers body (judged.primary_step named (layer.Bracket at j)) (made.plainly (m.made false)) (λ r. x reading.Value)
@@ -99,9 +99,9 @@ module _ (named : Named) (numbers : Numbers) (body : Context named numbers) wher
       let v = sj reading.Value sides.0 in
       let w = sk reading.Value sides.1 in
       compound named numbers body (judged.expression_step named (layer.Choice at jt j k)) (simply (nodes.choice t (m.made false) (n.made false))) refl
-      (λ f. keeps_both (jt.faults 0) (both (j.faults f) (k.faults f)) (test.keeps 0) (keeps_both (j.faults f) (k.faults f) (v.keeps f) (w.keeps f)))
+      (λ f. keeps_both (test.keeps 0) (keeps_both (v.keeps f) (w.keeps f)))
       (λ f free operand.
-      let frees = both_free (jt.faults 0) (both (j.faults f) (k.faults f)) (keeps_both (j.faults f) (k.faults f) (v.keeps f) (w.keeps f)) free in
+      let frees = both_free (jt.faults 0) (both (j.faults f) (k.faults f)) (keeps_both (v.keeps f) (w.keeps f)) free in
       let rest = both_free (j.faults f) (k.faults f) (w.keeps f) frees.1 in
       choice_fits body.Fit t (m.made false) (n.made false) (test.fits 0 frees.0) (v.fits f rest.0 false) (w.fits f rest.1 false))
 
@@ -152,7 +152,7 @@ module _ (named : Named) (numbers : Numbers) (body : Context named numbers) wher
       let sides = body.split (x reading.Value) (y reading.Value) (body.split (uses_of n (form.Reference (uses.indexed r) 2)) (x reading.Value ++ y reading.Value) h).1 in
       let v = s reading.Value sides.0 in
       let w = t reading.Value sides.1 in
-      placed (judged.reference_step named (layer.Two n j i)) (made.reference_step named numbers (layer.Two n m p)).place refl (λ f. keeps_both (j.faults 0) (i.faults 0) (v.keeps 0) (w.keeps 0))
+      placed (judged.reference_step named (layer.Two n j i)) (made.reference_step named numbers (layer.Two n m p)).place refl (λ f. keeps_both (v.keeps 0) (w.keeps 0))
       (λ f free.
       let frees = both_free (j.faults 0) (i.faults 0) (w.keeps 0) free in
       reference_fits body.Fit _ _ _ (twice_indexed_fits body.Fit (kind_of named n) (item_of named numbers n) (m.made false) (p.made false) (v.fits 0 frees.0 false) (w.fits 0 frees.1 false)))

@@ -1,5 +1,6 @@
 -- One lemma for each rule of expressions with operands: where its parts are right, so is the whole.
-use Rattle.std.proofs.Common.{◌≡◌, ℕ, max, List, [], ◌∷◌, length, Bool, true, false, ◌&&◌, ◌==◌, if◌then◌else◌, Option, Some, None, is_none, refl, sym, ap, ◌∙◌, arith}
+use Rattle.std.proofs.Common.{◌≡◌, ℕ, max, List, [], ◌∷◌, length, Bool, true, false, ◌&&◌, ◌==◌, Option}
+use Rattle.std.proofs.Common.{Some, None, is_none, refl, sym, ap, ◌∙◌, arith, if◌then◌else◌}
 use Rattle.std.proofs.lemmas.Bool.Decides.{nat_tests}
 use Rattle.std.proofs.lemmas.Option.{none-some}
 use Rattle.cw_tree.specs.declared.leaf.RawSign.{RawSign}
@@ -9,22 +10,24 @@ use Rattle.cw_facts.specs.declared.fact.Reading.{Reading}
 use Rattle.cw_facts.specs.Uses.{Uses, reading_of, each_for, operands_for}
 use Rattle.cw_scope.specs.declared.resolve.Named.{Named}
 use Rattle.cw_amount.specs.Amounts.{is_negative}
-use Rattle.cw_scale.specs.declared.fault.Rule.TheVariants as rule
 use Rattle.cw_scale.specs.declared.scales.Shape.{Shape}
 use Rattle.cw_scale.specs.Faults.{Judgement, fine, both}
 use Rattle.cw_scale.specs.Types.{each_bits_judged}
 use Rattle.cw_scale.specs.TypeRules as judged
-use Rattle.cw_scale.specs.TypeRules.{Judged, plain, merged, shape_from, logic_merged, logic_shape_from, each_at, operand_faults, is_division, can_divide, division_faults, factor_faults, scale_before, chain_faults, term_faults, scale_for, logic_faults}
+use Rattle.cw_scale.specs.TypeRules.{Judged, plain, merged, shape_from, logic_merged, logic_shape_from, each_at, operand_faults}
+use Rattle.cw_scale.specs.TypeRules.{factor_faults, scale_before, chain_faults, term_faults, scale_for, logic_faults}
 use Rattle.cw_make_expr.specs.Parts.{Numbers}
 use Rattle.cw_make_expr.specs.Nodes as nodes
-use Rattle.cw_make_expr.specs.Made.{Made, simply, operand_for, logic_from, logic_of, factors_from, term_of, terms_from, signed_term, is_alone, sum_from, sum_of, bits_around, prim_of}
+use Rattle.cw_make_expr.specs.Made.{Made, simply, operand_for, logic_from, logic_of, factors_from, term_of, terms_from}
+use Rattle.cw_make_expr.specs.Made.{signed_term, is_alone, sum_from, sum_of, bits_around, prim_of}
 use Rattle.cw_unit.specs.declared.unit.LogicOp.{LogicOp}
 use Rattle.cw_unit.specs.declared.unit.Expr.{Expr}
 use Rattle.cw_unit.specs.declared.unit.Arg.TheOpen as layer
 use Rattle.cw_deepest.specs.Programs.Calls.{in_expression}
-use Rattle.cw_sound.proofs.Expressions.Judging.{Keeps, NoFault, keeps_fine, keeps_unless, keeps_both, both_free, keeps_each_bits}
+use Rattle.cw_sound.proofs.Expressions.Judging.{Keeps, NoFault, keeps_fine, keeps_both, both_free, keeps_each_bits}
 use Rattle.cw_sound.proofs.Calls.Trees.Parts.{Context, AllFit, Sound, Right, Rights, none, more, Sounds, no_sound, more_sounds}
 use Rattle.cw_sound.proofs.Calls.Trees.Nodes.{expression_of, nothing_fits, logic_fits, added_fits, multiplied_fits, whole_part_fits}
+use Rattle.cw_sound.proofs.Expressions.Several.{AllKeeping, none_keeping, more_keeping, each_keeps, logic_keeps, factor_keeps, chain_keeps, term_keeps}
 
 -- ---- how many
 
@@ -47,13 +50,6 @@ logic_nameless : (s : Shape) (js : List Judged) → s.bare ≡ None → (logic_s
 logic_nameless s [] e = e
 logic_nameless s (j ∷ js) e = logic_nameless (logic_merged false j.shape) js refl
 
-pub factor_keeps : (s : RawFactorSign) (asked f1 f2 : ℕ) → Keeps (factor_faults s asked f1 f2)
-factor_keeps s asked f1 f2 = by_sort (is_division s.op)
-  where
-    by_sort : (b : Bool) → Keeps (division_faults b s asked f1 f2)
-    by_sort true = keeps_unless (can_divide asked f1 f2) rule.ScaleRange s.at
-    by_sort false = keeps_fine
-
 module _ (named : Named) (numbers : Numbers) (body : Context named numbers) where
   abbrev All : Expr → Type 0
   All e = AllFit named numbers body (in_expression e)
@@ -73,6 +69,10 @@ module _ (named : Named) (numbers : Numbers) (body : Context named numbers) wher
       let halves = body.split (x r) (each_for r xs) h in
       more_sounds (s r halves.0) (sounds_for r rest halves.1)
 
+  keeping : {js : List Judged} {ms : List Made} → Sounds named numbers body js ms → AllKeeping js
+  keeping no_sound = none_keeping
+  keeping (more_sounds s ss) = more_keeping s.keeps (keeping ss)
+
   -- the calls of each fit
   pub data Operands : List Made → Type 0 where
     no_operand : Operands []
@@ -80,16 +80,11 @@ module _ (named : Named) (numbers : Numbers) (body : Context named numbers) wher
 
   -- ---- word logic
 
-  logic_keeps : (alone : Bool) (f : ℕ) {js : List Judged} {ms : List Made} → Sounds named numbers body js ms → Keeps (logic_faults alone f js)
-  logic_keeps alone f no_sound = keeps_fine
-  logic_keeps alone f (more_sounds {j = j} {js = js} s ss) =
-      keeps_both (j.faults (scale_for alone f j.shape.operand)) (logic_faults alone f js) (s.keeps (scale_for alone f j.shape.operand)) (logic_keeps alone f ss)
-
   logic_operands : (alone : Bool) (f : ℕ) {js : List Judged} {ms : List Made} → Sounds named numbers body js ms → NoFault (logic_faults alone f js) → Operands ms
   logic_operands alone f no_sound free = no_operand
   logic_operands alone f (more_sounds {j = j} {js = js} s ss) free =
       let k : ℕ = scale_for alone f j.shape.operand in
-      let frees = both_free (j.faults k) (logic_faults alone f js) (logic_keeps alone f ss) free in
+      let frees = both_free (j.faults k) (logic_faults alone f js) (logic_keeps alone f (keeping ss)) free in
       more_operands (s.fits k frees.0) (logic_operands alone f ss frees.1)
 
   logic_all : (op : LogicOp) (e : Expr) {ms : List Made} → All e → Operands ms → All (logic_from op e ms)
@@ -107,7 +102,7 @@ module _ (named : Named) (numbers : Numbers) (body : Context named numbers) wher
   logic_sound op no_sound = nothing_sound
   logic_sound op (more_sounds {j = j} {m = m} s no_sound) =
       record {
-        keeps = λ f. logic_keeps true f (more_sounds s no_sound);
+        keeps = λ f. logic_keeps true f (keeping (more_sounds s no_sound));
         fits = λ f free operand. logic_made op operand (logic_operands true f (more_sounds s no_sound) free);
         bare = s.bare;
       }
@@ -116,7 +111,7 @@ module _ (named : Named) (numbers : Numbers) (body : Context named numbers) wher
       let alone : Bool = length (j ∷ k ∷ js) == 1 in
       compound (logic_judged (j ∷ k ∷ js)) (logic_of op (m ∷ n ∷ ms))
       (ap (λ (b : Bool). (logic_shape_from b (plain 0) (j ∷ k ∷ js)).bare) (not_one j k js) ∙ logic_nameless (plain 0) (j ∷ k ∷ js) refl)
-      (λ f. logic_keeps alone f all) (λ f free operand. logic_made op operand (logic_operands alone f all free))
+      (λ f. logic_keeps alone f (keeping all)) (λ f free operand. logic_made op operand (logic_operands alone f all free))
 
   -- what the whole is wanted for, one alone is
   stood_alone : (r : Reading) (b : Bool) {js : List Judged} {ms : List Made} {xs : List Uses} → Rights named numbers body js ms xs → body.Stood (each_for (reading_of r b) xs) → Sounds named numbers body js ms
@@ -135,7 +130,7 @@ module _ (named : Named) (numbers : Numbers) (body : Context named numbers) wher
   prim_right [] j m x s r h =
       let k = s r h in
       record {
-        keeps = λ f. keeps_both fine (j.faults f) keeps_fine (k.keeps f);
+        keeps = λ f. keeps_both keeps_fine (k.keeps f);
         fits = λ f free operand. k.fits f free operand;
         bare = k.bare;
       }
@@ -143,20 +138,12 @@ module _ (named : Named) (numbers : Numbers) (body : Context named numbers) wher
       let k = s (reading_of r (length (b ∷ bs) == 0)) h in
       let at : ℕ → ℕ = λ f. scale_for (length (b ∷ bs) == 0) f j.shape.operand in
       compound (judged.prim_step named (record { bits = b ∷ bs; primary = j })) (prim_of (b ∷ bs) m) (ap (λ (t : Bool). (logic_merged t j.shape).bare) (not_none b bs))
-      (λ f. keeps_both (each_bits_judged (b ∷ bs)) (j.faults (at f)) (keeps_each_bits (b ∷ bs)) (k.keeps (at f)))
+      (λ f. keeps_both (keeps_each_bits (b ∷ bs)) (k.keeps (at f)))
       (λ f free operand.
       let halves = both_free (each_bits_judged (b ∷ bs)) (j.faults (at f)) (k.keeps (at f)) free in
       bits_fit (b ∷ bs) (m.made (operand_for (length (b ∷ bs) == 0) operand)) (k.fits (at f) halves.1 (operand_for (length (b ∷ bs) == 0) operand)))
 
   -- ---- terms
-
-  chain_keeps : (asked f1 before : ℕ) {js : List Judged} {ms : List Made} (signs : List RawFactorSign) → Sounds named numbers body js ms → Keeps (chain_faults asked f1 before js signs)
-  chain_keeps asked f1 before signs no_sound = keeps_fine
-  chain_keeps asked f1 before [] (more_sounds s ss) = keeps_fine
-  chain_keeps asked f1 before (sign ∷ signs) (more_sounds {j = j} {js = js} s ss) =
-      let n : ℕ = max before j.shape.natural in
-      keeps_both (operand_faults j) (both (factor_faults sign (scale_before js asked n) f1 j.shape.operand) (chain_faults asked n n js signs)) (s.keeps j.shape.operand)
-      (keeps_both (factor_faults sign (scale_before js asked n) f1 j.shape.operand) (chain_faults asked n n js signs) (factor_keeps sign (scale_before js asked n) f1 j.shape.operand) (chain_keeps asked n n signs ss))
 
   chain_all : (asked f1 before : ℕ) (e : Expr) {js : List Judged} {ms : List Made} (signs : List RawFactorSign) → Sounds named numbers body js ms → NoFault (chain_faults asked f1 before js signs) → All e → All (factors_from e ms signs)
   chain_all asked f1 before e signs no_sound free h = h
@@ -164,21 +151,16 @@ module _ (named : Named) (numbers : Numbers) (body : Context named numbers) wher
   chain_all asked f1 before e (sign ∷ signs) (more_sounds {j = j} {m = m} {js = js} s ss) free h =
       let n : ℕ = max before j.shape.natural in
       let sides : Judgement = both (factor_faults sign (scale_before js asked n) f1 j.shape.operand) (chain_faults asked n n js signs) in
-      let keep = chain_keeps asked n n signs ss in
-      let frees = both_free (operand_faults j) sides (keeps_both (factor_faults sign (scale_before js asked n) f1 j.shape.operand) (chain_faults asked n n js signs) (factor_keeps sign (scale_before js asked n) f1 j.shape.operand) keep) free in
+      let keep = chain_keeps asked n n signs (keeping ss) in
+      let frees = both_free (operand_faults j) sides (keeps_both (factor_keeps sign (scale_before js asked n) f1 j.shape.operand) keep) free in
       let rest = both_free (factor_faults sign (scale_before js asked n) f1 j.shape.operand) (chain_faults asked n n js signs) keep frees.1 in
       chain_all asked n n (nodes.multiplied sign.op e (m.made true)) signs ss rest.1 (multiplied_fits body.Fit sign.op e (m.made true) h (s.fits j.shape.operand frees.0 true))
-
-  term_keeps : (f : ℕ) {js : List Judged} {ms : List Made} (signs : List RawFactorSign) → Sounds named numbers body js ms → Keeps (term_faults f js signs)
-  term_keeps f signs no_sound = keeps_fine
-  term_keeps f signs (more_sounds {j = j} {js = js} s ss) =
-      keeps_both (j.faults (scale_before js f j.shape.operand)) (chain_faults f j.shape.operand j.shape.natural js signs) (s.keeps (scale_before js f j.shape.operand)) (chain_keeps f j.shape.operand j.shape.natural signs ss)
 
   term_made : (f : ℕ) {js : List Judged} {ms : List Made} (signs : List RawFactorSign) → Sounds named numbers body js ms → NoFault (term_faults f js signs) → (operand : Bool) → All ((term_of ms signs).made operand)
   term_made f signs no_sound free operand = nothing_fits body.Fit
   term_made f signs (more_sounds {j = j} {m = m} {js = js} {ms = ms} s ss) free operand =
       let k : ℕ = scale_before js f j.shape.operand in
-      let frees = both_free (j.faults k) (chain_faults f j.shape.operand j.shape.natural js signs) (chain_keeps f j.shape.operand j.shape.natural signs ss) free in
+      let frees = both_free (j.faults k) (chain_faults f j.shape.operand j.shape.natural js signs) (chain_keeps f j.shape.operand j.shape.natural signs (keeping ss)) free in
       let first : Bool = operand_for (length ms == 0) operand in
       chain_all f j.shape.operand j.shape.natural (m.made first) signs ss frees.1 (s.fits k frees.0 first)
 
@@ -186,7 +168,7 @@ module _ (named : Named) (numbers : Numbers) (body : Context named numbers) wher
   term_sound signs no_sound = nothing_sound
   term_sound signs (more_sounds {j = j} {m = m} s no_sound) =
       record {
-        keeps = λ f. term_keeps f signs (more_sounds s no_sound);
+        keeps = λ f. term_keeps f signs (keeping (more_sounds s no_sound));
         fits = λ f free operand. term_made f signs (more_sounds s no_sound) free operand;
         bare = s.bare;
       }
@@ -194,21 +176,17 @@ module _ (named : Named) (numbers : Numbers) (body : Context named numbers) wher
       let all = more_sounds s (more_sounds t ss) in
       compound (judged.term_step named (record { operands = j ∷ k ∷ js; operators = signs })) (term_of (m ∷ n ∷ ms) signs)
       (ap (λ (b : Bool). (shape_from b (plain 0) (j ∷ k ∷ js)).bare) (not_one j k js) ∙ shape_nameless (plain 0) (j ∷ k ∷ js) refl)
-      (λ f. term_keeps f signs all) (λ f free operand. term_made f signs all free operand)
+      (λ f. term_keeps f signs (keeping all)) (λ f free operand. term_made f signs all free operand)
 
   pub term_right : (signs : List RawFactorSign) {js : List Judged} {ms : List Made} {xs : List Uses} → Rights named numbers body js ms xs → Right named numbers body (judged.term_step named (record { operands = js; operators = signs })) (term_of ms signs) (λ r. operands_for r xs)
   term_right signs {xs = xs} rs r h = term_sound signs (stood_alone r (length xs == 1) rs h)
 
   -- ---- sums
 
-  pub each_keeps : (f : ℕ) {js : List Judged} {ms : List Made} → Sounds named numbers body js ms → Keeps (each_at f js)
-  each_keeps f no_sound = keeps_fine
-  each_keeps f (more_sounds {j = j} {js = js} s ss) = keeps_both (j.faults f) (each_at f js) (s.keeps f) (each_keeps f ss)
-
   each_operands : (f : ℕ) {js : List Judged} {ms : List Made} → Sounds named numbers body js ms → NoFault (each_at f js) → Operands ms
   each_operands f no_sound free = no_operand
   each_operands f (more_sounds {j = j} {js = js} s ss) free =
-      let frees = both_free (j.faults f) (each_at f js) (each_keeps f ss) free in
+      let frees = both_free (j.faults f) (each_at f js) (each_keeps f (keeping ss)) free in
       more_operands (s.fits f frees.0) (each_operands f ss frees.1)
 
   terms_all : (e : Expr) {ms : List Made} (signs : List RawSign) → All e → Operands ms → All (terms_from e ms signs)
@@ -232,13 +210,13 @@ module _ (named : Named) (numbers : Numbers) (body : Context named numbers) wher
       → Sound named numbers body (judged.sum_step named (record { sign = sign; operands = js; operators = signs })) (sum_of sign ms signs)
   sum_of_several sign signs {js = js} {ms = ms} ss several =
       compound (judged.sum_step named (record { sign = sign; operands = js; operators = signs })) (sum_of sign ms signs)
-      (ap (λ (b : Bool). (shape_from b (plain 0) js).bare) several ∙ shape_nameless (plain 0) js refl) (λ f. each_keeps f ss) (λ f free operand. sum_made sign signs (each_operands f ss free) operand)
+      (ap (λ (b : Bool). (shape_from b (plain 0) js).bare) several ∙ shape_nameless (plain 0) js refl) (λ f. each_keeps f (keeping ss)) (λ f free operand. sum_made sign signs (each_operands f ss free) operand)
 
   sum_sound : (sign : Option RawSign) (signs : List RawSign) {js : List Judged} {ms : List Made} → Sounds named numbers body js ms → Sound named numbers body (judged.sum_step named (record { sign = sign; operands = js; operators = signs })) (sum_of sign ms signs)
   sum_sound sign signs no_sound = sum_of_several sign signs no_sound refl
   sum_sound None signs (more_sounds s no_sound) =
       record {
-        keeps = λ f. each_keeps f (more_sounds s no_sound);
+        keeps = λ f. each_keeps f (keeping (more_sounds s no_sound));
         fits = λ f free operand. sum_made None signs (each_operands f (more_sounds s no_sound) free) operand;
         bare = s.bare;
       }

@@ -43,7 +43,8 @@ module _ (R R' : RattleType) (h : R.Denot → R'.Denot) where
   the_places alike = view_places field (list this) view (λ X Y k u. refl) (λ X u. refl) R.Denot R'.Denot h (outer.the_row R).coded (outer.the_row R').coded
       (invariant R.Denot) (invariant R'.Denot) (λ u p q. refl) (λ u p q. refl) (λ u e. tt) (λ u e. tt)
       (over (inner.the_row R)) (over (inner.the_row R'))
-      (struct_places (inner.the_type R) (inner.the_type R') (vec.mapped h, tt) _ (λ d. refl) refl (laid _ _ _ (vec.the_places allocator.the_row ghosts R R' h alike), tt))
+      (struct_places (inner.the_type R) (inner.the_type R') (vec.mapped h, tt) _ (λ d. refl) refl
+      (laid _ _ _ (vec.the_places allocator.the_row ghosts R R' h alike), tt))
 
   pub the_codes_placed : Recodes R R' h → Recodes (outer.the_row R) (outer.the_row R') ((the_former this).map R.Denot R'.Denot h)
   the_codes_placed recodes items = sym (code_map R.coded.code R'.coded.code h (λ x. sym (recodes x)) items)

@@ -10,8 +10,7 @@ use Rattle.cw_sound.proofs.Expressions.Standing.{split}
 use Rattle.cw_sound.proofs.Expressions.Whole.{as_value}
 use Rattle.cw_sound.proofs.Ranges.Arguments.{call_given}
 use Rattle.cw_sound.proofs.Ranges.Rules.{sounds}
-use Rattle.cw_sound.proofs.Ranges.Trees.{expression_is_right, condition_is_right, reference_is_right}
-use Rattle.cw_sound.proofs.Ranges.Whole.{each_right}
+use Rattle.cw_sound.proofs.Ranges.Trees.{expression_is_right, condition_is_right, reference_is_right, each_right}
 use Rattle.cw_sound.proofs.laws.ranges.expressions.Goals as goal
 
 pub returns-clause-expression : goal.returns-clause-expression

@@ -1,0 +1,249 @@
+//! What orders of a block name: a place, a use, bounds, an element, or what is formed of an index behind its bounds.
+ghost use Rattle.std.specs.Prelude.{◌≡◌, ◌<◌, ◌-ℤ◌, slice_get};
+ghost use Rattle.cw_tmpl.specs.Blocks.{use_of, zero_word, address_test, bounds_at, bounds_test, tested_by};
+ghost use Rattle.cw_tmpl.specs.Blocks.{is_save, is_load, element_addressed, element_bounded};
+ghost use Rattle.cw_tmpl.specs.Blocks.{element_behind, element_at, place_at, is_within, form_of, entries_within, form_within};
+
+use crate::blocks::{Bounds, Element, Form, Test, Use, orders_of_address};
+use cw_order::{Order, Place};
+
+pub(crate) fn place_at(orders: &[Order]) -> Option<Place>
+    ensures { result ≡ place_at orders.now }
+{
+    match orders.first() {
+        Some(Order::Home { family, offset }) => Some(Place::Word {
+            family: *family,
+            offset: *offset,
+        }),
+        Some(Order::FrameHome(offset)) => Some(Place::Frame(*offset)),
+        _ => None,
+    }
+}
+
+pub(crate) fn use_at(orders: &[Order], place: usize) -> Option<Use>
+    ensures { result ≡ use_of (slice_get orders.now place) }
+{
+    match orders.get(place) {
+        Some(Order::Add(line)) => Some(Use::Add(*line)),
+        Some(Order::Sub(line)) => Some(Use::Subtract(*line)),
+        Some(Order::Mul { power: 0, line }) => Some(Use::Multiply(*line)),
+        Some(Order::And) => Some(Use::Mask),
+        Some(Order::Or) => Some(Use::Union),
+        Some(Order::Xor) => Some(Use::Differ),
+        Some(Order::JumpIf { comparator, mark }) => Some(Use::Compare {
+            comparator: *comparator,
+            mark: *mark,
+        }),
+        _ => None,
+    }
+}
+
+/// The offset of the word that index 0 names, where it is known to be in the data area.
+fn zero_word(lower: i16, span: u16, first: u16) -> Option<u16>
+    ensures { result ≡ zero_word lower span first }
+{
+    if 0 < lower {
+        return None;
+    }
+    let below = lower.unsigned_abs();
+    if below < span {
+        first.checked_add(below)
+    } else {
+        None
+    }
+}
+
+/// The test of the address, where one compare is enough.
+fn address_test(lower: i16, span: u16, first: u16) -> Option<Test>
+    ensures { result ≡ address_test (zero_word lower span first) }
+{
+    let zero = zero_word(lower, span, first)?;
+    Some(Test::Address { zero })
+}
+
+/// The bounds that the order at a place compares an index with.
+pub(crate) fn bounds_at(orders: &[Order], place: usize) -> Option<Bounds>
+    ensures { result ≡ bounds_at (slice_get orders.now place) }
+{
+    match orders.get(place) {
+        Some(Order::InBounds { lower, upper, line }) => Some(Bounds {
+            lower: *lower,
+            upper: *upper,
+            line: *line,
+        }),
+        _ => None,
+    }
+}
+
+/// The test of an index with bounds, where an element begins at the lower one and all words between them are known to be in the data area.
+fn bounds_test(bounds: Bounds, begins: i16, span: u16) -> Option<Test>
+    ensures { result ≡ bounds_test bounds begins span }
+{
+    let Bounds { lower, upper, line } = bounds;
+    let last = i32::from(upper) - i32::from(lower);
+    if lower == begins && 0 <= last && last < i32::from(span) {
+        Some(Test::Bounds { upper, line })
+    } else {
+        None
+    }
+}
+
+/// The same with the bounds at a place.
+fn tested_by(orders: &[Order], place: usize, begins: i16, span: u16) -> Option<Test>
+    ensures { result ≡ tested_by (bounds_at (slice_get orders.now place)) begins span }
+{
+    let bounds = bounds_at(orders, place)?;
+    bounds_test(bounds, begins, span)
+}
+
+pub(crate) fn is_save(orders: &[Order], place: usize) -> bool
+    ensures { result ≡ is_save (slice_get orders.now place) }
+{
+    matches!(orders.get(place), Some(Order::Save))
+}
+
+fn is_load(orders: &[Order], place: usize) -> bool
+    ensures { result ≡ is_load (slice_get orders.now place) }
+{
+    matches!(orders.get(place), Some(Order::Load))
+}
+
+/// The element whose index stands at a place, where the orders at two places make its address.
+fn element_addressed(index: Place, orders: &[Order], puts: usize, forms: usize) -> Option<Element>
+    ensures { result ≡ element_addressed index (slice_get orders.now puts) (slice_get orders.now forms) }
+{
+    match (orders.get(puts), orders.get(forms)) {
+        (Some(Order::Home { family, offset }), Some(Order::Element { lower, span, line })) => {
+            let test = address_test(*lower, *span, *offset)?;
+            Some(Element {
+                index,
+                family: *family,
+                first: *offset,
+                lower: *lower,
+                span: *span,
+                line: *line,
+                test,
+            })
+        }
+        _ => None,
+    }
+}
+
+/// The same where an order before them compares the index with bounds.
+fn element_bounded(
+    index: Place,
+    orders: &[Order],
+    bounds: usize,
+    puts: usize,
+    forms: usize,
+) -> Option<Element>
+    ensures { result ≡ element_bounded index (slice_get orders.now bounds) (slice_get orders.now puts) (slice_get orders.now forms) }
+{
+    match (orders.get(puts), orders.get(forms)) {
+        (Some(Order::Home { family, offset }), Some(Order::Element { lower, span, line })) => {
+            let test = tested_by(orders, bounds, *lower, *span)?;
+            Some(Element {
+                index,
+                family: *family,
+                first: *offset,
+                lower: *lower,
+                span: *span,
+                line: *line,
+                test,
+            })
+        }
+        _ => None,
+    }
+}
+
+/// The element whose index stands at a place, where four orders behind its address make the address of one, or five with a test of its bounds.
+pub(crate) fn element_behind(index: Place, orders: &[Order], behind: usize) -> Option<Element>
+    requires { behind < 8 }
+    ensures { result ≡ element_behind index behind orders.now }
+{
+    if !is_load(orders, behind) {
+        None
+    } else if is_save(orders, behind + 1) {
+        element_addressed(index, orders, behind + 2, behind + 3)
+    } else if is_save(orders, behind + 2) {
+        element_bounded(index, orders, behind + 1, behind + 3, behind + 4)
+    } else {
+        None
+    }
+}
+
+/// The element whose address these orders make.
+pub(crate) fn element_at(orders: &[Order]) -> Option<Element>
+    ensures { result ≡ element_at (place_at orders.now) orders.now }
+{
+    let index = place_at(orders)?;
+    element_behind(index, orders, orders_of_address(index))
+}
+
+/// What the order at a place forms of an index that has been compared with bounds from a lower one.
+pub(crate) fn form_at(orders: &[Order], place: usize, lower: i16) -> Option<Form>
+    ensures { result ≡ form_of lower (slice_get orders.now place) }
+{
+    match orders.get(place) {
+        Some(
+            Order::Element {
+                lower: begins,
+                span,
+                line,
+            },
+        ) if *begins == lower => Some(Form::Element {
+            span: *span,
+            line: *line,
+        }),
+        Some(
+            Order::Entry {
+                width,
+                word,
+                span,
+                line,
+            },
+        ) => Some(Form::Entry {
+            width: *width,
+            word: *word,
+            span: *span,
+            line: *line,
+        }),
+        _ => None,
+    }
+}
+
+/// Whether the word at the upper bound, counted from the lower one, is among so many.
+pub(crate) fn is_within(lower: i16, upper: i16, span: u16) -> bool
+    ensures { result ≡ is_within (upper -ℤ lower) span }
+{
+    let last = i32::from(upper) - i32::from(lower);
+    0 <= last && last < i32::from(span)
+}
+
+/// Whether a word of each entry from 0 to the upper bound is among so many.
+fn entries_within(lower: i16, upper: i16, width: u16, word: u16, span: u16) -> bool
+    ensures { result ≡ entries_within lower upper width word span }
+{
+    lower == 0
+        && 0 <= upper
+        && u32::from(upper.unsigned_abs()) * u32::from(width) + u32::from(word) < u32::from(span)
+}
+
+/// Whether all indexes between the bounds name words that are known to be in the data area.
+pub(crate) fn form_within(bounds: Bounds, first: u16, form: Form) -> bool
+    ensures { result ≡ form_within bounds first form }
+{
+    let Bounds { lower, upper, .. } = bounds;
+    match form {
+        Form::Element { span, .. } => is_within(lower, upper, span),
+        Form::Entry {
+            width,
+            word,
+            span,
+            ..
+        } => {
+            entries_within(lower, upper, width, word, span)
+                && u32::from(first) + u32::from(word) < 65_536
+        }
+    }
+}
