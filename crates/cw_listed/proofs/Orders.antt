@@ -17,9 +17,10 @@ use Rattle.cw_tmpl.specs.declared.pieces.Coded.TheVariants as coded
 use Rattle.cw_tmpl.specs.Mnemonics.{ax, cx, at_bx, move, operate, change}
 use Rattle.cw_tmpl.specs.Mnemonics.{shift_up, shift_down, shift_down_signed, shift_up_once, shift_down_once, shift_down_signed_once}
 use Rattle.cw_tmpl.specs.Library.{overflow_entry, address_entry}
-use Rattle.cw_tmpl.specs.Names.{Names, mark_place}
+use Rattle.cw_tmpl.specs.Names.{Names, mark_place, call_place}
 use Rattle.cw_tmpl.specs.Templates.{times_if, times, shifted, shifted_up, shifted_down, shifted_down_signed, lowest_if, part_taken, store_part}
-use Rattle.cw_tmpl.specs.Templates.{rescale_if, product_down, product, quotient, less_bound, plus_word}
+use Rattle.cw_tmpl.specs.Templates.{rescale_if, rescale, product_down, product, quotient, less_bound, plus_word, pieces_size, checked_by}
+use Rattle.cw_tmpl.specs.Templates.{ended_back, times_before, rescale_before, product_before, quotient_before, is_checked}
 use Rattle.cw_tmpl.specs.Templates.{times_width, based, element, in_row, element_of_two, entry, in_bounds, entered, mark_words, goal_words, loop_ways}
 use Rattle.cw_tmpl.specs.Templates.{step_taken, switch_pieces, landing_pieces, entry_pieces, template, short_template, template_by}
 use Rattle.cw_listed.proofs.Walk.{Told, both}
@@ -71,6 +72,25 @@ product_told line (negsuc n) = lowered_told line (nat_lt n 15) n
 quotient_told : (line : ℕ) (power : ℤ) → Told (quotient line power)
 quotient_told line (pos n) = refl
 quotient_told line (negsuc n) = refl
+
+-- ---- checks that jump back
+
+back_told : (ends : Bool) (whole before : List Coded) (line place to : ℕ) → Told whole → Told before → Told (ended_back ends whole before line place to)
+back_told true whole before line place to h k = both before (checked_by true line (place + pieces_size before) to) k refl
+back_told false whole before line place to h k = h
+
+times_before_told : (top : Bool) (n : ℕ) → Told (times_before top n)
+times_before_told true n = refl
+times_before_told false n = refl
+
+product_before_told : (line : ℕ) (power : ℤ) → Told (product_before line power)
+product_before_told line (pos zero) = refl
+product_before_told line (pos (suc n)) = times_before_told (2 ^ suc n == 32768) (2 ^ suc n)
+product_before_told line (negsuc n) = refl
+
+quotient_before_told : (line : ℕ) (power : ℤ) → Told (quotient_before line power)
+quotient_before_told line (pos n) = refl
+quotient_before_told line (negsuc n) = refl
 
 -- ---- addresses
 
@@ -163,9 +183,15 @@ short_told : (names : Names) (place number : ℕ) (o : Order) → Told (short_te
 short_told names place number (order.Add line) = refl
 short_told names place number (order.Sub line) = refl
 short_told names place number (order.Neg line) = refl
-short_told names place number (order.Mul (pos zero) line) = refl
-short_told names place number (order.Mul (pos (suc n)) line) = product_told line (pos (suc n))
-short_told names place number (order.Mul (negsuc n) line) = product_told line (negsuc n)
+short_told names place number (order.Rescale from to line) =
+    back_told (nat_le from to) (rescale line from to) (rescale_before from to) line place (call_place names number)
+    (rescaled_told (nat_le from to) (2 ^ (to - from) == 32768) line from to) (times_before_told (2 ^ (to - from) == 32768) (2 ^ (to - from)))
+short_told names place number (order.Mul power line) =
+    back_told (is_checked power) (product line power) (product_before line power) line place (call_place names number) (product_told line power)
+    (product_before_told line power)
+short_told names place number (order.Div power line) =
+    back_told true (quotient line power) (quotient_before line power) line place (call_place names number) (quotient_told line power)
+    (quotient_before_told line power)
 short_told names place number (order.Jump mark) = refl
 short_told names place number (order.JumpIf c mark) = refl
 short_told names place number (order.LoopWay []) = refl
