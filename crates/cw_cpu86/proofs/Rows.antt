@@ -44,13 +44,14 @@ byte_and_word s f w e is =
 
 -- ---- operands in memory and registers
 
--- [BX]
-pub at_bx : (s : State) (m : ℕ) → m ≡ byte_behind s 1 → m < 64 → m % 8 ≡ 7 → NamesOperand s (m / 8 % 8) (rms.Mem (record { cs = false; place = Plain 7 })) 2
-at_bx s m is low form =
-    let named : m ≡ mod_reg_rm 0 (m / 8 % 8) 7 = omega arith in
+-- [BX], [SI]
+pub at_plain : (s : State) (m form : ℕ) → m ≡ byte_behind s 1 → m < 64 → m % 8 ≡ form → form ≢ 6
+    → NamesOperand s (m / 8 % 8) (rms.Mem (record { cs = false; place = Plain form })) 2
+at_plain s m form is low is_form other =
+    let named : m ≡ mod_reg_rm 0 (m / 8 % 8) form = omega arith in
     record {
-      valid = (omega arith, λ e. omega (arith, e));
-      stands = two_bytes s (opcode_at s) (mod_reg_rm 0 (m / 8 % 8) 7) refl (sym named ∙ is);
+      valid = (omega arith, other);
+      stands = two_bytes s (opcode_at s) (mod_reg_rm 0 (m / 8 % 8) form) refl (sym named ∙ is);
       length = λ opcode. refl;
     }
 
@@ -70,18 +71,18 @@ at_offset s m at is low form small word_is =
       length = λ opcode. refl;
     }
 
--- [BP+byte]
-pub at_bp : (s : State) (m by : ℕ) → m ≡ byte_behind s 1 → 64 ≤ m → m < 128 → m % 8 ≡ 6 → by < 2 ^ 8 → by ≡ byte_behind s 2
-    → NamesOperand s (m / 8 % 8) (rms.Mem (record { cs = false; place = Near 6 by })) 3
-at_bp s m by is high low form small by_is =
-    let named : byte_behind s 1 ≡ mod_reg_rm 1 (m / 8 % 8) 6 = sym is ∙ omega arith in
+-- [BP+byte], [BX+byte]
+pub at_near : (s : State) (m form by : ℕ) → m ≡ byte_behind s 1 → 64 ≤ m → m < 128 → m % 8 ≡ form → by < 2 ^ 8 → by ≡ byte_behind s 2
+    → NamesOperand s (m / 8 % 8) (rms.Mem (record { cs = false; place = Near form by })) 3
+at_near s m form by is high low is_form small by_is =
+    let named : byte_behind s 1 ≡ mod_reg_rm 1 (m / 8 % 8) form = sym is ∙ omega arith in
     let rest = byte_behind s 3 ∷ byte_behind s 4 ∷ byte_behind s 5 ∷ byte_behind s 6 ∷ [] in
     record {
       valid = (omega arith, small);
       stands = (
         rest,
         code_bytes s ∙ ap (λ x. opcode_at s ∷ x ∷ byte_behind s 2 ∷ rest) named
-            ∙ ap (λ x. opcode_at s ∷ mod_reg_rm 1 (m / 8 % 8) 6 ∷ x ∷ rest) (sym by_is),
+            ∙ ap (λ x. opcode_at s ∷ mod_reg_rm 1 (m / 8 % 8) form ∷ x ∷ rest) (sym by_is),
       );
       length = λ opcode. refl;
     }

@@ -12,10 +12,14 @@ use crate::memory::{read_byte, read_word};
 use crate::operands::sign_extended;
 use cw_alu86::{alu16, holds, shl16};
 
-// ADD, SUB and CMP, by number among the eight operations.
+// ADD, OR, SUB, XOR and CMP, by number among the eight operations.
 const ADD: u8 = 0;
 
+const OR: u8 = 1;
+
 const SUB: u8 = 5;
+
+const XOR: u8 = 6;
 
 const CMP: u8 = 7;
 
@@ -74,10 +78,12 @@ impl Cpu {
                 self.jump_where(opcode - 0x70);
                 true
             }
-            // ADD, SUB and CMP of a register and an operand
+            // ADD, SUB, CMP, XOR and OR of a register and an operand
             0x03 => self.operate_operand(ADD),
             0x2B => self.operate_operand(SUB),
             0x3B => self.operate_operand(CMP),
+            0x33 => self.operate_operand(XOR),
+            0x0B => self.operate_operand(OR),
             // of AX and a number
             0x05 => {
                 self.operate_number(ADD);
@@ -173,7 +179,7 @@ impl Cpu {
         u16::from_le_bytes([self.byte_behind(by), self.byte_behind(by + 1)])
     }
 
-    // A word in memory that the bytes behind the opcode name: [BX], [BP+byte] or [offset].
+    // A word in memory that the bytes behind the opcode name: [BX], [SI], [BX+byte], [BP+byte] or [offset].
     #[inline(always)]
     fn place_behind(&self, mode: u8) -> Option<Located>
         requires { mode ≡ byte_behind self.now 1 }
@@ -194,22 +200,39 @@ impl Cpu {
                     offset: self.word_behind(2),
                     length: 4,
                 })
+            } else if form == 4 {
+                Some(Located {
+                    segment: DATA_SEGMENT,
+                    offset: self.registers[6],
+                    length: 2,
+                })
             } else {
                 None
             }
-        } else if mode < 128 && form == 6 {
-            let by = self.byte_behind(2);
-            Some(Located {
-                segment: STACK_SEGMENT,
-                offset: self.registers[5].wrapping_add(sign_extended(by)),
-                length: 3,
-            })
+        } else if mode < 128 {
+            if form == 6 {
+                let by = self.byte_behind(2);
+                Some(Located {
+                    segment: STACK_SEGMENT,
+                    offset: self.registers[5].wrapping_add(sign_extended(by)),
+                    length: 3,
+                })
+            } else if form == 7 {
+                let by = self.byte_behind(2);
+                Some(Located {
+                    segment: DATA_SEGMENT,
+                    offset: self.registers[3].wrapping_add(sign_extended(by)),
+                    length: 3,
+                })
+            } else {
+                None
+            }
         } else {
             None
         }
     }
 
-    // A word operand that the bytes behind the opcode name: a register, [BX], [BP+byte] or [offset].
+    // A word operand that the bytes behind the opcode name: a register, or a word in memory.
     #[inline(always)]
     fn operand_behind(&self, mode: u8) -> Option<Named>
         requires { mode ≡ byte_behind self.now 1 }
