@@ -24,7 +24,8 @@ use Rattle.cw_tmpl.specs.Named.{is_named_label, is_named_switch}
 use Rattle.cw_tmpl.specs.Blocks.{block_at, orders_left}
 use Rattle.cw_tmpl.specs.Pieces.{blanks, relocations}
 use Rattle.cw_order.specs.declared.order.Order.TheVariants as order
-use Rattle.cw_tmpl.specs.Templates.{Forms, is_short, template, back_jump, branch_by, checked_by, pieces_size, distance, number_compared, goal_words, mark_words, loop_way, switch_tested, switch_way, switch_pieces, with_both_bounds, block_pieces, block_size, entry_pieces, argument_load_size}
+use Rattle.cw_tmpl.specs.Templates.{template, back_jump, branch_by, checked_by, pieces_size, distance, number_compared, goal_words, mark_words, loop_way, switch_tested, switch_way, switch_pieces, with_both_bounds, block_pieces, block_size, entry_pieces, argument_load_size}
+use Rattle.cw_tmpl.specs.ShortForms.{Forms, is_short}
 use Rattle.cw_tmpl.specs.ReferenceCode.{templates, landings, switches, places_from, entry_size, landings_place, switches_place, names_of, pieces_of, landing_where, switch_where}
 use Rattle.cw_tmpl.proofs.Sizes.{size_to, size_everywhere, size_of_templates, landings_at}
 use Rattle.cw_tmpl.proofs.Ways.{landing_long, routine_long, size_of_switch, size_of_landings}

@@ -18,7 +18,7 @@ ghost use Rattle.cw_tmpl.specs.Templates.{branch_by, template_by, operated, word
 
 use crate::calling::frame_field;
 use crate::checks::{put_check, put_count};
-use crate::indexes::{indexes_to, put_top_below};
+use crate::indexes::{indexes_to, put_times_entry, put_top_below, put_top_from_lower};
 use crate::jumping::{condition, distance, opposite, short_distance};
 use crate::orders::{put_order, put_short_order};
 use crate::parts::{put_part_taken, put_shifted_down_signed, put_shifted_up};
@@ -485,31 +485,6 @@ fn put_compare_word(
 {
     put_word_compared(code, offset, with)?;
     put_branch(code, short, comparator, to)
-}
-
-/// Adds AX less a lower bound.
-pub(crate) fn put_top_from_lower(code: &mut Assembly, lower: i16) -> Result<(), NoMemory>
-    ensures { OnOk result (Adds code.old (top_from_lower lower) code.new) }
-{
-    if lower == 0 {
-        Ok(())
-    } else {
-        code.put_all(&[Coded::Whole(with_number(5, lower.cast_unsigned()))])
-    }
-}
-
-/// Adds AX, which counts entries, times their words.
-fn put_times_entry(code: &mut Assembly, width: u16) -> Result<(), NoMemory>
-    ensures { OnOk result (Adds code.old (times_entry width) code.new) }
-{
-    if width == 1 {
-        Ok(())
-    } else {
-        code.put_all(&[
-            Coded::Whole(set_word(BX, width)),
-            Coded::Whole(multiply(BX)),
-        ])
-    }
 }
 
 /// Adds the address of a word of the entry whose number is in AX.

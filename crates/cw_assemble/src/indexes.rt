@@ -4,15 +4,15 @@ ghost use Rattle.cw_i86.specs.declared.instr.Instr.TheVariants as i86;
 ghost use Rattle.cw_tmpl.specs.declared.pieces.Coded.TheVariants as coded;
 ghost use Rattle.cw_tmpl.specs.Assembling.{Adds};
 ghost use Rattle.cw_tmpl.specs.Library.{address_entry};
-ghost use Rattle.cw_tmpl.specs.Mnemonics.{move};
-ghost use Rattle.cw_tmpl.specs.Templates.{index_by, less_bound, plus_word, times, times_width, base_kept, based, element, in_row, element_of_two};
-ghost use Rattle.cw_tmpl.specs.Templates.{entry, in_area, call_at_line, indexes_between, top_below, with_both_bounds, in_bounds};
+ghost use Rattle.cw_tmpl.specs.Mnemonics.{move, add};
+ghost use Rattle.cw_tmpl.specs.Templates.{index_by, less_bound, plus_word, times, times_width, base_kept, based, element, in_row, element_of_two, element_inside};
+ghost use Rattle.cw_tmpl.specs.Templates.{top_from_lower, times_entry, entry, in_area, call_at_line, indexes_between, top_below, with_both_bounds, in_bounds};
 
 use crate::arithmetic::put_times;
 use cw_i86::Instr;
 use cw_tmpl::instructions::{
-    AX, CX, DI, DX, SI, add, compare, copy, jump_if_at_most, jump_if_below, jump_if_no_overflow,
-    jump_if_not_less, set_word, with_number,
+    AX, BX, CX, DI, DX, SI, add, compare, copy, jump_if_at_most, jump_if_below,
+    jump_if_no_overflow, jump_if_not_less, multiply, set_word, with_number,
 };
 use cw_tmpl::library::{ADDRESS, BOUNDS};
 use cw_tmpl::{Assembly, Coded, Target};
@@ -137,6 +137,61 @@ pub(crate) fn put_element_of_two(
     put_less_bound(code, line, second)?;
     put_place_kept(code)?;
     put_row(code, line, lower, width)
+}
+
+/// Adds AX less a lower bound.
+pub(crate) fn put_top_from_lower(code: &mut Assembly, lower: i16) -> Result<(), NoMemory>
+    ensures { OnOk result (Adds code.old (top_from_lower lower) code.new) }
+{
+    if lower == 0 {
+        Ok(())
+    } else {
+        code.put_all(&[Coded::Whole(with_number(5, lower.cast_unsigned()))])
+    }
+}
+
+/// Adds AX, which counts entries or rows, times their words.
+pub(crate) fn put_times_entry(code: &mut Assembly, width: u16) -> Result<(), NoMemory>
+    ensures { OnOk result (Adds code.old (times_entry width) code.new) }
+{
+    if width == 1 {
+        Ok(())
+    } else {
+        code.put_all(&[
+            Coded::Whole(set_word(BX, width)),
+            Coded::Whole(multiply(BX)),
+        ])
+    }
+}
+
+/// Adds the sums of the row, the place in it and the base.
+fn put_sums(code: &mut Assembly) -> Result<(), NoMemory>
+    ensures { OnOk result (Adds code.old (coded.Whole (add 0 1) ∷ coded.Whole (add 0 6) ∷ []) code.new) }
+{
+    code.put_all(&[Coded::Whole(add(AX, CX)), Coded::Whole(add(AX, SI))])
+}
+
+/// Adds the code from the index of the row on, where all numbers fit.
+fn put_row_inside(code: &mut Assembly, lower: i16, width: u16) -> Result<(), NoMemory>
+    ensures { OnOk result (Adds code.old (top_from_lower lower ++ (times_entry width ++ coded.Whole (add 0 1) ∷ coded.Whole (add 0 6) ∷ [])) code.new) }
+{
+    put_top_from_lower(code, lower)?;
+    put_times_entry(code, width)?;
+    put_sums(code)
+}
+
+pub(crate) fn put_element_inside(
+    code: &mut Assembly,
+    lower: i16,
+    second: i16,
+    width: u16,
+) -> Result<(), NoMemory>
+    ensures { OnOk result (Adds code.old (element_inside lower second width) code.new) }
+{
+    put_base_kept(code)?;
+    put_top_from_lower(code, second)?;
+    put_place_kept(code)?;
+    put_row_inside(code, lower, width)
 }
 
 pub(crate) fn put_entry(

@@ -16,7 +16,8 @@ use crate::calling::{
 };
 use crate::checks::{put_add_back, put_neg_back, put_sub_back};
 use crate::indexes::{
-    put_call_at_line, put_element, put_element_of_two, put_entry, put_in_area, put_in_bounds,
+    put_call_at_line, put_element, put_element_inside, put_element_of_two, put_entry, put_in_area,
+    put_in_bounds,
 };
 use crate::jumping::{
     put_base_jump, put_go_special, put_go_switch, put_go_switch_common, put_go_switch_special,
@@ -152,8 +153,13 @@ pub(crate) fn put_order(code: &mut Assembly, order: &Order, names: &Names) -> Re
             second,
             width,
             line,
-            ..
         } => put_element_of_two(code, *line, *lower, *second, *width),
+        Order::ElementInside {
+            lower,
+            second,
+            width,
+            ..
+        } => put_element_inside(code, *lower, *second, *width),
         Order::Entry {
             width,
             word,

@@ -4,7 +4,7 @@ ghost use Rattle.cw_order.specs.HasCode.{HasCode};
 ghost use Rattle.cw_tmpl.specs.Backward.{calls_from};
 ghost use Rattle.cw_tmpl.specs.Names.{mark_place, way_to_label, landing_bytes, switch_bytes, place_of_one};
 ghost use Rattle.cw_tmpl.specs.Named.{is_named_label, is_named_switch};
-ghost use Rattle.cw_tmpl.specs.Templates.{is_short};
+ghost use Rattle.cw_tmpl.specs.ShortForms.{is_short};
 ghost use Rattle.cw_tmpl.specs.ReferenceCode.{longest_places, places_by, landing_places, landing_sizes, switch_places, label_starts, statements_from};
 ghost use Rattle.cw_assemble.specs.Flags.{AreFlags};
 

@@ -4,10 +4,8 @@ ghost use Rattle.cw_tmpl.specs.Assembling.{Adds};
 ghost use Rattle.cw_tmpl.specs.Blocks.{row_within};
 ghost use Rattle.cw_tmpl.specs.Templates.{from_lower, column_loaded, column_below, row_summed, column_tested, row_address, indexes_between};
 
-use crate::blocks::{
-    indexes_between, put_entry_formed, put_from_lower, put_index_loaded, put_top_from_lower,
-};
-use crate::indexes::put_top_below;
+use crate::blocks::{indexes_between, put_entry_formed, put_from_lower, put_index_loaded};
+use crate::indexes::{put_top_below, put_top_from_lower};
 use cw_tmpl::instructions::{AX, SI, add, jump_if_below, operate_number, set_word};
 use cw_tmpl::library::BOUNDS;
 use cw_tmpl::{Assembly, Coded, Column, Row, Target};

@@ -7,9 +7,10 @@ ghost use Rattle.cw_tmpl.specs.declared.blocks.Block.TheVariants as block;
 ghost use Rattle.cw_tmpl.specs.declared.blocks.Simple.TheVariants as simple;
 ghost use Rattle.cw_order.specs.declared.order.Place.TheVariants as cell;
 ghost use Rattle.cw_tmpl.specs.Templates.{address_pieces, load_place, store_place, pieces_size, field_size, frame_size, word_compared};
-ghost use Rattle.cw_tmpl.specs.Templates.{doubled_size, loop_ways_size, order_size, saved, block_size, argument_load_size};
+ghost use Rattle.cw_tmpl.specs.Templates.{doubled_size, loop_ways_size, order_size, block_size, argument_load_size};
+ghost use Rattle.cw_tmpl.specs.ShortForms.{saved};
 ghost use Rattle.cw_tmpl.specs.Sizes.{index_size, lower_size, element_size, used_size, shift_size, part_size, times_size, width_size};
-ghost use Rattle.cw_tmpl.specs.Sizes.{bound_size, word_size, bounds_size, top_lower_size, formed_size, listed_size, column_size};
+ghost use Rattle.cw_tmpl.specs.Sizes.{bound_size, word_size, bounds_size, top_lower_size, times_entry_size, formed_size, listed_size, column_size};
 
 use crate::calling::bytes_of_words;
 use crate::words::power;
@@ -215,6 +216,14 @@ fn top_lower_size(lower: i16) -> u32
     if lower == 0 { 0 } else { 3 }
 }
 
+/// How many bytes the product with the words of an entry or a row has.
+fn times_entry_size(width: u16) -> u32
+    ensures is { result ≡ times_entry_size width }
+    ensures small { result ≤ 5 }
+{
+    if width == 1 { 0 } else { 5 }
+}
+
 /// How many bytes the address has that is formed of an index.
 fn formed_size(form: Form) -> u32
     ensures is { result ≡ formed_size form }
@@ -253,7 +262,7 @@ fn row_size(row: Row) -> u32
         width: row.width,
         word: 0,
         span: row.span,
-        line: row.line,
+        line: row.columns.line,
     };
     top_lower_size(row.rows.lower)
         + column_size(row.column)
@@ -357,6 +366,12 @@ fn order_size(order: &Order) -> Result<u32, NoMemory>
             width,
             ..
         } => bound_size(*second) + bound_size(*lower) + times_size(*width) + 33,
+        Order::ElementInside {
+            lower,
+            second,
+            width,
+            ..
+        } => { top_lower_size(*second) + top_lower_size(*lower) + times_entry_size(*width) + 10 }
         Order::Entry { width, word, .. } => width_size(*width) + word_size(*word) + 21,
         Order::NextStep { looped, .. } => doubled_size(*looped) + 10,
         Order::LoopWay(marks) => return loop_ways_size(marks.as_slice()),

@@ -9,6 +9,7 @@ use Rattle.cw_scope.specs.Text.{text_fault, first_name_fault}
 use Rattle.cw_scope.specs.NameRules.{said, all_declared, name_faults, name_resolutions}
 use Rattle.cw_scope.specs.Definitions.{each_listed, defined, definitions_judged}
 use Rattle.cw_scope.specs.Resolved.{text_declarations, text_signatures}
+use Rattle.cw_scope.specs.Gathered.{Gathers}
 use Rattle.cw_scope.specs.Outcome.{Resolves}
 use Rattle.cw_big_units.proofs.TreeText.{tree_text}
 use Rattle.cw_big_units.proofs.FactsText.{total, write_byte, write_byte_takes, counter, cells, facts_text}
@@ -91,9 +92,13 @@ no_name_fault is_last w =
 
 -- ---- the texts
 
+pub gathered_of : (is_last : Bool) (w : List ℕ) → Gathers (facts_text is_last) (tree_text is_last w)
+unfolding Gathers
+gathered_of is_last w = sym (facts_are is_last w)
+
 -- a tree with its names, at place 0 of memory
 abbrev pub named_of : Bool → List ℕ → Named
-named_of is_last w = record { raw = record { ref_ptr = (0, 0); now = tree_text is_last w }; declarations = declarations_text; signatures = signatures_text; uses = uses_text is_last }
+named_of is_last w = record { raw = record { ref_ptr = (0, 0); now = tree_text is_last w }; facts = facts_text is_last; gathered = gathered_of is_last w; declarations = declarations_text; signatures = signatures_text; uses = uses_text is_last }
 
 pub resolved : (is_last : Bool) (w : List ℕ) → Resolves (tree_text is_last w) (Ok (named_of is_last w))
 resolved is_last w = (

@@ -23,6 +23,12 @@ word (negsuc n) h = let lt : n < 32768 = ltb-true n 32768 h in omega (arith, int
 words : (a b : ℤ) → IsTrue (fits_word a && fits_word b) → FitsWord a × FitsWord b
 words a b h = let p = both (fits_word a) (fits_word b) h in (word a p.0, word b p.1)
 
+rows : (a b : ℤ) (width : ℕ) → IsTrue (fits_word a && (fits_word b && nat_le width 32768)) → FitsWord a × FitsWord b × (width ≤ 32768)
+rows a b width h =
+    let p = both (fits_word a) (fits_word b && nat_le width 32768) h in
+    let q = both (fits_word b) (nat_le width 32768) p.1 in
+    (word a p.0, word b q.0, leb-true width 32768 q.1)
+
 pub coded-order : (o : Order) → IsTrue (has_numbers o) → HasCode o
 coded-order order.Save h = tt
 coded-order (order.Const w) h = tt
@@ -51,10 +57,8 @@ coded-order (order.LoadPart t b is_signed) h = part t b h
 coded-order (order.StorePart t b) h = part t b h
 coded-order (order.IndexLess lower line) h = word lower h
 coded-order (order.Element lower span line) h = word lower h
-coded-order (order.ElementOfTwo lower second width span line) h =
-    let p = both (fits_word lower) (fits_word second && nat_le width 32768) h in
-    let q = both (fits_word second) (nat_le width 32768) p.1 in
-    (word lower p.0, word second q.0, leb-true width 32768 q.1)
+coded-order (order.ElementOfTwo lower second width line) h = rows lower second width h
+coded-order (order.ElementInside lower second width span) h = rows lower second width h
 coded-order (order.Entry width word span line) h = let p = both (nat_le width 32768) (nat_lt word 32768) h in (leb-true width 32768 p.0, ltb-true word 32768 p.1)
 coded-order (order.InArea line) h = tt
 coded-order (order.InBounds lower upper line) h = words lower upper h

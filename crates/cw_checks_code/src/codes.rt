@@ -53,6 +53,12 @@ fn has_numbers(order: &Order) -> bool
             second,
             width,
             ..
+        }
+        | Order::ElementInside {
+            lower,
+            second,
+            width,
+            ..
         } => is_signed_word(*lower) && is_signed_word(*second) && *width <= 32_768,
         Order::Entry { width, word, .. } => *width <= 32_768 && *word < 32_768,
         Order::InBounds { lower, upper, .. } => is_signed_word(*lower) && is_signed_word(*upper),

@@ -12,7 +12,7 @@ use std::test::Fail;
 
 // A program, ~ the end of a line: the texts of its segments, the statements that it begins, each with its segment, its line and the first
 // word of the data area, which is X, and what is written, with the stop.
-const TRACES: [(&[&str], &str, &str); 2] = [
+const TRACES: &[(&[&str], &str, &str)] = &[
     (
         &[
             "LIBRARY (PROCEDURE WRITEBYTE(VALUE INTEGER));~SEGMENT A~BEGIN~INTEGER X, I;~X := 3;~FOR I := 1 STEP 1 \
@@ -121,7 +121,7 @@ fn traced(alloc: Global, mut run: Run, places: &[Place]) -> Result<String, Alloc
 #[test]
 fn statements_begun(rt: HostRuntime) -> Result<(), Fail> {
     let alloc = rt.alloc();
-    for (texts, wanted, shows) in TRACES {
+    for &(texts, wanted, shows) in TRACES {
         let Some(objects) = objects_of(alloc, texts) else {
             panic!(&rt; "refused: {wanted}");
         };

@@ -119,7 +119,7 @@ fn image(rt: HostRuntime) -> Result<(), Fail> {
 }
 
 // The faults of objects and of images, in one order, and the texts of both.
-const OBJECT_FAULTS: [ObjFault; 5] = [
+const OBJECT_FAULTS: &[ObjFault] = &[
     ObjFault::NotObject,
     ObjFault::BadVersion,
     ObjFault::Truncated { at: 7 },
@@ -127,7 +127,7 @@ const OBJECT_FAULTS: [ObjFault; 5] = [
     ObjFault::Trailing { at: 7 },
 ];
 
-const IMAGE_FAULTS: [ImageFault; 6] = [
+const IMAGE_FAULTS: &[ImageFault] = &[
     ImageFault::NotImage,
     ImageFault::BadVersion,
     ImageFault::Truncated { at: 7 },
@@ -143,10 +143,10 @@ const TEXTS: &str =
 fn texts_of_faults(rt: HostRuntime) -> Result<(), Fail> {
     let alloc = rt.alloc();
     let mut texts = String::new(alloc);
-    for fault in OBJECT_FAULTS {
+    for &fault in OBJECT_FAULTS {
         texts.push_str(format!(in alloc; "{fault} ")?.as_str())?;
     }
-    for fault in IMAGE_FAULTS {
+    for &fault in IMAGE_FAULTS {
         texts.push_str(format!(in alloc; "{fault} ")?.as_str())?;
     }
     assert_eq!(rt; texts.as_str(), TEXTS);

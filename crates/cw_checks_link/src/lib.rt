@@ -1,7 +1,12 @@
-//! Checks of linking: object files that are spelled by hand, with their images and their faults, and damaged files.
+//! Checks of linking and of what it makes: object files that are spelled by hand, with their images and their faults, and damaged files; lists of texts and
+//! objects, with where their storage ends or their first fault; and HEX texts, by hand from the form.
 #![tactic(auto)]
 
 #[cfg(test)]
 mod damaged;
+#[cfg(test)]
+mod hex;
+#[cfg(test)]
+mod lists;
 #[cfg(test)]
 mod objects;

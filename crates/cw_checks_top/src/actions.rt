@@ -35,7 +35,7 @@ const STOPPING: [u8; 38] = [
 const WRONG_SUM: &[u8] = b":020000021000EC\n:01000000F40C\n:0400000310000000E9\n:00000001FF\n";
 
 // Bytes that are taken for libraries, and are none.
-const LIBRARIES: [(&str, &[u8]); 6] = [
+const LIBRARIES: &[(&str, &[u8])] = &[
     ("l2", b"C66L"),
     ("l3", b"C66L\x02\x00"),
     ("l4", b"C66L\x01\x00\x00\x00"),
@@ -189,7 +189,7 @@ fn store(alloc: Global) -> Result<MemStore, AllocError> {
     files.push(file(alloc, b"stopping", &STOPPING)?)?;
     files.push(file(alloc, b"sum", WRONG_SUM)?)?;
     files.push(file(alloc, b"colon", b":")?)?;
-    for (name, bytes) in LIBRARIES {
+    for &(name, bytes) in LIBRARIES {
         files.push(file(alloc, name.as_bytes(), bytes)?)?;
     }
     let no_call = List::of(Vec::new(alloc));

@@ -5,27 +5,43 @@ ghost use Rattle.cw_compile.specs.Texts.{text_limit, HasTree, HasNames, HasTypes
 use crate::fault::{Refusal, UnitFault};
 use crate::tree::tree_of;
 use cw_make::made::unit_of_named;
-use cw_scope::resolve::{Named, ScopeFault, resolve};
+use cw_scope::resolve::{ScopeFault, resolve};
 use cw_show::show;
 use cw_tree::segment::Raw;
+use cw_type::StoredText;
 use cw_type::check::{TypeFault, check_types};
 use cw_unit::unit::Unit;
 use std::alloc::Global;
 
-// The tree with its names, where no rule of names or types is broken.
-fn checked(alloc: Global, raw: &Raw) -> Result<Named<'_>, UnitFault>
-    ensures named { (text : Sequence ℕ) → HasTree text raw.now → IfOk result (λ named. HasTypes text named) }
+// The tree with its names and what it stores, where no rule of names is broken.
+fn stored(alloc: Global, raw: &Raw) -> Result<StoredText<'_>, UnitFault>
+    ensures named { (text : Sequence ℕ) → HasTree text raw.now → IfOk result (λ named. HasNames text named) }
     ensures tree { IfOk result (λ named. named.raw.now ≡ raw.now) }
     ensures fault { (text : Sequence ℕ) → HasTree text raw.now → IfErr result (λ fault. IsFaultOf text fault) }
 {
     match resolve(alloc, raw) {
-        Ok(named) => match check_types(alloc, &named) {
-            Ok(()) => Ok(named),
-            Err(TypeFault::NoMemory) => Err(UnitFault::NoMemory),
-            Err(fault) => Err(UnitFault::Refused(Refusal::Typing(fault))),
+        Ok(named) => match StoredText::new(alloc, named) {
+            Ok(stored) => Ok(stored),
+            Err(_) => Err(UnitFault::NoMemory),
         },
         Err(ScopeFault::NoMemory) => Err(UnitFault::NoMemory),
         Err(fault) => Err(UnitFault::Refused(Refusal::Scope(fault))),
+    }
+}
+
+// The same where no rule of types is broken either.
+fn checked(alloc: Global, raw: &Raw) -> Result<StoredText<'_>, UnitFault>
+    ensures named { (text : Sequence ℕ) → HasTree text raw.now → IfOk result (λ named. HasTypes text named) }
+    ensures tree { IfOk result (λ named. named.raw.now ≡ raw.now) }
+    ensures fault { (text : Sequence ℕ) → HasTree text raw.now → IfErr result (λ fault. IsFaultOf text fault) }
+{
+    match stored(alloc, raw) {
+        Ok(stored) => match check_types(alloc, &stored) {
+            Ok(()) => Ok(stored),
+            Err(TypeFault::NoMemory) => Err(UnitFault::NoMemory),
+            Err(fault) => Err(UnitFault::Refused(Refusal::Typing(fault))),
+        },
+        Err(fault) => Err(fault),
     }
 }
 
@@ -34,7 +50,7 @@ fn unit_of_tree(alloc: Global, raw: &Raw) -> Result<Unit, UnitFault>
     ensures fault { (text : Sequence ℕ) → HasTree text raw.now → IfErr result (λ fault. IsFaultOf text fault) }
 {
     match checked(alloc, raw) {
-        Ok(named) => match unit_of_named(alloc, &named) {
+        Ok(stored) => match unit_of_named(alloc, &stored) {
             Ok(unit) => Ok(unit),
             Err(_) => Err(UnitFault::NoMemory),
         },

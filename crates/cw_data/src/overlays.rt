@@ -1,5 +1,5 @@
 //! What an OVERLAY is laid on.
-ghost use Rattle.std.specs.Prelude.{◌≡◌};
+ghost use Rattle.std.specs.Prelude.{◌≡◌, option_copied};
 ghost use Rattle.cw_table.specs.Rows.{item_at};
 ghost use Rattle.cw_facts.specs.Facts.{base_name};
 ghost use Rattle.cw_amount.specs.Amounts.{place_sint};
@@ -94,8 +94,8 @@ fn no_index(base: &RawBase) -> bool
     }
 }
 
-pub fn can_be_laid_on(kind: &Option<Kind>, base: &RawBase) -> bool
-    ensures { result ≡ can_be_laid_on kind.now base.now }
+pub fn can_be_laid_on(kind: Option<&Kind>, base: &RawBase) -> bool
+    ensures { result ≡ can_be_laid_on (option_copied kind.entry) base.now }
 {
     match kind {
         None => true,
@@ -133,6 +133,6 @@ pub fn judge_base(named: &Named, base: &RawBase, first: &mut Option<Fault>)
 {
     judge_indexes(base, first);
     let name = name_of(base);
-    let holds = stands_before(named, name.at.token) && can_be_laid_on(&kind_of(named, &name), base);
+    let holds = stands_before(named, name.at.token) && can_be_laid_on(kind_of(named, &name), base);
     keep_unless(holds, Rule::BadOverlay, name.at, first);
 }

@@ -24,17 +24,12 @@ Fine n p s x ns = IsNormalWithin n p s x ns
 
 -- inside a procedure's body
 abbrev pub flag : {s : Sort} → Bool → Rule s → Bool
-flag p bracketed = p
-flag p subscript = p
-flag p indexed = p
-flag p called = p
-flag p located = p
-flag p conditional = p
 flag p (if_rest q) = q
 flag p (else_rest q) = q
 flag p (for_rest q) = q
 flag p (block_rest q) = q
 flag p proc_body = true
+flag p _ = p
 
 abbrev pub again_flag : {s : Sort} → Bool → Again s → Bool
 again_flag p (labelled q) = q

@@ -8,22 +8,18 @@ use Rattle.cw_tree.specs.declared.expression.RawBits.{RawBits}
 use Rattle.cw_tree.specs.declared.expression.RawExpr.TheVariants as expr_tree
 use Rattle.cw_tree.specs.declared.expression.RawPrimary.TheVariants as primary_tree
 use Rattle.cw_tree.specs.declared.expression.RawExpr.TheOpen as layer
-use Rattle.cw_tree.specs.declared.expression.RawExpr.TheOpen.{RawPrimary-F, RawPrim-F, RawSum-F, RawTerm-F, RawDiffer-F, RawUnion-F, RawMask-F}
 use Rattle.cw_tree.specs.declared.expression.RawExpr.TheViews.{out-roll-RawExpr, out-roll-RawPrimary, out-roll-RawPrim, out-roll-RawMask, out-roll-RawUnion, out-roll-RawDiffer, out-roll-RawTerm, out-roll-RawSum}
-use Rattle.cw_tree.specs.declared.expression.RawExpr.{RawExpr, RawExpr-F, roll-RawExpr}
+use Rattle.cw_tree.specs.declared.expression.RawExpr.{RawExpr, roll-RawExpr}
 use Rattle.cw_tree.specs.declared.expression.RawPrimary.{RawPrimary, roll-RawPrimary}
-use Rattle.cw_tree.specs.declared.expression.RawRef.{RawRef}
-use Rattle.cw_tree.specs.declared.expression.RawCand.{RawCand}
-use Rattle.cw_tree.specs.declared.expression.RawCmp.{RawCmp}
-use Rattle.cw_tree.specs.declared.expression.RawCond.{RawCond}
-use Rattle.cw_tree.specs.declared.expression.RawDiffer.{RawDiffer, roll-RawDiffer, out-RawDiffer}
-use Rattle.cw_tree.specs.declared.expression.RawMask.{RawMask, roll-RawMask, out-RawMask}
+use Rattle.cw_tree.specs.declared.expression.RawDiffer.{RawDiffer, out-RawDiffer}
+use Rattle.cw_tree.specs.declared.expression.RawMask.{RawMask, out-RawMask}
 use Rattle.cw_tree.specs.declared.expression.RawPrim.{RawPrim, roll-RawPrim}
 use Rattle.cw_tree.specs.declared.expression.RawSum.{RawSum, roll-RawSum}
-use Rattle.cw_tree.specs.declared.expression.RawTerm.{RawTerm, roll-RawTerm, out-RawTerm}
-use Rattle.cw_tree.specs.declared.expression.RawUnion.{RawUnion, roll-RawUnion, out-RawUnion}
+use Rattle.cw_tree.specs.declared.expression.RawTerm.{RawTerm, out-RawTerm}
+use Rattle.cw_tree.specs.declared.expression.RawUnion.{RawUnion, out-RawUnion}
 use Rattle.cw_grammar.specs.Grammar.{Sort, a_pair, a_list, a_position, a_sign, a_factor_sign, an_expr, a_sum, a_term, a_differ, a_union, a_mask, a_prim, a_primary, Value}
 use Rattle.cw_grammar.specs.Trees.{sole, ◌>>-◌, Operands, extended, as_sum, sole_term, as_term, as_differ, as_union, as_mask, as_prim, bracket_primary, bracket_prim, bracket_mask, bracket_union, bracket_differ, bracket_term, bracket_sum}
+use Rattle.cw_derived.proofs.Layers.{PrimaryLayer, PrimLayer, MaskLayer, UnionLayer, DifferLayer, TermLayer, SumLayer, ExprLayer, held}
 use Rattle.cw_derived.specs.Marks.{skipped}
 use Rattle.cw_derived.specs.NormalForm.{IsNormal, no_more, number, octal, literal, string, location, forced, bracket, referred, call, is_prim, is_mask, is_union, is_differ, is_term, plain_sum, signed_sum, sum_expr, choice}
 use Rattle.cw_derived.proofs.Withins.{all_within, beyond}
@@ -84,9 +80,6 @@ sole_normal n p o s x t rest a b h r l =
 
 -- ---- an expression that is a tree of a narrower rule
 
-abbrev ExprLayer : Type 0
-ExprLayer = RawExpr-F RawExpr RawPrimary RawRef RawCand RawCmp RawCond RawDiffer RawMask RawPrim RawSum RawTerm RawUnion
-
 abbrev summed : ExprLayer → Option RawSum
 summed y = elim y [ layer.Choice at c a b ↦ None | layer.Sum s ↦ Some s ]
 
@@ -99,7 +92,7 @@ sum_in {n = n} {p = p} s (sum_expr {x = x} {a = a} h k) q =
     subst (λ (z : RawSum). IsNormal n p a_sum z a) e h
 sum_in s (choice at {c = c} {x = x} {y = y} h k l) q = absurd (not_none (sym (ap as_sum (sym (expr_tree.rolls-Choice at c x y)) ∙ sum_is (layer.Choice at c x y)) ∙ q))
 
-abbrev unsigned : RawSum-F RawExpr RawPrimary RawRef RawCand RawCmp RawCond RawDiffer RawMask RawPrim RawSum RawTerm RawUnion → Option RawTerm
+abbrev unsigned : SumLayer → Option RawTerm
 unsigned y = elim y.sign [ None ↦ sole y.operands | Some sign ↦ None ]
 
 pub term_in : {n : ℕ} {p : Bool} {s : RawSum} {a : List ℕ} (t : RawTerm) → IsNormal n p a_sum s a → sole_term s ≡ Some t → IsNormal n p a_term t a
@@ -111,29 +104,29 @@ term_in t (signed_sum {sign = sign} {x = x} {rest = rest} g h r) q =
     let ops : Operands RawTerm RawSign = extended (x ∷ [], []) rest in
     absurd (not_none (sym (ap unsigned (out-roll-RawSum (record { sign = Some sign; operands = ops.0; operators = ops.1 }))) ∙ q))
 
+-- an operand that is the sole one
+sole_in : {n : ℕ} {p : Bool} (o s : Sort) (x t : Value s) (rest : List (Value o × Value s)) {a b : List ℕ} (found : Option (Value s)) → IsNormal n p s x a → IsNormal n p (a_list (a_pair o s)) rest b → found ≡ sole (extended (x ∷ [], []) rest).0 → found ≡ Some t → IsNormal n p s t (a ++ b)
+sole_in {n = n} {p = p} o s x t rest {a = a} {b = b} found h r there q = sole_normal n p o s x t rest a b h r (alone x t rest (sym there ∙ q))
+
 pub differ_in : {n : ℕ} {p : Bool} {y : RawTerm} {a : List ℕ} (t : RawDiffer) → IsNormal n p a_term y a → sole (out-RawTerm y).operands ≡ Some t → IsNormal n p a_differ t a
-differ_in {n = n} {p = p} t (is_term {x = x} {rest = rest} {a = a} {b = b} h k r) q =
+differ_in t (is_term {x = x} {rest = rest} h k r) q =
     let ops : Operands RawDiffer RawFactorSign = extended (x ∷ [], []) rest in
-    let there : sole (out-RawTerm (roll-RawTerm (record { operands = ops.0; operators = ops.1 }))).operands ≡ sole ops.0 = ap (λ (z : RawTerm-F RawExpr RawPrimary RawRef RawCand RawCmp RawCond RawDiffer RawMask RawPrim RawSum RawTerm RawUnion). sole z.operands) (out-roll-RawTerm (record { operands = ops.0; operators = ops.1 })) in
-    sole_normal n p a_factor_sign a_differ x t rest a b h r (alone x t rest (sym there ∙ q))
+    sole_in a_factor_sign a_differ x t rest _ h r (ap (λ (z : TermLayer). sole z.operands) (out-roll-RawTerm (record { operands = ops.0; operators = ops.1 }))) q
 
 pub union_in : {n : ℕ} {p : Bool} {y : RawDiffer} {a : List ℕ} (t : RawUnion) → IsNormal n p a_differ y a → sole (out-RawDiffer y).operands ≡ Some t → IsNormal n p a_union t a
-union_in {n = n} {p = p} t (is_differ {x = x} {rest = rest} {a = a} {b = b} h k r) q =
+union_in t (is_differ {x = x} {rest = rest} h k r) q =
     let ops : Operands RawUnion Position = extended (x ∷ [], []) rest in
-    let there : sole (out-RawDiffer (roll-RawDiffer (record { operands = ops.0; operators = ops.1 }))).operands ≡ sole ops.0 = ap (λ (z : RawDiffer-F RawExpr RawPrimary RawRef RawCand RawCmp RawCond RawDiffer RawMask RawPrim RawSum RawTerm RawUnion). sole z.operands) (out-roll-RawDiffer (record { operands = ops.0; operators = ops.1 })) in
-    sole_normal n p a_position a_union x t rest a b h r (alone x t rest (sym there ∙ q))
+    sole_in a_position a_union x t rest _ h r (ap (λ (z : DifferLayer). sole z.operands) (out-roll-RawDiffer (record { operands = ops.0; operators = ops.1 }))) q
 
 pub mask_in : {n : ℕ} {p : Bool} {y : RawUnion} {a : List ℕ} (t : RawMask) → IsNormal n p a_union y a → sole (out-RawUnion y).operands ≡ Some t → IsNormal n p a_mask t a
-mask_in {n = n} {p = p} t (is_union {x = x} {rest = rest} {a = a} {b = b} h k r) q =
+mask_in t (is_union {x = x} {rest = rest} h k r) q =
     let ops : Operands RawMask Position = extended (x ∷ [], []) rest in
-    let there : sole (out-RawUnion (roll-RawUnion (record { operands = ops.0; operators = ops.1 }))).operands ≡ sole ops.0 = ap (λ (z : RawUnion-F RawExpr RawPrimary RawRef RawCand RawCmp RawCond RawDiffer RawMask RawPrim RawSum RawTerm RawUnion). sole z.operands) (out-roll-RawUnion (record { operands = ops.0; operators = ops.1 })) in
-    sole_normal n p a_position a_mask x t rest a b h r (alone x t rest (sym there ∙ q))
+    sole_in a_position a_mask x t rest _ h r (ap (λ (z : UnionLayer). sole z.operands) (out-roll-RawUnion (record { operands = ops.0; operators = ops.1 }))) q
 
 pub prim_in : {n : ℕ} {p : Bool} {y : RawMask} {a : List ℕ} (t : RawPrim) → IsNormal n p a_mask y a → sole (out-RawMask y).operands ≡ Some t → IsNormal n p a_prim t a
-prim_in {n = n} {p = p} t (is_mask {x = x} {rest = rest} {a = a} {b = b} h k r) q =
+prim_in t (is_mask {x = x} {rest = rest} h k r) q =
     let ops : Operands RawPrim Position = extended (x ∷ [], []) rest in
-    let there : sole (out-RawMask (roll-RawMask (record { operands = ops.0; operators = ops.1 }))).operands ≡ sole ops.0 = ap (λ (z : RawMask-F RawExpr RawPrimary RawRef RawCand RawCmp RawCond RawDiffer RawMask RawPrim RawSum RawTerm RawUnion). sole z.operands) (out-roll-RawMask (record { operands = ops.0; operators = ops.1 })) in
-    sole_normal n p a_position a_prim x t rest a b h r (alone x t rest (sym there ∙ q))
+    sole_in a_position a_prim x t rest _ h r (ap (λ (z : MaskLayer). sole z.operands) (out-roll-RawMask (record { operands = ops.0; operators = ops.1 }))) q
 
 pub as_term_in : {n : ℕ} {p : Bool} {e : RawExpr} {a : List ℕ} (t : RawTerm) → IsNormal n p an_expr e a → as_term e ≡ Some t → IsNormal n p a_term t a
 as_term_in {e = e} t h q = elim (both_of (as_sum e) sole_term t q) [ both_steps y u v ↦ term_in t (sum_in y h u) v ]
@@ -151,22 +144,6 @@ pub as_prim_in : {n : ℕ} {p : Bool} {e : RawExpr} {a : List ℕ} (t : RawPrim)
 as_prim_in {e = e} t h q = elim (both_of (as_mask e) (λ y. sole (out-RawMask y).operands) t q) [ both_steps y u v ↦ prim_in t (as_mask_in y h u) v ]
 
 -- ---- what a bracket alone holds
-
-abbrev held : RawPrimary-F RawExpr RawPrimary RawRef RawCand RawCmp RawCond RawDiffer RawMask RawPrim RawSum RawTerm RawUnion → Option RawExpr
-held y = elim y [
-  | layer.Number n ↦ None
-  | layer.Octal n ↦ None
-  | layer.Literal c ↦ None
-  | layer.Text at cs ↦ None
-  | layer.Location at r ↦ None
-  | layer.Forced t e ↦ None
-  | layer.Bracket at e ↦ Some e
-  | layer.Ref r ↦ None
-  | layer.Call f xs ↦ None
-]
-
-abbrev PrimaryLayer : Type 0
-PrimaryLayer = RawPrimary-F RawExpr RawPrimary RawRef RawCand RawCmp RawCond RawDiffer RawMask RawPrim RawSum RawTerm RawUnion
 
 holds : (l : PrimaryLayer) → bracket_primary (roll-RawPrimary l) ≡ held l
 holds l = ap held (out-roll-RawPrimary l)
@@ -196,7 +173,7 @@ bare_held a (z ∷ bits) e h q = absurd (not_none q)
 
 pub prim_held : {n : ℕ} {p : Bool} {x : RawPrim} {a : List ℕ} (e : RawExpr) → IsNormal n p a_prim x a → bracket_prim x ≡ Some e → IsNormalWithin n p an_expr e a
 prim_held e (is_prim {bits = bits} {x = x} {a = a} h k l) q =
-    let there : bracket_prim (roll-RawPrim (record { bits = bits; primary = x })) ≡ bare_of bits x = ap (λ (z : RawPrim-F RawExpr RawPrimary RawRef RawCand RawCmp RawCond RawDiffer RawMask RawPrim RawSum RawTerm RawUnion). bare_of z.bits z.primary) (out-roll-RawPrim (record { bits = bits; primary = x })) in
+    let there : bracket_prim (roll-RawPrim (record { bits = bits; primary = x })) ≡ bare_of bits x = ap (λ (z : PrimLayer). bare_of z.bits z.primary) (out-roll-RawPrim (record { bits = bits; primary = x })) in
     bare_held a bits e k (sym there ∙ q)
 
 pub mask_held : {n : ℕ} {p : Bool} {x : RawMask} {a : List ℕ} (e : RawExpr) → IsNormal n p a_mask x a → bracket_mask x ≡ Some e → IsNormalWithin n p an_expr e a

@@ -1,3 +1,4 @@
+pub mod Layers
 pub mod Withins
 pub mod Levels
 pub mod Built

@@ -3,15 +3,10 @@ use Rattle.std.proofs.Common.{◌≡◌, ℕ, Bool, List, [], ◌∷◌, ◌++�
 use Rattle.cw_tree.specs.declared.leaf.Position.{Position}
 use Rattle.cw_tree.specs.declared.leaf.RawSign.{RawSign}
 use Rattle.cw_tree.specs.declared.leaf.RawFactorSign.{RawFactorSign}
-use Rattle.cw_tree.specs.declared.expression.RawExpr.TheOpen.{RawPrim-F, RawSum-F, RawTerm-F, RawDiffer-F, RawUnion-F, RawMask-F}
 use Rattle.cw_tree.specs.declared.expression.RawExpr.TheViews.{out-roll-RawPrim, out-roll-RawMask, out-roll-RawUnion, out-roll-RawDiffer, out-roll-RawTerm, out-roll-RawSum}
 use Rattle.cw_tree.specs.declared.expression.RawBits.{RawBits}
 use Rattle.cw_tree.specs.declared.expression.RawExpr.{RawExpr}
 use Rattle.cw_tree.specs.declared.expression.RawPrimary.{RawPrimary}
-use Rattle.cw_tree.specs.declared.expression.RawRef.{RawRef}
-use Rattle.cw_tree.specs.declared.expression.RawCand.{RawCand}
-use Rattle.cw_tree.specs.declared.expression.RawCmp.{RawCmp}
-use Rattle.cw_tree.specs.declared.expression.RawCond.{RawCond}
 use Rattle.cw_tree.specs.declared.expression.RawDiffer.{RawDiffer, out-RawDiffer}
 use Rattle.cw_tree.specs.declared.expression.RawMask.{RawMask, out-RawMask}
 use Rattle.cw_tree.specs.declared.expression.RawPrim.{RawPrim, roll-RawPrim}
@@ -22,6 +17,7 @@ use Rattle.cw_grammar.specs.Grammar.{Sort, a_pair, a_list, an_option, a_position
 use Rattle.cw_grammar.specs.Trees.{◌>>-◌, Operands, extended, first_of, as_sum, as_term, as_differ, as_union, as_mask, as_prim, bracket_primary, bracket_prim, bracket_mask, bracket_union, bracket_differ, bracket_term, bracket_sum, mask_start, union_start, differ_start, term_start, mask_tree, union_tree, differ_tree, term_tree, Terms, sum_tree, terms_of, sum_start, more_terms, expr_or, expr_of, prim_or, prim_of}
 use Rattle.cw_derived.specs.Marks.{Within}
 use Rattle.cw_derived.specs.NormalForm.{IsNormal, no_more, one_more, present, absent, is_prim, is_mask, is_union, is_differ, is_term, plain_sum, signed_sum, sum_expr}
+use Rattle.cw_derived.proofs.Layers.{PrimLayer, MaskLayer, UnionLayer, DifferLayer, TermLayer, SumLayer}
 use Rattle.cw_derived.proofs.Withins.{join, twice, beyond}
 use Rattle.cw_derived.specs.Proper.{IsNormalWithin}
 use Rattle.cw_derived.proofs.Held.{both_steps, both_of, primary_held, prim_held, mask_held, union_held, differ_held, term_held, sum_held, sum_in, as_term_in, as_differ_in, as_union_in, as_mask_in, as_prim_in}
@@ -75,6 +71,30 @@ more_start o s stays {more = more} {ns = ns} {ms = ms} k m = record {
   rest_normal = appended k.rest_normal m.normal;
 }
 
+start_with : {n : ℕ} {p : Bool} (o s : Sort) (stays : Value s → Type 0) {ops : Operands (Value s) (Value o)} (x : Value s) (rest : List (Value o × Value s)) {a b ns : List ℕ}
+    → ops ≡ extended (x ∷ [], []) rest → Within (a ++ b) ns → IsNormal n p s x a → stays x → IsNormal n p (a_list (a_pair o s)) rest b → Start n p o s stays ops ns
+start_with o s stays x rest {a = a} {b = b} is w h e r = record { head = x; rest = rest; is = is; head_marks = a; rest_marks = b; within = w; head_normal = h; head_stays = e; rest_normal = r }
+
+-- A rule whose first operand is joined where its bracket holds a tree of the rule.
+joined_made : {n : ℕ} {p : Bool} (o s t : Sort) (tree : Operands (Value s) (Value o) → Value t) (parts : Value t → Operands (Value s) (Value o)) (bracket : Value s → Option RawExpr) (narrow : RawExpr → Option (Value t))
+    → ((x : Value s) (a : List ℕ) (y : RawExpr) → IsNormal n p s x a → bracket x ≡ Some y → IsNormalWithin n p an_expr y a)
+    → ((y : RawExpr) (a : List ℕ) (z : Value t) → IsNormal n p an_expr y a → narrow y ≡ Some z → IsNormal n p t z a)
+    → ((z : Value t) (a ns : List ℕ) → IsNormal n p t z a → Within a ns → Start n p o s (λ x. (bracket x >>- narrow) ≡ None) (parts z) ns)
+    → ((x : Value s) (rest : List (Value o × Value s)) (a b : List ℕ) → IsNormal n p s x a → (bracket x >>- narrow) ≡ None → IsNormal n p (a_list (a_pair o s)) rest b → IsNormal n p t (tree (extended (x ∷ [], []) rest)) (a ++ b))
+    → {x : Value s} {more : List (Value o × Value s)} {ns ms : List ℕ} → IsNormalWithin n p s x ns → IsNormalWithin n p (a_list (a_pair o s)) more ms → IsNormalWithin n p t (tree (extended (first_of parts (bracket x >>- narrow) x) more)) (ns ++ ms)
+joined_made {n = n} {p = p} o s t tree parts bracket narrow held narrowed taken makes {x = x} {ns = ns} k m =
+    let begun : Start n p o s (λ y. (bracket y >>- narrow) ≡ None) (first_of parts (bracket x >>- narrow) x) ns =
+    elim (bracket x >>- narrow) as (λ c. (bracket x >>- narrow) ≡ c → Start n p o s (λ y. (bracket y >>- narrow) ≡ None) (first_of parts c x) ns) [
+      | None ↦ λ e. alone_start o s (λ y. (bracket y >>- narrow) ≡ None) k e
+      | Some c ↦ λ e. elim (both_of (bracket x) narrow c e) [ both_steps y u v ↦ let h = held x k.marks y k.normal u in taken c h.marks ns (narrowed y h.marks c h.normal v) (twice h.within k.within) ]
+    ] refl in
+    let all = more_start o s (λ y. (bracket y >>- narrow) ≡ None) begun m in
+    record {
+      marks = all.head_marks ++ all.rest_marks;
+      within = all.within;
+      normal = subst (λ (z : Operands (Value s) (Value o)). IsNormal n p t (tree z) (all.head_marks ++ all.rest_marks)) (sym all.is) (makes all.head all.rest all.head_marks all.rest_marks all.head_normal all.head_stays all.rest_normal);
+    }
+
 -- ---- mask
 
 abbrev pub prim_stays : RawPrim → Type 0
@@ -84,35 +104,12 @@ abbrev mask_parts : RawMask → Operands RawPrim Position
 mask_parts m = ((out-RawMask m).operands, (out-RawMask m).operators)
 
 mask_taken : {n : ℕ} {p : Bool} {m : RawMask} {a ns : List ℕ} → IsNormal n p a_mask m a → Within a ns → Start n p a_position a_prim prim_stays (mask_parts m) ns
-mask_taken (is_mask {x = x} {rest = rest} {a = a} {b = b} h e r) w =
+mask_taken (is_mask {x = x} {rest = rest} h e r) w =
     let ops : Operands RawPrim Position = extended (x ∷ [], []) rest in
-    record {
-      head = x;
-      rest = rest;
-      is = ap (λ (z : RawMask-F RawExpr RawPrimary RawRef RawCand RawCmp RawCond RawDiffer RawMask RawPrim RawSum RawTerm RawUnion). (z.operands, z.operators)) (out-roll-RawMask (record { operands = ops.0; operators = ops.1 }));
-      head_marks = a;
-      rest_marks = b;
-      within = w;
-      head_normal = h;
-      head_stays = e;
-      rest_normal = r;
-    }
-
-mask_begun : {n : ℕ} {p : Bool} {x : RawPrim} {ns : List ℕ} → IsNormalWithin n p a_prim x ns → Start n p a_position a_prim prim_stays (mask_start x) ns
-mask_begun {n = n} {p = p} {x = x} {ns = ns} k =
-    elim (bracket_prim x >>- as_mask) as (λ o. (bracket_prim x >>- as_mask) ≡ o → Start n p a_position a_prim prim_stays (first_of mask_parts o x) ns) [
-      | None ↦ λ e. alone_start a_position a_prim prim_stays k e
-      | Some m ↦ λ e. elim (both_of (bracket_prim x) as_mask m e) [ both_steps y u v ↦ let h = prim_held y k.normal u in mask_taken (as_mask_in m h.normal v) (twice h.within k.within) ]
-    ] refl
+    start_with a_position a_prim prim_stays x rest (ap (λ (z : MaskLayer). (z.operands, z.operators)) (out-roll-RawMask (record { operands = ops.0; operators = ops.1 }))) w h e r
 
 pub mask_made : {n : ℕ} {p : Bool} {x : RawPrim} {more : List (Position × RawPrim)} {ns ms : List ℕ} → IsNormalWithin n p a_prim x ns → IsNormalWithin n p (a_list (a_pair a_position a_prim)) more ms → IsNormalWithin n p a_mask (mask_tree (extended (mask_start x) more)) (ns ++ ms)
-mask_made {n = n} {p = p} k m =
-    let s = more_start a_position a_prim prim_stays (mask_begun k) m in
-    record {
-      marks = s.head_marks ++ s.rest_marks;
-      within = s.within;
-      normal = subst (λ (z : Operands RawPrim Position). IsNormal n p a_mask (mask_tree z) (s.head_marks ++ s.rest_marks)) (sym s.is) (is_mask s.head_normal s.head_stays s.rest_normal);
-    }
+mask_made {x = x} {more = more} k m = joined_made a_position a_prim a_mask mask_tree mask_parts bracket_prim as_mask (λ x a y h u. prim_held y h u) (λ y a z h v. as_mask_in z h v) (λ z a ns h w. mask_taken h w) (λ x rest a b h e r. is_mask h e r) {x = x} {more = more} k m
 
 -- ---- union
 
@@ -123,35 +120,12 @@ abbrev union_parts : RawUnion → Operands RawMask Position
 union_parts m = ((out-RawUnion m).operands, (out-RawUnion m).operators)
 
 union_taken : {n : ℕ} {p : Bool} {m : RawUnion} {a ns : List ℕ} → IsNormal n p a_union m a → Within a ns → Start n p a_position a_mask mask_stays (union_parts m) ns
-union_taken (is_union {x = x} {rest = rest} {a = a} {b = b} h e r) w =
+union_taken (is_union {x = x} {rest = rest} h e r) w =
     let ops : Operands RawMask Position = extended (x ∷ [], []) rest in
-    record {
-      head = x;
-      rest = rest;
-      is = ap (λ (z : RawUnion-F RawExpr RawPrimary RawRef RawCand RawCmp RawCond RawDiffer RawMask RawPrim RawSum RawTerm RawUnion). (z.operands, z.operators)) (out-roll-RawUnion (record { operands = ops.0; operators = ops.1 }));
-      head_marks = a;
-      rest_marks = b;
-      within = w;
-      head_normal = h;
-      head_stays = e;
-      rest_normal = r;
-    }
-
-union_begun : {n : ℕ} {p : Bool} {x : RawMask} {ns : List ℕ} → IsNormalWithin n p a_mask x ns → Start n p a_position a_mask mask_stays (union_start x) ns
-union_begun {n = n} {p = p} {x = x} {ns = ns} k =
-    elim (bracket_mask x >>- as_union) as (λ o. (bracket_mask x >>- as_union) ≡ o → Start n p a_position a_mask mask_stays (first_of union_parts o x) ns) [
-      | None ↦ λ e. alone_start a_position a_mask mask_stays k e
-      | Some m ↦ λ e. elim (both_of (bracket_mask x) as_union m e) [ both_steps y u v ↦ let h = mask_held y k.normal u in union_taken (as_union_in m h.normal v) (twice h.within k.within) ]
-    ] refl
+    start_with a_position a_mask mask_stays x rest (ap (λ (z : UnionLayer). (z.operands, z.operators)) (out-roll-RawUnion (record { operands = ops.0; operators = ops.1 }))) w h e r
 
 pub union_made : {n : ℕ} {p : Bool} {x : RawMask} {more : List (Position × RawMask)} {ns ms : List ℕ} → IsNormalWithin n p a_mask x ns → IsNormalWithin n p (a_list (a_pair a_position a_mask)) more ms → IsNormalWithin n p a_union (union_tree (extended (union_start x) more)) (ns ++ ms)
-union_made {n = n} {p = p} k m =
-    let s = more_start a_position a_mask mask_stays (union_begun k) m in
-    record {
-      marks = s.head_marks ++ s.rest_marks;
-      within = s.within;
-      normal = subst (λ (z : Operands RawMask Position). IsNormal n p a_union (union_tree z) (s.head_marks ++ s.rest_marks)) (sym s.is) (is_union s.head_normal s.head_stays s.rest_normal);
-    }
+union_made {x = x} {more = more} k m = joined_made a_position a_mask a_union union_tree union_parts bracket_mask as_union (λ x a y h u. mask_held y h u) (λ y a z h v. as_union_in z h v) (λ z a ns h w. union_taken h w) (λ x rest a b h e r. is_union h e r) {x = x} {more = more} k m
 
 -- ---- differ
 
@@ -162,35 +136,12 @@ abbrev differ_parts : RawDiffer → Operands RawUnion Position
 differ_parts m = ((out-RawDiffer m).operands, (out-RawDiffer m).operators)
 
 differ_taken : {n : ℕ} {p : Bool} {m : RawDiffer} {a ns : List ℕ} → IsNormal n p a_differ m a → Within a ns → Start n p a_position a_union union_stays (differ_parts m) ns
-differ_taken (is_differ {x = x} {rest = rest} {a = a} {b = b} h e r) w =
+differ_taken (is_differ {x = x} {rest = rest} h e r) w =
     let ops : Operands RawUnion Position = extended (x ∷ [], []) rest in
-    record {
-      head = x;
-      rest = rest;
-      is = ap (λ (z : RawDiffer-F RawExpr RawPrimary RawRef RawCand RawCmp RawCond RawDiffer RawMask RawPrim RawSum RawTerm RawUnion). (z.operands, z.operators)) (out-roll-RawDiffer (record { operands = ops.0; operators = ops.1 }));
-      head_marks = a;
-      rest_marks = b;
-      within = w;
-      head_normal = h;
-      head_stays = e;
-      rest_normal = r;
-    }
-
-differ_begun : {n : ℕ} {p : Bool} {x : RawUnion} {ns : List ℕ} → IsNormalWithin n p a_union x ns → Start n p a_position a_union union_stays (differ_start x) ns
-differ_begun {n = n} {p = p} {x = x} {ns = ns} k =
-    elim (bracket_union x >>- as_differ) as (λ o. (bracket_union x >>- as_differ) ≡ o → Start n p a_position a_union union_stays (first_of differ_parts o x) ns) [
-      | None ↦ λ e. alone_start a_position a_union union_stays k e
-      | Some m ↦ λ e. elim (both_of (bracket_union x) as_differ m e) [ both_steps y u v ↦ let h = union_held y k.normal u in differ_taken (as_differ_in m h.normal v) (twice h.within k.within) ]
-    ] refl
+    start_with a_position a_union union_stays x rest (ap (λ (z : DifferLayer). (z.operands, z.operators)) (out-roll-RawDiffer (record { operands = ops.0; operators = ops.1 }))) w h e r
 
 pub differ_made : {n : ℕ} {p : Bool} {x : RawUnion} {more : List (Position × RawUnion)} {ns ms : List ℕ} → IsNormalWithin n p a_union x ns → IsNormalWithin n p (a_list (a_pair a_position a_union)) more ms → IsNormalWithin n p a_differ (differ_tree (extended (differ_start x) more)) (ns ++ ms)
-differ_made {n = n} {p = p} k m =
-    let s = more_start a_position a_union union_stays (differ_begun k) m in
-    record {
-      marks = s.head_marks ++ s.rest_marks;
-      within = s.within;
-      normal = subst (λ (z : Operands RawUnion Position). IsNormal n p a_differ (differ_tree z) (s.head_marks ++ s.rest_marks)) (sym s.is) (is_differ s.head_normal s.head_stays s.rest_normal);
-    }
+differ_made {x = x} {more = more} k m = joined_made a_position a_union a_differ differ_tree differ_parts bracket_union as_differ (λ x a y h u. union_held y h u) (λ y a z h v. as_differ_in z h v) (λ z a ns h w. differ_taken h w) (λ x rest a b h e r. is_differ h e r) {x = x} {more = more} k m
 
 -- ---- term
 
@@ -201,35 +152,12 @@ abbrev term_parts : RawTerm → Operands RawDiffer RawFactorSign
 term_parts m = ((out-RawTerm m).operands, (out-RawTerm m).operators)
 
 term_taken : {n : ℕ} {p : Bool} {m : RawTerm} {a ns : List ℕ} → IsNormal n p a_term m a → Within a ns → Start n p a_factor_sign a_differ differ_stays (term_parts m) ns
-term_taken (is_term {x = x} {rest = rest} {a = a} {b = b} h e r) w =
+term_taken (is_term {x = x} {rest = rest} h e r) w =
     let ops : Operands RawDiffer RawFactorSign = extended (x ∷ [], []) rest in
-    record {
-      head = x;
-      rest = rest;
-      is = ap (λ (z : RawTerm-F RawExpr RawPrimary RawRef RawCand RawCmp RawCond RawDiffer RawMask RawPrim RawSum RawTerm RawUnion). (z.operands, z.operators)) (out-roll-RawTerm (record { operands = ops.0; operators = ops.1 }));
-      head_marks = a;
-      rest_marks = b;
-      within = w;
-      head_normal = h;
-      head_stays = e;
-      rest_normal = r;
-    }
-
-term_begun : {n : ℕ} {p : Bool} {x : RawDiffer} {ns : List ℕ} → IsNormalWithin n p a_differ x ns → Start n p a_factor_sign a_differ differ_stays (term_start x) ns
-term_begun {n = n} {p = p} {x = x} {ns = ns} k =
-    elim (bracket_differ x >>- as_term) as (λ o. (bracket_differ x >>- as_term) ≡ o → Start n p a_factor_sign a_differ differ_stays (first_of term_parts o x) ns) [
-      | None ↦ λ e. alone_start a_factor_sign a_differ differ_stays k e
-      | Some m ↦ λ e. elim (both_of (bracket_differ x) as_term m e) [ both_steps y u v ↦ let h = differ_held y k.normal u in term_taken (as_term_in m h.normal v) (twice h.within k.within) ]
-    ] refl
+    start_with a_factor_sign a_differ differ_stays x rest (ap (λ (z : TermLayer). (z.operands, z.operators)) (out-roll-RawTerm (record { operands = ops.0; operators = ops.1 }))) w h e r
 
 pub term_made : {n : ℕ} {p : Bool} {x : RawDiffer} {more : List (RawFactorSign × RawDiffer)} {ns ms : List ℕ} → IsNormalWithin n p a_differ x ns → IsNormalWithin n p (a_list (a_pair a_factor_sign a_differ)) more ms → IsNormalWithin n p a_term (term_tree (extended (term_start x) more)) (ns ++ ms)
-term_made {n = n} {p = p} k m =
-    let s = more_start a_factor_sign a_differ differ_stays (term_begun k) m in
-    record {
-      marks = s.head_marks ++ s.rest_marks;
-      within = s.within;
-      normal = subst (λ (z : Operands RawDiffer RawFactorSign). IsNormal n p a_term (term_tree z) (s.head_marks ++ s.rest_marks)) (sym s.is) (is_term s.head_normal s.head_stays s.rest_normal);
-    }
+term_made {x = x} {more = more} k m = joined_made a_factor_sign a_differ a_term term_tree term_parts bracket_differ as_term (λ x a y h u. differ_held y h u) (λ y a z h v. as_term_in z h v) (λ z a ns h w. term_taken h w) (λ x rest a b h e r. is_term h e r) {x = x} {more = more} k m
 
 -- ---- sums
 
@@ -244,7 +172,7 @@ data Begun (n : ℕ) (p : Bool) : Terms → List ℕ → Type 0 where
 abbrev terms : RawSum → Terms
 terms s = ((out-RawSum s).sign, ((out-RawSum s).operands, (out-RawSum s).operators))
 
-abbrev terms_in : RawSum-F RawExpr RawPrimary RawRef RawCand RawCmp RawCond RawDiffer RawMask RawPrim RawSum RawTerm RawUnion → Terms
+abbrev terms_in : SumLayer → Terms
 terms_in z = (z.sign, (z.operands, z.operators))
 
 sum_taken : {n : ℕ} {p : Bool} {s : RawSum} {a ns : List ℕ} → IsNormal n p a_sum s a → Within a ns → Begun n p (terms s) ns
@@ -298,7 +226,7 @@ expr_made {n = n} {p = p} {x = x} {ns = ns} k =
 
 joined_prim : {n : ℕ} {p : Bool} {bits : List RawBits} {q : RawPrim} (x : RawPrimary) {a c : List ℕ} → IsNormal n p (a_list a_bits) bits a → IsNormal n p a_prim q c → IsNormal n p a_prim (prim_or (Some q) bits x) (a ++ c)
 joined_prim {n = n} {p = p} {bits = bits} x {a = a} g (is_prim {bits = inner} {x = y} {a = b} {b = c} h k l) =
-    let joined : RawPrim-F RawExpr RawPrimary RawRef RawCand RawCmp RawCond RawDiffer RawMask RawPrim RawSum RawTerm RawUnion → RawPrim = λ z. roll-RawPrim (record { bits = bits ++ z.bits; primary = z.primary }) in
+    let joined : PrimLayer → RawPrim = λ z. roll-RawPrim (record { bits = bits ++ z.bits; primary = z.primary }) in
     subst (λ (z : RawPrim). IsNormal n p a_prim z (a ++ (b ++ c))) (sym (ap joined (out-roll-RawPrim (record { bits = inner; primary = y }))))
     (subst (λ (z : List ℕ). IsNormal n p a_prim (roll-RawPrim (record { bits = bits ++ inner; primary = y })) z) (append_assoc a b c) (is_prim (appended g h) k l))
 

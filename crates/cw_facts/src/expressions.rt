@@ -143,7 +143,7 @@ fn prim_uses(e: &RawPrim, reading: Reading, out: &mut List<Fact>) -> Result<(), 
     ensures { OnOk result (out.new ≡ out.old ++ prim_uses e.now reading) }
 {
     let reading = reading_of(reading, e.bits.as_slice().len() == 0);
-    primary_uses(e.primary.get(), reading, out)
+    primary_uses(&e.primary, reading, out)
 }
 
 #[cycle(uses)]
@@ -158,7 +158,7 @@ fn primary_uses(e: &RawPrimary, reading: Reading, out: &mut List<Fact>) -> Resul
         }
         RawPrimary::Forced(_, e) => expression_uses(e.get(), Reading::Value, out),
         RawPrimary::Bracket(_, e) => expression_uses(e.get(), Reading::Value, out),
-        RawPrimary::Ref(reference) => reference_uses(reference.get(), reading, out),
+        RawPrimary::Ref(reference) => reference_uses(reference, reading, out),
         RawPrimary::Call(name, arguments) => {
             note(*name, Form::CallValue, out)?;
             argument_uses(arguments.as_slice(), out)

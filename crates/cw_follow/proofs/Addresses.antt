@@ -32,7 +32,7 @@ use Rattle.cw_follow.proofs.Operands.{Setting, words, allowed, One, result, Land
 use Rattle.cw_follow.proofs.Called.{Then, parts}
 use Rattle.cw_follow.proofs.Numbers.{left, right, overflows_same, difference_overflows_is, difference_is, fits_tested, unsigned_pos}
 use Rattle.cw_follow.proofs.Indexed.{below_count, past_count}
-use Rattle.cw_follow.proofs.Facts.{low_is, top_overflows, top_low, not_below}
+use Rattle.cw_follow.proofs.Facts.{low_is, top_overflows, top_low, top_product, not_below}
 use Rattle.cw_follow.proofs.Standing.{Has, HasWord, Image}
 
 -- a test for an overflow, and something more behind it
@@ -59,6 +59,21 @@ module _ (rows : Rows) (x y : ℤ) (fx : FitsWord x) (fy : FitsWord y) where
 
   pub product_is : FitsWord (x *ℤ y) → product_low (unsigned x) (unsigned y) ≡ unsigned (x *ℤ y)
   product_is f = ap₂ (λ a b. low_word (a *ℤ b)) (rows.words.back x fx) (rows.words.back y fy) ∙ low_is (x *ℤ y) f
+
+-- those of a number that a template multiplies by
+module _ (rows : Rows) (x : ℤ) (fx : FitsWord x) where
+  pub times_is : (n : ℕ) → n ≤ 32768 → FitsWord (x *ℤ pos n) → product_low (unsigned x) n ≡ unsigned (x *ℤ pos n)
+  times_is n most f = cases (n == 32768) refl
+    where
+      cases : (b : Bool) → (n == 32768) ≡ b → product_low (unsigned x) n ≡ unsigned (x *ℤ pos n)
+      cases true is =
+          let n_is : n ≡ 32768 = eqb-true n 32768 is in
+          subst (λ m. product_low (unsigned x) m ≡ unsigned (x *ℤ pos m)) (sym n_is) (top_product x fx (subst (λ m. FitsWord (x *ℤ pos m)) n_is f))
+      cases false is =
+          let ne = eqb-false n 32768 is in
+          let lt : n < 32768 = omega arith in
+          let fn : FitsWord (pos n) = fits_tested (pos n) (lt-ltb n 32768 lt) in
+          ap (product_low (unsigned x)) (sym (unsigned_pos n (omega arith))) ∙ product_is rows x (pos n) fx fn f
 
 module _ (c : Setting) (memory : List ℤ) (input output : List ℕ) where
   -- AX times a number, as far as the test

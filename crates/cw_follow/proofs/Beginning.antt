@@ -16,7 +16,8 @@ use Rattle.cw_order.specs.Activations.{ActivationsStand, StateStands}
 use Rattle.cw_tmpl.specs.declared.blocks.Block.TheVariants as block
 use Rattle.cw_tmpl.specs.Blocks.{block_at, orders_left, left_at}
 use Rattle.cw_tmpl.specs.Library.{enter_entry, enter_place, enter_stop_entry, enter_stop_place}
-use Rattle.cw_tmpl.specs.Templates.{entered, entered_size, segment_word, is_short}
+use Rattle.cw_tmpl.specs.Templates.{entered, entered_size, segment_word}
+use Rattle.cw_tmpl.specs.ShortForms.{is_short}
 use Rattle.cw_tmpl.specs.ReferenceCode.{names_of, reach_of}
 use Rattle.cw_follow.specs.Placing.{base_of}
 use Rattle.cw_tmpl.proofs.Sizes.{listed, own_place, left_next, pieces_by, size_by}

@@ -19,7 +19,8 @@ use Rattle.cw_order.specs.OrderMachine.{after, unrefused, leave_for, called, cal
 use Rattle.cw_order.specs.Activations.{ActivationsStand, Beginning, StateStands}
 use Rattle.cw_tmpl.specs.Blocks.{left_at}
 use Rattle.cw_tmpl.specs.Names.{procedure_start}
-use Rattle.cw_tmpl.specs.Templates.{distance, is_short}
+use Rattle.cw_tmpl.specs.Templates.{distance}
+use Rattle.cw_tmpl.specs.ShortForms.{is_short}
 use Rattle.cw_tmpl.specs.ReferenceCode.{mark_starts, names_of, reach_of}
 use Rattle.cw_follow.specs.Placing.{base_of, start_in, procedure_place, definition_place}
 use Rattle.cw_tmpl.proofs.Sizes.{own_place, mark_start, jump_arrives, size_by}

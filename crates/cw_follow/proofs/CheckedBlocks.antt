@@ -15,7 +15,8 @@ use Rattle.cw_tmpl.specs.Mnemonics.{jump_if_no_overflow}
 use Rattle.cw_tmpl.specs.Pieces.{Filling, blanks}
 use Rattle.cw_tmpl.specs.Names.{call_place}
 use Rattle.cw_tmpl.specs.Blocks.{block_at, left_at}
-use Rattle.cw_tmpl.specs.Templates.{block_size, call_stop, checked_by, check_of, is_close, is_short, short_distance}
+use Rattle.cw_tmpl.specs.Templates.{block_size, call_stop, checked_by, is_close, short_distance}
+use Rattle.cw_tmpl.specs.ShortForms.{check_of, is_short}
 use Rattle.cw_tmpl.specs.ReferenceCode.{names_of, order_places, reach_of}
 use Rattle.cw_tmpl.proofs.Sizes.{own_place}
 use Rattle.cw_tmpl.proofs.Reaching.{short_arrives}

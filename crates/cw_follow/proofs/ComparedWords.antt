@@ -21,7 +21,8 @@ use Rattle.cw_tmpl.specs.declared.blocks.Block.TheVariants as block
 use Rattle.cw_tmpl.specs.Blocks.{block_at}
 use Rattle.cw_tmpl.specs.Mnemonics.{bx, slot, base_slot, field, load, compare_number}
 use Rattle.cw_tmpl.specs.ReferenceCode.{mark_starts, reach_of}
-use Rattle.cw_tmpl.specs.Templates.{is_close, is_short, block_size, frame_size, pieces_size, word_compared}
+use Rattle.cw_tmpl.specs.Templates.{is_close, block_size, frame_size, pieces_size, word_compared}
+use Rattle.cw_tmpl.specs.ShortForms.{is_short}
 use Rattle.cw_tmpl.proofs.Lengths.{field_compared}
 use Rattle.cw_tmpl.proofs.Sizes.{own_place, compare_word_long, word_compared_long}
 use Rattle.cw_i86.specs.Encoding.{bytes_of}

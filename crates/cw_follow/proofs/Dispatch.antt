@@ -36,7 +36,8 @@ use Rattle.cw_tmpl.specs.declared.blocks.Block.TheVariants as block
 use Rattle.cw_tmpl.specs.Pieces.{blanks}
 use Rattle.cw_tmpl.specs.Blocks.{address_orders, block_at, orders_left, left_at}
 use Rattle.cw_tmpl.specs.Names.{label_start, procedure_start, switch_start}
-use Rattle.cw_tmpl.specs.Templates.{distance, is_short, template_by, is_close, short_distance, block_size}
+use Rattle.cw_tmpl.specs.Templates.{distance, template_by, is_close, short_distance, block_size}
+use Rattle.cw_tmpl.specs.ShortForms.{is_short}
 use Rattle.cw_tmpl.specs.ReferenceCode.{mark_starts, names_of, order_places, reach_of}
 use Rattle.cw_tmpl.proofs.Sizes.{size_everywhere, own_place, jump_arrives}
 use Rattle.cw_follow.specs.Passing.{at_work, passes, size_at, NotBehindStart}
@@ -59,7 +60,7 @@ use Rattle.cw_follow.proofs.Calling.{calls_own, calls_common, controls_own, owne
 use Rattle.cw_follow.proofs.Jumping.{goes_common}
 use Rattle.cw_follow.proofs.Switching.{switches_own, switches_by_descriptor}
 use Rattle.cw_follow.proofs.Within.{frame_home, bind_static, bind_frame, come_back, enter_again, hand_on, call_special, go_special, switch_special}
-use Rattle.cw_follow.proofs.WordOrders.{rescale_follows, multiply_follows, divide_follows, element_follows, element_of_two_follows, entry_follows}
+use Rattle.cw_follow.proofs.WordOrders.{rescale_follows, multiply_follows, divide_follows, element_follows, element_of_two_follows, element_inside_follows, entry_follows}
 use Rattle.cw_follow.proofs.Words.{save_follows, const_follows, home_follows, load_follows, store_follows, load_part_follows, store_part_follows, add_follows, subtract_follows, negate_follows, and_follows, or_follows, xor_follows, take_follows, less_follows, drop_follows, index_less_follows, in_area_follows, in_bounds_follows, read_follows, write_follows}
 use Rattle.cw_follow.proofs.BlockOrders.{fetch_follows, assign_follows, divide_number_follows, write_top_follows}
 use Rattle.cw_follow.proofs.UseBlocks.{operand_follows}
@@ -298,8 +299,10 @@ module _ (known : Given) where
     follow_order false s a (order.IndexLess lower line) e = absurd (wrong_way known s (order.IndexLess lower line) e refl)
     follow_order true s a (order.Element lower span line) e = element_follows known s a lower span line e
     follow_order false s a (order.Element lower span line) e = absurd (wrong_way known s (order.Element lower span line) e refl)
-    follow_order true s a (order.ElementOfTwo lower second width span line) e = element_of_two_follows known s a lower second width span line e
-    follow_order false s a (order.ElementOfTwo lower second width span line) e = absurd (wrong_way known s (order.ElementOfTwo lower second width span line) e refl)
+    follow_order true s a (order.ElementOfTwo lower second width line) e = element_of_two_follows known s a lower second width line e
+    follow_order false s a (order.ElementOfTwo lower second width line) e = absurd (wrong_way known s (order.ElementOfTwo lower second width line) e refl)
+    follow_order true s a (order.ElementInside lower second width span) e = element_inside_follows known s a lower second width span e
+    follow_order false s a (order.ElementInside lower second width span) e = absurd (wrong_way known s (order.ElementInside lower second width span) e refl)
     follow_order true s a (order.Entry width word span line) e = entry_follows known s a width word span line e
     follow_order false s a (order.Entry width word span line) e = absurd (wrong_way known s (order.Entry width word span line) e refl)
     follow_order true s a (order.InArea line) e = in_area_follows known s a line e

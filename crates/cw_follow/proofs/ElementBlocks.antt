@@ -32,7 +32,8 @@ use Rattle.cw_tmpl.specs.declared.blocks.Block.TheVariants as block
 use Rattle.cw_tmpl.specs.Blocks.{element_orders, operand_orders, order_of, block_at, orders_left, left_at}
 use Rattle.cw_tmpl.specs.Mnemonics.{at_si, load, store, multiply}
 use Rattle.cw_tmpl.specs.Names.{call_place}
-use Rattle.cw_tmpl.specs.Templates.{checked_by, product_with, pieces_size, element_tested, element_address, block_size, is_short}
+use Rattle.cw_tmpl.specs.Templates.{checked_by, product_with, pieces_size, element_tested, element_address, block_size}
+use Rattle.cw_tmpl.specs.ShortForms.{is_short}
 use Rattle.cw_tmpl.specs.Sizes.{element_size}
 use Rattle.cw_tmpl.specs.ReferenceCode.{names_of, reach_of}
 use Rattle.cw_tmpl.proofs.Shapes.{TestNear, IsNear}

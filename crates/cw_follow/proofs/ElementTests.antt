@@ -27,7 +27,8 @@ use Rattle.cw_tmpl.specs.Blocks.{address_orders, bounds_orders, is_within, eleme
 use Rattle.cw_tmpl.specs.Library.{address_entry, bounds_entry}
 use Rattle.cw_tmpl.specs.Mnemonics.{load, operate, field, si as si_register, di, compare, double, jump_if_below, operate_number}
 use Rattle.cw_tmpl.specs.Pieces.{Filling}
-use Rattle.cw_tmpl.specs.Templates.{frame_size, call_stop, index_added, index_loaded, from_lower, indexes_between, address_tested, index_tested, Forms}
+use Rattle.cw_tmpl.specs.Templates.{frame_size, call_stop, index_added, index_loaded, from_lower, indexes_between, address_tested, index_tested}
+use Rattle.cw_tmpl.specs.ShortForms.{Forms}
 use Rattle.cw_tmpl.specs.Sizes.{index_size, lower_size}
 use Rattle.cw_tmpl.proofs.Shapes.{TestNear}
 use Rattle.cw_tmpl.proofs.Lengths.{field_loaded, field_operated}

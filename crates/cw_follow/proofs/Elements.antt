@@ -1,8 +1,8 @@
 -- What the code of elements of arrays and of entries of tables does: each number on the way to the address is tested.
-use Rattle.std.proofs.Common.{◌≡◌, ℕ, zero, suc, ◌+◌, ◌*◌, ◌%◌, ◌<◌, ◌≤◌, Bool, true, false, not, ℤ, pos, negsuc, ◌+ℤ◌, ◌-ℤ◌, ◌*ℤ◌, List, [], ◌∷◌, ◌++◌, length, refl, sym, ap, ◌∙◌, subst, arith, lit≤, length-append}
-use borrow.Author.Tests.{eqb-true}
+use Rattle.std.proofs.Common.{◌≡◌, ℕ, zero, suc, ◌+◌, ◌*◌, ◌%◌, ◌<◌, ◌≤◌, Bool, true, false, not, ℤ, pos, negsuc, ◌+ℤ◌, ◌-ℤ◌, ◌*ℤ◌, List, [], ◌∷◌, ◌++◌, length, refl, sym, ap, ◌∙◌, subst, arith, lit<, lit≤, length-append}
+use borrow.Author.Tests.{ltb-true, eqb-true}
 use Rattle.std.proofs.Math.Nat.{min-eq_left}
-use Rattle.std.proofs.lemmas.Bool.{lt-ltb, le-ltb}
+use Rattle.std.proofs.lemmas.Bool.{lt-ltb, le-ltb, false≢true}
 use Rattle.std.proofs.lemmas.Int.{ints}
 use Rattle.std.proofs.lemmas.List.Elements.{All-head, All-tail}
 use Rattle.std.specs.List.{All}
@@ -10,33 +10,34 @@ use Rattle.std.specs.Prelude.{◌==◌, if◌then◌else◌}
 use Rattle.cw_i86.specs.Encoding.{bytes_of}
 use Rattle.cw_i86.specs.declared.instr.Instr.TheVariants as i86
 use Rattle.cw_run86.specs.Processor.{Told}
-use Rattle.cw_run86.specs.Views.{View, word_sum, word_difference, sum_overflows, difference_overflows}
+use Rattle.cw_run86.specs.Views.{View, word_sum, word_difference, sum_overflows, difference_overflows, with_number}
 use Rattle.cw_word.specs.FixedPoint.{FitsWord, fits_word}
 use Rattle.cw_word.specs.Word.{unsigned}
 use Rattle.cw_unit.specs.Stop.{AddressRange}
-use Rattle.cw_unit.specs.Words.{Operand, Word, Held, Words, Outcome, Refused, on_one, put_if, is_below}
+use Rattle.cw_unit.specs.Words.{Operand, Word, Held, Words, Outcome, Changed, Refused, on_one, put, put_if, is_below}
 use Rattle.cw_unit.specs.Operation.{Addressing, Indexed, Indexed2, Scaled, fitting, address_of, form_address}
 use Rattle.cw_order.specs.FittingWords.{OperandFits}
 use Rattle.cw_order.specs.OrderChanges.{from_base}
+use Rattle.cw_order.specs.OrderMachine.{unrefused}
 use Rattle.cw_order.specs.OrderState.{operand_words}
 use Rattle.cw_tmpl.specs.declared.pieces.Coded.{Coded}
 use Rattle.cw_tmpl.specs.declared.pieces.Coded.TheVariants as coded
 use Rattle.cw_tmpl.specs.Library.{stop_place, address_entry}
-use Rattle.cw_tmpl.specs.Mnemonics.{ax, cx, move}
+use Rattle.cw_tmpl.specs.Mnemonics.{ax, cx, move, add, multiply, set_word}
 use Rattle.cw_tmpl.specs.Pieces.{Filling, blanks}
-use Rattle.cw_tmpl.specs.Templates.{unless_overflow, times_if, times, in_area, index_by, less_bound, plus_word, times_width, base_kept, based, element, in_row, element_of_two, entry}
+use Rattle.cw_tmpl.specs.Templates.{unless_overflow, times_if, times, in_area, index_by, less_bound, plus_word, times_width, base_kept, based, element, in_row, element_of_two, top_from_lower, times_entry, element_inside, entry}
 use Rattle.cw_follow.proofs.Watched.{Watched}
 use Rattle.cw_follow.proofs.Standing.{HasPieces}
 use Rattle.cw_follow.proofs.Chains.{Is, view, seen, done}
-use Rattle.cw_follow.proofs.Straight.{Act, Move, Pop, Sum, SumNumber, DifferenceNumber, Needs, instruction, after, straight}
+use Rattle.cw_follow.proofs.Straight.{Act, Move, Pop, Number, Product, Sum, SumNumber, DifferenceNumber, Needs, instruction, after, straight}
 use Rattle.cw_follow.proofs.Routines.{with_ax}
 use Rattle.cw_follow.proofs.Stacks.{level, record_of, StackIs, top_is}
-use Rattle.cw_follow.proofs.Orders.{Kept, later}
-use Rattle.cw_follow.proofs.Operands.{Setting, words, allowed, Two, two_there, LandedWith, DoesHere, guards}
+use Rattle.cw_follow.proofs.Orders.{Kept, later, further}
+use Rattle.cw_follow.proofs.Operands.{Setting, words, allowed, Two, two_there, LandedWith, DoesHere, guards, result}
 use Rattle.cw_follow.proofs.Called.{Then}
 use Rattle.cw_follow.proofs.Numbers.{sum_overflows_is, difference_overflows_is, sum_is, difference_is, fits_tested, unsigned_pos}
 use Rattle.cw_follow.proofs.Facts.{fits_true, not_below}
-use Rattle.cw_follow.proofs.Addresses.{times_code, test_place, times_tested, in_area_tested}
+use Rattle.cw_follow.proofs.Addresses.{times_is, times_code, test_place, times_tested, in_area_tested}
 
 same_fitting : (b : Bool) (o : Outcome) → allowed b AddressRange o ≡ fitting b o
 same_fitting true o = refl
@@ -57,6 +58,11 @@ address_fits area (pos n) w low = cases (fits_word (pos n)) refl
     cases : (b : Bool) → fits_word (pos n) ≡ b → fitting b (address_of area (pos n) w) ≡ address_of area (pos n) w
     cases true is = refl
     cases false is = ap (λ b. put_if b AddressRange (pos n) w) (sym (outside (not_below n 32768 is)))
+
+-- an address of the area is a word
+address_is : (area : ℕ) (z : ℤ) → area ≤ 32768 → is_below z area ≡ true → FitsWord z
+address_is area (pos n) low is = let lt = ltb-true n area is in fits_tested (pos n) (lt-ltb n 32768 (omega arith))
+address_is area (negsuc n) low is = absurd (false≢true is)
 
 module _ (c : Setting) (memory : List ℤ) (input output : List ℕ) (value : Filling) (to line : ℕ) (small : line < 65536) (arrives : (k : ℕ) → (k + value 7 address_entry 0 k) % 65536 ≡ stop_place AddressRange % 65536) where
   -- the code from a place to the end of that of the order
@@ -91,11 +97,13 @@ module _ (c : Setting) (memory : List ℤ) (input output : List ℕ) (value : Fi
   longer p m bound o le d = later c.program c.image m to c.g true line c.acts 0 bound o (omega arith) (done {Target = Reaches m o} d) (λ q t. t)
 
   -- without code, where the number is the same
+  stays : {p : Watched} {at cx si : ℕ} (m bound : ℕ) (z z' : ℤ) (rest : List Operand) (qs : List Coded) (o : Outcome) → m ≤ bound → z ≡ z' → Code at qs → Midway at z cx si rest p → On m z' cx si rest qs o → Reaches bound o p
+  stays {p} {at} {cx} {si} m bound z z' rest qs o le same code i on = longer p m bound o le (on at p code (subst (λ x. Midway at x cx si rest p) same i))
+
   nothing : {p : Watched} {at cx si : ℕ} (m bound : ℕ) (z z' : ℤ) (rest : List Operand) (qs : List Coded) (o : Outcome) → m ≤ bound → z ≡ z' → Code at qs → Midway at z cx si rest p
       → On m z' cx si rest qs o → Reaches bound (fitting (fits_word z') o) p
   nothing {p} {at} {cx} {si} m bound z z' rest qs o le same code i on =
-      let there : Midway at z' cx si rest p = subst (λ x. Midway at x cx si rest p) same i in
-      subst (λ b. Reaches bound (fitting b o) p) (sym (fits_true z' there.fits)) (longer p m bound o le (on at p code there))
+      subst (λ b. Reaches bound (fitting b o) p) (sym (fits_true z' (subst FitsWord same i.fits))) (stays m bound z z' rest qs o le same code i on)
 
   -- the test behind an operation that may have overflowed
   passes : {p : Watched} {at a cx dx bx si : ℕ} {overflow : Bool} {cells stack : ℕ → ℕ} {left : List ℕ} {told : Told} (m top : ℕ) (z : ℤ) (rest : List Operand) (qs : List Coded) (o : Outcome) → 13 ≤ m → top < level c.acts
@@ -249,7 +257,71 @@ module _ (c : Setting) (memory : List ℤ) (input output : List ℕ) (value : Fi
       (λ q t. on (at + 2 + 1) q (record { stands = h.1.1; ends = end })
       (record { dx = i.dx; bx = i.bx; overflow = i.overflow; top = suc i.top; cells = i.cells; stack = i.stack; left = i.left; told = i.told; fits = fx; low = low; is = t; under = i.under.1; kept = i.kept }))
 
-  -- ---- the three orders
+  -- ---- where all numbers fit
+
+  -- an instruction that leaves a number in AX
+  leaves : {p : Watched} {at cx si : ℕ} (act : Act) (a : ℕ) (f : Bool) (m : ℕ) (z z' : ℤ) (rest : List Operand) (qs : List Coded) (o : Outcome)
+      → ((dx bx sp bp di : ℕ) (overflow : Bool) (cells stack : ℕ → ℕ) (left : List ℕ) (told : Told) → after act (view (unsigned z) cx dx bx sp bp si di overflow cells stack left told) ≡ view a cx dx bx sp bp si di f cells stack left told)
+      → ((v : View) → Needs act v) → FitsWord z' → a ≡ unsigned z'
+      → Code at (coded.Whole (instruction act) ∷ qs) → Midway at z cx si rest p → On m z' cx si rest qs o → Reaches (1 + m) o p
+  leaves {p} {at} {cx} {si} act a f m z z' rest qs o does needs fits is_z code i on =
+      let h = code.stands in
+      let ends = code.ends in
+      let size : ℕ = length (bytes_of (instruction act)) in
+      let end : at + size + length (blanks qs) ≡ to = omega (arith, length-append (bytes_of (instruction act)) (blanks qs)) in
+      let seen_so = does i.dx i.bx (2 * suc i.top) (record_of c.acts) c.program.limits.area i.overflow i.cells i.stack i.left i.told in
+      later c.program c.image m to c.g true line c.acts 1 (1 + m) o (omega arith)
+      (straight c.rows (act ∷ []) i.kept.wrote (h.0, tt) (needs _, tt) i.is (λ q t. done t))
+      (λ q t.
+      on (at + size) q (record { stands = h.1; ends = end })
+      (record { dx = i.dx; bx = i.bx; overflow = f; top = i.top; cells = i.cells; stack = i.stack; left = i.left; told = i.told; fits = fits; low = i.low; is = with_ax is_z (seen refl seen_so t); under = i.under; kept = i.kept }))
+
+  -- an index less the lower bound
+  from_bound : {p : Watched} {at cx si : ℕ} (m : ℕ) (lower z : ℤ) (rest : List Operand) (qs : List Coded) (o : Outcome) → FitsWord lower → FitsWord (z -ℤ lower)
+      → Code at (top_from_lower lower ++ qs) → Midway at z cx si rest p → On m (z -ℤ lower) cx si rest qs o → Reaches (1 + m) o p
+  from_bound m lower z rest qs o fl fits = cases lower fl fits
+    where
+      some : {p : Watched} {at cx si : ℕ} (l : ℤ) → FitsWord l → FitsWord (z -ℤ l) → Code at (coded.Whole (with_number 5 (unsigned l)) ∷ qs) → Midway at z cx si rest p
+          → On m (z -ℤ l) cx si rest qs o → Reaches (1 + m) o p
+      some l fl fits code i on =
+          leaves (DifferenceNumber (unsigned l)) (word_difference (unsigned z) (unsigned l)) (difference_overflows (unsigned z) (unsigned l)) m z (z -ℤ l) rest qs o (λ dx bx sp bp di overflow cells stack left told. refl) (λ v. tt)
+          fits (difference_is c.rows.words z l i.fits fl fits) code i on
+
+      cases : {p : Watched} {at cx si : ℕ} (l : ℤ) → FitsWord l → FitsWord (z -ℤ l) → Code at (top_from_lower l ++ qs) → Midway at z cx si rest p → On m (z -ℤ l) cx si rest qs o → Reaches (1 + m) o p
+      cases (pos zero) fl fits code i on = stays m (1 + m) z (z -ℤ pos 0) rest qs o (omega arith) (omega (arith, ints)) code i on
+      cases (pos (suc n)) fl fits code i on = some (pos (suc n)) fl fits code i on
+      cases (negsuc n) fl fits code i on = some (negsuc n) fl fits code i on
+
+  -- times the words of a row
+  rows_by : {p : Watched} {at cx si : ℕ} (m width : ℕ) (z : ℤ) (rest : List Operand) (qs : List Coded) (o : Outcome) → width ≤ 32768 → FitsWord (z *ℤ pos width)
+      → Code at (times_entry width ++ qs) → Midway at z cx si rest p → On m (z *ℤ pos width) cx si rest qs o → Reaches (2 + m) o p
+  rows_by {p} {at} {cx} {si} m width z rest qs o most fits code i on = cases (width == 1) refl code
+    where
+      cases : (b : Bool) → (width == 1) ≡ b → Code at ((if b then [] else coded.Whole (set_word 3 width) ∷ coded.Whole (multiply 3) ∷ []) ++ qs) → Reaches (2 + m) o p
+      cases true is h =
+          let same : z ≡ z *ℤ pos 1 = omega (arith, ints) in
+          stays m (2 + m) z (z *ℤ pos width) rest qs o (omega arith) (same ∙ ap (λ n. z *ℤ pos n) (sym (eqb-true width 1 is))) h i on
+      cases false is h =
+          let s = h.stands in
+          let ends = h.ends in
+          let end : at + 3 + 2 + length (blanks qs) ≡ to = omega arith in
+          later c.program c.image m to c.g true line c.acts 2 (2 + m) o (omega arith)
+          (straight c.rows (Number 3 width ∷ Product 3 ∷ []) i.kept.wrote (s.0, (s.1.0, tt)) (tt, (tt, tt)) i.is (λ q t. done t))
+          (λ q t.
+          on (at + 3 + 2) q (record { stands = s.1.1; ends = end })
+          (record { dx = _; bx = width; overflow = _; top = i.top; cells = i.cells; stack = i.stack; left = i.left; told = i.told; fits = fits; low = i.low; is = with_ax (times_is c.rows z i.fits width most fits) t; under = i.under; kept = i.kept }))
+
+  -- the base added, which ends the code
+  base_added : {p : Watched} {at cx : ℕ} (base z : ℤ) (rest : List Operand) → FitsWord base → FitsWord (z +ℤ base) → Code at (coded.Whole (add 0 6) ∷ []) → Midway at z cx (unsigned base) rest p
+      → Reaches 1 (Changed (put (base +ℤ z) (words rest memory input output))) p
+  base_added {p} {at} {cx} base z rest fb fits code i =
+      let h = code.stands in
+      let turned : z +ℤ base ≡ base +ℤ z = omega (arith, ints) in
+      further 1 (lit≤ tt) (lit< tt)
+      (straight c.rows (Sum 0 6 ∷ []) i.kept.wrote (h.0, tt) (tt, tt) i.is
+      (λ q t. done (result c memory input output to (suc i.top) (base +ℤ z) rest code.ends (sum_is c.rows.words z base i.fits fb fits ∙ ap unsigned turned) i.under i.kept t)))
+
+  -- ---- the orders
 
   abbrev Forms : ℕ → (ℤ → Addressing) → List Operand → Watched → Type 0
   Forms limit f operands p = Reaches limit (from_base c.program.limits.area f (words operands memory input output)) p
@@ -318,6 +390,74 @@ module _ (c : Setting) (memory : List ℤ) (input output : List ℕ) (value : Fi
           times_by 19 width row rest ends summed (lit≤ tt) most code i (λ at q code i.
           adds_register 1 17 place begins rest (based line) last (λ dx bx sp bp di overflow cells stack left told. refl) (lit≤ tt) fp code i (λ at q code i.
           based_by b (begins +ℤ place) rest fb code i)))))))
+
+  -- the three operands of an element of two dimensions, as the processor has them
+  module _ {p : Watched} {at : ℕ} (lower second : ℤ) (width : ℕ) (b j x : ℤ) (rest : List Operand) (fb : FitsWord b) (fj : FitsWord j) (fx : FitsWord x) (two : Two c memory input output at j b (Word x ∷ rest) p) where
+    abbrev row : ℤ
+    row = x -ℤ lower
+
+    abbrev begins : ℤ
+    begins = row *ℤ pos width
+
+    abbrev place : ℤ
+    place = j -ℤ second
+
+    abbrev behind_base : ℤ
+    behind_base = begins +ℤ place
+
+    abbrev inside : Outcome
+    inside = Changed (put (b +ℤ behind_base) (words rest memory input output))
+
+    -- where all numbers fit, and the address is one
+    inside_added : FitsWord lower → FitsWord second → width ≤ 32768 → Code at (element_inside lower second width) → FitsWord row → FitsWord begins → FitsWord place → FitsWord behind_base → is_below (b +ℤ behind_base) c.program.limits.area ≡ true → Reaches 10 inside p
+    inside_added fl fs most code fr fm fp fz below =
+        let last : List Coded = coded.Whole (add 0 6) ∷ [] in
+        let sums : List Coded = coded.Whole (add 0 1) ∷ last in
+        let row_code : List Coded = top_from_lower lower ++ (times_entry width ++ sums) in
+        let place_code : List Coded = coded.Whole (move cx ax) ∷ coded.Whole (i86.Pop ax) ∷ row_code in
+        let turned : behind_base +ℤ b ≡ b +ℤ behind_base = omega (arith, ints) in
+        let fa : FitsWord (behind_base +ℤ b) = subst FitsWord (sym turned) (address_is c.program.limits.area (b +ℤ behind_base) c.low below) in
+        base_by 8 j b (Word x ∷ rest) (top_from_lower second ++ place_code) inside fj code two (λ cx at q code i.
+        from_bound 7 second j (Word x ∷ rest) place_code inside fs fp code i (λ at q code i.
+        place_by 5 place x rest row_code inside fx code i (λ at q code i.
+        from_bound 4 lower x rest (times_entry width ++ sums) inside fl fr code i (λ at q code i.
+        rows_by 2 width row rest sums inside most fm code i (λ at q code i.
+        leaves (Sum 0 1) (word_sum (unsigned begins) (unsigned place)) (sum_overflows (unsigned begins) (unsigned place)) 1 begins behind_base rest last inside (λ dx bx sp bp di overflow cells stack left told. refl) (λ v. tt)
+        fz (sum_is c.rows.words begins place i.fits fp fz) code i (λ at q code i.
+        base_added b behind_base rest fb fa code i))))))
+
+    inside_tested : FitsWord lower → FitsWord second → width ≤ 32768 → Code at (element_inside lower second width) → (t1 t2 t3 t4 t5 : Bool) → fits_word row ≡ t1 → fits_word begins ≡ t2 → fits_word place ≡ t3 → fits_word behind_base ≡ t4 → is_below (b +ℤ behind_base) c.program.limits.area ≡ t5
+        → Reaches 10 (unrefused (fitting t1 (fitting t2 (fitting t3 (fitting t4 (put_if t5 AddressRange (b +ℤ behind_base) (words rest memory input output))))))) p
+    inside_tested fl fs most code true true true true true e1 e2 e3 e4 e5 = inside_added fl fs most code (fits_tested row e1) (fits_tested begins e2) (fits_tested place e3) (fits_tested behind_base e4) e5
+    inside_tested fl fs most code true true true true false e1 e2 e3 e4 e5 = tt
+    inside_tested fl fs most code true true true false t5 e1 e2 e3 e4 e5 = tt
+    inside_tested fl fs most code true true false t4 t5 e1 e2 e3 e4 e5 = tt
+    inside_tested fl fs most code true false t3 t4 t5 e1 e2 e3 e4 e5 = tt
+    inside_tested fl fs most code false t2 t3 t4 t5 e1 e2 e3 e4 e5 = tt
+
+    formed_inside : FitsWord lower → FitsWord second → width ≤ 32768 → Code at (element_inside lower second width) → Reaches 10 (unrefused (form_address c.program.limits.area (Indexed2 b lower second width) (words (Word j ∷ Word x ∷ rest) memory input output))) p
+    formed_inside fl fs most code = inside_tested fl fs most code (fits_word row) (fits_word begins) (fits_word place) (fits_word behind_base) (is_below (b +ℤ behind_base) c.program.limits.area) refl refl refl refl refl
+
+  pub forms_element_inside : {p : Watched} {at : ℕ} (lower second : ℤ) (width : ℕ) (operands : List Operand) → FitsWord lower → FitsWord second → width ≤ 32768 → operand_words operands < level c.acts → All OperandFits operands
+      → Code at (element_inside lower second width) → LandedWith c memory input output at true operands p
+      → Reaches 10 (unrefused (from_base c.program.limits.area (λ base. Indexed2 base lower second width) (words operands memory input output))) p
+  forms_element_inside {p} {at} lower second width operands fl fs most room fits code l =
+      subst (λ n. Reaches 10 (unrefused (on_one (λ base v. form_address n (Indexed2 base lower second width) v) operands (words operands memory input output))) p) (sym (min-eq_left c.low)) (cases operands room fits l)
+    where
+      cases : (operands : List Operand) → operand_words operands < level c.acts → All OperandFits operands → LandedWith c memory input output at true operands p
+          → Reaches 10 (unrefused (on_one (λ base v. form_address c.program.limits.area (Indexed2 base lower second width) v) operands (words operands memory input output))) p
+      cases [] room fits l = tt
+      cases (Held d ∷ rest) room fits l = tt
+      cases (Word b ∷ []) room fits l = tt
+      cases (Word b ∷ Held d ∷ rest) room fits l = tt
+      cases (Word b ∷ Word j ∷ []) room fits l = tt
+      cases (Word b ∷ Word j ∷ Held d ∷ rest) room fits l = tt
+      cases (Word b ∷ Word j ∷ Word x ∷ rest) room fits l =
+          let below = All-tail OperandFits (Word b) (Word j ∷ Word x ∷ rest) fits in
+          let fb = All-head OperandFits (Word b) (Word j ∷ Word x ∷ rest) fits in
+          let fj = All-head OperandFits (Word j) (Word x ∷ rest) below in
+          let fx = All-head OperandFits (Word x) rest (All-tail OperandFits (Word j) (Word x ∷ rest) below) in
+          formed_inside lower second width b j x rest fb fj fx (two_there c memory input output j b (Word x ∷ rest) room l) fl fs most code
 
   pub forms_entry : {p : Watched} {at : ℕ} (width word : ℕ) (operands : List Operand) → width ≤ 32768 → word < 32768 → operand_words operands < level c.acts → All OperandFits operands
       → Code at (entry line width word) → LandedWith c memory input output at true operands p → Forms 25 (λ base. Scaled base width word) operands p

@@ -61,3 +61,8 @@ top_overflows (negsuc n) f = grind (arith, ints, nat_tests)
 pub top_low : (x : ℤ) → FitsWord x → FitsWord (x *ℤ pos 32768) → cast_unsigned w32 (signed (word_difference 0 (unsigned x)) *ℤ signed 32768) % 65536 ≡ unsigned (x *ℤ pos 32768)
 top_low (pos n) f g = grind (arith, ints)
 top_low (negsuc n) f g = grind (arith, ints)
+
+-- a word times -32,768 as well, where the product fits
+pub top_product : (x : ℤ) → FitsWord x → FitsWord (x *ℤ pos 32768) → cast_unsigned w32 (signed (unsigned x) *ℤ signed 32768) % 65536 ≡ unsigned (x *ℤ pos 32768)
+top_product (pos n) f g = grind (arith, ints)
+top_product (negsuc n) f g = grind (arith, ints)

@@ -23,7 +23,7 @@ use Rattle.cw_tmpl.specs.Pieces.{Filling, bytes_with, size_of, target_of, reloca
 use Rattle.cw_tmpl.specs.Mnemonics.{field, code_at, entry_of_table, change_memory, operate_number, memory, argument, double, jump_to, jump_if_below, set_word, at_bx, at_si, load, store, subtract, both, either, one_of, operate, change, move, add, multiply, shift_up, shift_up_once, shift_down, shift_down_once, shift_down_signed, shift_down_signed_once}
 use Rattle.cw_tmpl.specs.Library.{places_of_entries, entry_place, start_entry, overflow_entry, zero_divisor_entry, address_entry, bounds_entry, switch_entry, enter_entry, enter_stop_entry, read_entry, product_entry, quotient_up_entry, quotient_down_entry, set_variable_entry, add_step_entry, put_variable_entry, exhausted_entry, next_step_entry}
 use Rattle.cw_tmpl.specs.Names.{Names, mark_place, call_place, label_start, switch_start, procedure_start}
-use Rattle.cw_tmpl.specs.Templates.{ended_back, rescale, rescale_before, product_before, quotient_before, is_checked, word_compared, template, call_library, call_stop, unless_overflow, checked, checked_by, call_at_line, on_both, with_word, times, times_if, shifted, shifted_up, shifted_down, shifted_down_signed, lowest_if, taken, part_taken, load_top, store_part, rescale_if, by_routine, product_start, product_down, product, divisor_tested, quotient, in_area, index_by, less_bound, plus_word, times_width, base_kept, based, element, in_row, element_of_two, entry, top_below, with_both_bounds, in_bounds, branch, distance, jump_near, opposite_of, frame_entered, control_out, return_with, operands_dropped, base_jump, number_compared, mark_words, goal_words, loop_way, loop_ways, place_doubled, doubled_size, step_taken, switch_pieces, address_pieces, load_place, store_place, operate_place, change_place, index_added, index_loaded, from_lower, indexes_between, element_tested, element_address, with_operand, product_with, pieces_size, operated, top_from_lower, times_entry, formed, block_pieces, entry_pieces, template_by, branch_by, short_branch, segment_word, argument_load_size, column_loaded, column_below, row_address}
+use Rattle.cw_tmpl.specs.Templates.{ended_back, rescale, rescale_before, product_before, quotient_before, is_checked, word_compared, template, call_library, call_stop, unless_overflow, checked, checked_by, call_at_line, on_both, with_word, times, times_if, shifted, shifted_up, shifted_down, shifted_down_signed, lowest_if, taken, part_taken, load_top, store_part, rescale_if, by_routine, product_start, product_down, product, divisor_tested, quotient, in_area, index_by, less_bound, plus_word, times_width, base_kept, based, element, in_row, element_of_two, element_inside, entry, top_below, with_both_bounds, in_bounds, branch, distance, jump_near, opposite_of, frame_entered, control_out, return_with, operands_dropped, base_jump, number_compared, mark_words, goal_words, loop_way, loop_ways, place_doubled, doubled_size, step_taken, switch_pieces, address_pieces, load_place, store_place, operate_place, change_place, index_added, index_loaded, from_lower, indexes_between, element_tested, element_address, with_operand, product_with, pieces_size, operated, top_from_lower, times_entry, formed, block_pieces, entry_pieces, template_by, branch_by, short_branch, segment_word, argument_load_size, column_loaded, column_below, row_address}
 use Rattle.cw_order.specs.declared.order.Place.{Place}
 use Rattle.cw_order.specs.declared.order.Place.TheVariants as cell
 use Rattle.cw_tmpl.specs.declared.blocks.Element.{Element}
@@ -349,6 +349,22 @@ module _ (p : OrderProgram) (segment next : ℕ) (value : Filling) (fills : Fill
       (all_fine-append value (times address_entry line width) ends (times_fine (width == 32768) address_entry line width (lit< tt) small (omega arith)) ends_fine) in
       base_kept_fine _ (all_fine-append value (less_bound line second) (coded.Whole (move 1 0) ∷ coded.Whole (i86.Pop 0) ∷ row) (less_fine line small second fs) ((cx_register, is_ax), (ax_free, row_fine)))
 
+  top_lower_fine : (lower : ℤ) → FitsWord lower → AllFine value (top_from_lower lower)
+  top_lower_fine (pos zero) fl = tt
+  top_lower_fine (pos (suc n)) fl = ((lit< tt, unsigned_small (pos (suc n)) fl), tt)
+  top_lower_fine (negsuc n) fl = ((lit< tt, unsigned_small (negsuc n) fl), tt)
+
+  times_entry_fine : (one : Bool) (width : ℕ) → width < 65536 → AllFine value (if one then [] else coded.Whole (set_word 3 width) ∷ coded.Whole (multiply 3) ∷ [])
+  times_entry_fine true width small = tt
+  times_entry_fine false width small = ((is_bx, small), ((lit< tt, lit< tt, is_bx), tt))
+
+  element_inside_fine : (lower second : ℤ) (width : ℕ) → FitsWord lower → FitsWord second → width ≤ 32768 → AllFine value (element_inside lower second width)
+  element_inside_fine lower second width fl fs most =
+      let sums : List Coded = coded.Whole (add 0 1) ∷ coded.Whole (add 0 6) ∷ [] in
+      let row_fine : AllFine value (top_from_lower lower ++ (times_entry width ++ sums)) = all_fine-append value (top_from_lower lower) (times_entry width ++ sums) (top_lower_fine lower fl)
+      (all_fine-append value (times_entry width) sums (times_entry_fine (width == 1) width (omega arith)) ((lit< tt, is_ax, lit< tt), ((lit< tt, is_ax, lit< tt), tt))) in
+      base_kept_fine _ (all_fine-append value (top_from_lower second) _ (top_lower_fine second fs) ((cx_register, is_ax), (ax_free, row_fine)))
+
   entry_of_table_fine : (line : ℕ) → line < 65536 → (width word : ℕ) → width ≤ 32768 → word < 32768 → AllFine value (entry line width word)
   entry_of_table_fine line small width word most lt =
       base_kept_fine _ (all_fine-append value (times_width line width) (plus_word line word ++ based line) (width_fine (width == 1) line width small most)
@@ -512,7 +528,8 @@ module _ (p : OrderProgram) (segment next : ℕ) (value : Filling) (fills : Fill
   template_fine names place order.Less fits = ((is_bx, is_ax), (ax_free, ((lit< tt, is_ax, is_bx), tt)))
   template_fine names place (order.IndexLess lower line) fits = word_fine address_entry line (unsigned lower) (subtract 0 3) (lit< tt) fits.2 (unsigned_small lower fits.1) (lit< tt, is_ax, is_bx)
   template_fine names place (order.Element lower span line) fits = element_fine line fits.2 lower fits.1
-  template_fine names place (order.ElementOfTwo lower second width span line) fits = element_of_two_fine line fits.2 lower second width fits.1.0 fits.1.1 fits.1.2
+  template_fine names place (order.ElementOfTwo lower second width line) fits = element_of_two_fine line fits.2 lower second width fits.1.0 fits.1.1 fits.1.2
+  template_fine names place (order.ElementInside lower second width span) fits = element_inside_fine lower second width fits.1.0 fits.1.1 fits.1.2
   template_fine names place (order.Entry width word span line) fits = entry_of_table_fine line fits.2 width word fits.1.0 fits.1.1
   template_fine names place (order.InArea line) fits = area_fine line fits.2
   template_fine names place (order.InBounds lower upper line) fits = bounds_fine line fits.2 lower upper fits.1.0 fits.1.1
@@ -663,15 +680,6 @@ module _ (p : OrderProgram) (segment next : ℕ) (value : Filling) (fills : Fill
       all_fine-append value (with_operand 7 s) (branch_by short c behind (mark_place names mark)) (with_operand_fine 7 s (lit< tt) fits) (branch_by_fine short c behind (mark_place names mark))
 
   -- an address that is formed of an index in AX
-  top_lower_fine : (lower : ℤ) → FitsWord lower → AllFine value (top_from_lower lower)
-  top_lower_fine (pos zero) fl = tt
-  top_lower_fine (pos (suc n)) fl = ((lit< tt, unsigned_small (pos (suc n)) fl), tt)
-  top_lower_fine (negsuc n) fl = ((lit< tt, unsigned_small (negsuc n) fl), tt)
-
-  times_entry_fine : (one : Bool) (width : ℕ) → width < 65536 → AllFine value (if one then [] else coded.Whole (set_word 3 width) ∷ coded.Whole (multiply 3) ∷ [])
-  times_entry_fine true width small = tt
-  times_entry_fine false width small = ((is_bx, small), ((lit< tt, lit< tt, is_bx), tt))
-
   formed_fine : (family first : ℕ) (f : Form) → FormFits f → AllFine value (formed family first f)
   formed_fine family first (form.Element span line) fits = ((is_ax, home_filled family first), tt)
   formed_fine family first (form.Entry width word span line) fits =
@@ -689,13 +697,13 @@ module _ (p : OrderProgram) (segment next : ℕ) (value : Filling) (fills : Fill
   row_fine r fits =
       let first : List Coded = top_below r.rows.line (indexes_between (r.rows.upper -ℤ r.rows.lower)) in
       let second : List Coded = column_below r.columns.line (indexes_between (r.columns.upper -ℤ r.columns.lower)) in
-      let base : List Coded = formed r.family r.first (form.Entry r.width 0 r.span r.line) in
+      let base : List Coded = formed r.family r.first (form.Entry r.width 0 r.span r.columns.line) in
       all_fine-append value (top_from_lower r.rows.lower) _ (top_lower_fine r.rows.lower fits.0)
       (all_fine-append value first _ (below_fine r.rows.line _ fits.1 (between_small (r.rows.upper -ℤ r.rows.lower)))
       (all_fine-append value (column_loaded r.column) _ (column_fine r.column fits.2)
       (all_fine-append value (from_lower r.columns.lower) _ (from_lower_fine r.columns.lower fits.3)
       (all_fine-append value second _ (column_below_fine r.columns.line _ fits.4 (between_small (r.columns.upper -ℤ r.columns.lower)))
-      (all_fine-append value base _ (formed_fine r.family r.first (form.Entry r.width 0 r.span r.line) fits.5) ((lit< tt, is_ax, lit< tt), tt))))))
+      (all_fine-append value base _ (formed_fine r.family r.first (form.Entry r.width 0 r.span r.columns.line) fits.5) ((lit< tt, is_ax, lit< tt), tt))))))
 
   pub block_fine : (names : Names) (place number : ℕ) (short : Bool) (b : Block) (o : Order) → BlockFits b o → AllFine value (block_pieces names place number short b o)
   block_fine names place number short (block.Within n) o fits = tt

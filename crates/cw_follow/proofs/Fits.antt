@@ -57,7 +57,7 @@ ColumnFits (column.Contents x) = Unit {0}
 abbrev pub RowFits : Row → Type 0
 RowFits r =
     FitsWord r.rows.lower × (r.rows.line < 65536) × ColumnFits r.column × FitsWord r.columns.lower × (r.columns.line < 65536)
-    × FormFits (form.Entry r.width 0 r.span r.line)
+    × FormFits (form.Entry r.width 0 r.span r.columns.line)
 
 abbrev pub BlockFits : Block → Order → Type 0
 BlockFits block.Single o = OrderFits o

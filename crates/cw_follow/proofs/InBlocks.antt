@@ -34,7 +34,7 @@ use Rattle.cw_follow.specs.Placing.{StandsBehind}
 use Rattle.cw_tmpl.specs.Blocks.{address_orders, bounds_orders, element_orders, form_order, column_orders, orders_in_row, orders_to_row, row_order, operand_orders, order_of, count_order, block_at, orders_left, left_at}
 use Rattle.cw_tmpl.proofs.Shapes.{front_is, IsBlock, shape}
 use Rattle.cw_tmpl.proofs.Sizes.{size_to}
-use Rattle.cw_tmpl.specs.Templates.{Forms}
+use Rattle.cw_tmpl.specs.ShortForms.{Forms}
 
 -- ---- lists
 

@@ -23,7 +23,8 @@ use Rattle.cw_tmpl.specs.Blocks.{count_order, halving_places, block_at}
 use Rattle.cw_tmpl.specs.Pieces.{Filling, blanks}
 use Rattle.cw_tmpl.specs.declared.pieces.Coded.TheVariants as pieces
 use Rattle.cw_tmpl.specs.Names.{no_names, call_place}
-use Rattle.cw_tmpl.specs.Templates.{shifted_down_signed, counted, is_short, block_pieces, block_size}
+use Rattle.cw_tmpl.specs.Templates.{shifted_down_signed, counted, block_pieces, block_size}
+use Rattle.cw_tmpl.specs.ShortForms.{is_short}
 use Rattle.cw_tmpl.specs.ReferenceCode.{names_of, reach_of}
 use Rattle.cw_tmpl.proofs.Endings.{checked_long}
 use Rattle.cw_tmpl.proofs.Sizes.{own_place}

@@ -20,7 +20,7 @@ use Rattle.cw_follow.proofs.Standing.{order_place, Image}
 use Rattle.cw_follow.proofs.WordLaws.{WordLaws}
 use Rattle.cw_follow.proofs.Watched.{Watched}
 use Rattle.cw_follow.proofs.Orders.{Landed}
-use Rattle.cw_tmpl.specs.Templates.{is_short}
+use Rattle.cw_tmpl.specs.ShortForms.{is_short}
 use Rattle.cw_order.specs.declared.order.Orders.{Orders}
 
 -- the place of an order, as the list of places has it

@@ -11,7 +11,8 @@ use Rattle.cw_tmpl.specs.declared.pieces.Coded.{Coded}
 use Rattle.cw_tmpl.specs.Pieces.{Filling, blanks, filled}
 use Rattle.cw_tmpl.specs.Library.{library_bytes, entry_place}
 use Rattle.cw_routines.specs.Results.{Stands as LibraryStands}
-use Rattle.cw_tmpl.specs.Templates.{entry_pieces, landing_pieces, switch_pieces, is_short}
+use Rattle.cw_tmpl.specs.Templates.{entry_pieces, landing_pieces, switch_pieces}
+use Rattle.cw_tmpl.specs.ShortForms.{is_short}
 use Rattle.cw_tmpl.specs.Blocks.{block_at, left_at}
 use Rattle.cw_tmpl.specs.Names.{Names, mark_place, landing_start, has_landing, landing_bytes, switch_start, switch_bytes, place_of_one}
 use Rattle.cw_tmpl.specs.Named.{is_named_label, is_named_switch}

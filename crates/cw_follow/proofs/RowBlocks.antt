@@ -21,7 +21,7 @@ use Rattle.cw_order.specs.FittingWords.{OperandFits}
 use Rattle.cw_order.specs.Loading.{loaded_after}
 use Rattle.cw_order.specs.OrderActions.{home_word, place_address}
 use Rattle.cw_order.specs.OrderChanges.{from_base}
-use Rattle.cw_order.specs.OrderMachine.{weight}
+use Rattle.cw_order.specs.OrderMachine.{unrefused, weight}
 use Rattle.cw_order.specs.OrderProgram.{order_at}
 use Rattle.cw_order.specs.OrderState.{OrderActivation, at as at_order, operand_words, frame_word}
 use Rattle.cw_tmpl.specs.declared.blocks.Bounds.{Bounds}
@@ -36,7 +36,8 @@ use Rattle.cw_tmpl.specs.Blocks.{orders_to_row, row_order, row_within, block_at,
 use Rattle.cw_tmpl.specs.Library.{bounds_entry}
 use Rattle.cw_tmpl.specs.Mnemonics.{add, load, field, si as si_register}
 use Rattle.cw_tmpl.specs.Pieces.{Filling}
-use Rattle.cw_tmpl.specs.Templates.{frame_size, indexes_between, top_below, top_from_lower, from_lower, formed, index_loaded, column_loaded, column_below, row_summed, column_tested, row_address, block_size, is_short}
+use Rattle.cw_tmpl.specs.Templates.{frame_size, indexes_between, top_below, top_from_lower, from_lower, formed, index_loaded, column_loaded, column_below, row_summed, column_tested, row_address, block_size}
+use Rattle.cw_tmpl.specs.ShortForms.{is_short}
 use Rattle.cw_tmpl.specs.Sizes.{top_lower_size, lower_size, formed_size, column_size, row_size}
 use Rattle.cw_tmpl.specs.ReferenceCode.{reach_of}
 use Rattle.cw_tmpl.proofs.Lengths.{field_loaded}
@@ -175,7 +176,7 @@ module _ (known : Given) where
     made_at r = second_at r + 4 + 2 + 5
 
     abbrev sum_at : Row → ℕ
-    sum_at r = made_at r + formed_size (form.Entry r.width 0 r.span r.line)
+    sum_at r = made_at r + formed_size (form.Entry r.width 0 r.span r.columns.line)
 
     -- the parts of the code
     record Parts (r : Row) : Type 0 where
@@ -184,14 +185,14 @@ module _ (known : Given) where
       pub loads : HasPieces image value_of (column_at r) (column_tested r)
       pub lowers : HasPieces image value_of (lower_at r) (from_lower r.columns.lower ++ (column_below r.columns.line (indexes_between (r.columns.upper -ℤ r.columns.lower)) ++ row_summed r))
       pub second : HasPieces image value_of (second_at r) (column_below r.columns.line (indexes_between (r.columns.upper -ℤ r.columns.lower)) ++ row_summed r)
-      pub makes : HasPieces image value_of (made_at r) (formed r.family r.first (form.Entry r.width 0 r.span r.line))
+      pub makes : HasPieces image value_of (made_at r) (formed r.family r.first (form.Entry r.width 0 r.span r.columns.line))
       pub adds : HasPieces image value_of (sum_at r) (pieces.Whole (add 0 6) ∷ [])
 
     parts_of : (r : Row) → HasPieces image value_of (start_place known s) (row_address r) → Parts r
     parts_of r h =
         let v = value_of in
         let test : List Coded = column_below r.columns.line (indexes_between (r.columns.upper -ℤ r.columns.lower)) in
-        let base : List Coded = formed r.family r.first (form.Entry r.width 0 r.span r.line) in
+        let base : List Coded = formed r.family r.first (form.Entry r.width 0 r.span r.columns.line) in
         let one : first_at r + 3 + 2 + 3 + 2 ≡ column_at r = omega arith in
         let two : second_at r + 4 + 2 + 3 + 2 ≡ made_at r = omega arith in
         let first = subst (λ n. HasPieces image v (start_place known s + n) (top_below r.rows.line (indexes_between (r.rows.upper -ℤ r.rows.lower)) ++ column_tested r)) (top_lower_long r.rows.lower) (stand_both image v (start_place known s) (top_from_lower r.rows.lower) _ h).1 in
@@ -207,7 +208,7 @@ module _ (known : Given) where
           lowers = lowers;
           second = second;
           makes = both.0;
-          adds = subst (λ n. HasPieces image v (made_at r + n) (pieces.Whole (add 0 6) ∷ [])) (formed_long r.family r.first (form.Entry r.width 0 r.span r.line)) both.1;
+          adds = subst (λ n. HasPieces image v (made_at r + n) (pieces.Whole (add 0 6) ∷ [])) (formed_long r.family r.first (form.Entry r.width 0 r.span r.columns.line)) both.1;
         }
 
     -- the number of the first index from its lower bound on
@@ -326,7 +327,7 @@ module _ (known : Given) where
 
     -- the address
     addressed : (r : Row) (z : Known r) (x y : ℤ) (rest : List Operand) (l : Top x rest) (fx : FitsWord x) (fy : FitsWord y) → Reads r.column y → Parts r → (holds : is_between r.rows x ≡ true) (holds' : is_between r.columns y ≡ true)
-        → Leads s.before.output (steps_to r + (2 + (formed_steps (form.Entry r.width 0 r.span r.line) + 1))) q (Both l (sum_at r + 2) (word_of r z x y fx fy holds holds') (from_word r.columns.lower y))
+        → Leads s.before.output (steps_to r + (2 + (formed_steps (form.Entry r.width 0 r.span r.columns.line) + 1))) q (Both l (sum_at r + 2) (word_of r z x y fx fy holds holds') (from_word r.columns.lower y))
     addressed r z x y rest l fx fy reads h holds holds' =
         let st = all.stands g s.orders s.unit in
         let m = row_number r z x fx holds in
@@ -347,7 +348,7 @@ module _ (known : Given) where
         (column_passes (setting known s) s.before.memory s.before.input s.before.output value_of r.columns.line (indexes_between (r.columns.upper -ℤ r.columns.lower)) (row_summed r) l.top (from_word r.columns.lower y) l.kept h.second u.is (omega arith))
         (λ t' v.
         leads_then
-        (forms (setting known s) s.before.memory s.before.input s.before.output value_of l.top l.kept r.family r.first base m.number (pos 0) (form.Entry r.width 0 r.span r.line) (refl, z.wide) (omega arith) (omega arith)
+        (forms (setting known s) s.before.memory s.before.input s.before.output value_of l.top l.kept r.family r.first base m.number (pos 0) (form.Entry r.width 0 r.span r.columns.line) (refl, z.wide) (omega arith) (omega arith)
         (λ after. st.fills.homes r.family (r.first + 0) after ∙ ap (home_word p.addresses g r.family) first_word ∙ named) h.makes v)
         (λ t'' a. adds_column (setting known s) s.before.memory s.before.input s.before.output value_of l.top (word_of r z x y fx fy holds holds') l.kept whole h.adds a)))
 
@@ -431,7 +432,7 @@ module _ (known : Given) where
     -- ---- the orders
 
     abbrev outcome : Row → Words → Outcome
-    outcome r v = from_base p.limits.area (λ base. Indexed2 base r.rows.lower r.columns.lower r.width) v
+    outcome r v = unrefused (from_base p.limits.area (λ base. Indexed2 base r.rows.lower r.columns.lower r.width) v)
 
     -- the first one, which compares
     rows_follow : (r : Row) (rest : List Order) (z : Known r) → Parts r → s.done ≡ 0 → drop s.from s.orders.list ≡ listed r rest → block_at 0 (drop s.from s.orders.list) ≡ block.Row r → 1 ≤ orders_left (block.Row r)
@@ -532,9 +533,9 @@ module _ (known : Given) where
         let n = column_number r z d.second d.fits d.holds' in
         let row_inside = z.row_inside in
         let few_rows = m.within in
-        ap (from_base p.limits.area (λ base. Indexed2 base r.rows.lower r.columns.lower r.width)) d.is
-        ∙ formed_of_two p.limits.area (home_word p.addresses g r.family r.first) m.number n.number r.width r.rows.lower r.columns.lower d.index d.second (with_operands s.before d.rest) low (omega arith)
-        (word_inside r z d.index d.second fx d.fits d.holds d.holds') m.less n.less
+        ap (outcome r) d.is
+        ∙ ap unrefused (formed_of_two p.limits.area (home_word p.addresses g r.family r.first) m.number n.number r.width r.rows.lower r.columns.lower d.index d.second (with_operands s.before d.rest) low (omega arith)
+        (word_inside r z d.index d.second fx d.fits d.holds d.holds') m.less n.less)
 
     -- where the block ends
     ends_there : (r : Row) (rest : List Order) → s.done ≡ suc (suc (after_column r.column 3)) → drop s.from s.orders.list ≡ listed r rest → block_at 0 (drop s.from s.orders.list) ≡ block.Row r → Ends known s (block.Row r) (rows_order r)
@@ -567,12 +568,12 @@ module _ (known : Given) where
         let to : sum_at r + 2 ≡ code_end known s = omega arith in
         let value : word ≡ unsigned (pos word) = sym (unsigned_pos word (omega arith)) in
         let few_first = few_steps r in
-        let few_last_steps = few_formed (form.Entry r.width 0 r.span r.line) in
-        let paid : 40 ≤ weight p (at_order g place loaded acts w Running) = let x = weight_is known s o here in omega arith in
-        let n = steps_to r + (2 + (formed_steps (form.Entry r.width 0 r.span r.line) + 1)) in
-        does known s true r.line (outcome r w) 40 ends.begins (step_in known s true o before.now here) paid
-        (subst (λ x. Does p image 40 (code_end known s) g true r.line acts w.output q x) (sym (formed_is r z w d fx))
-        (subst (λ x. Does p image 40 (code_end known s) g true r.line acts x q (Changed (put (pos word) (with_operands s.before d.rest)))) s.wrote
+        let few_last_steps = few_formed (form.Entry r.width 0 r.span r.columns.line) in
+        let paid : 24 ≤ weight p (at_order g place loaded acts w Running) = let x = weight_is known s o here in omega arith in
+        let n = steps_to r + (2 + (formed_steps (form.Entry r.width 0 r.span r.columns.line) + 1)) in
+        does known s true 0 (outcome r w) 24 ends.begins (step_in known s true o before.now here) paid
+        (subst (λ x. Does p image 24 (code_end known s) g true 0 acts w.output q x) (sym (formed_is r z w d fx))
+        (subst (λ x. Does p image 24 (code_end known s) g true 0 acts x q (Changed (put (pos word) (with_operands s.before d.rest)))) s.wrote
         (further n (omega arith) (omega arith)
         (leads_on (λ t u. result (setting known s) s.before.memory s.before.input s.before.output (code_end known s) (suc l.top) (pos word) d.rest to value l.under l.kept u.is)
         (addressed r z d.index d.second d.rest l fx d.fits d.reads h d.holds d.holds')))))

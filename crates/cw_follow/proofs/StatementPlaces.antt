@@ -20,7 +20,8 @@ use Rattle.cw_tmpl.specs.declared.pieces.Coded.TheVariants as coded
 use Rattle.cw_tmpl.specs.Mnemonics.{at_si, ax, load}
 use Rattle.cw_tmpl.specs.Pieces.{blanks, bytes_with}
 use Rattle.cw_tmpl.specs.Blocks.{is_part, joined, compared_or, both_or, fetched_behind, block_alone, fetched, fetched_from, fetched_or, element_orders, element_fetched, element_at, block_at, orders_left, left_at}
-use Rattle.cw_tmpl.specs.Templates.{address_pieces, load_place, part_taken, element_address, block_size, order_size, entry_pieces, is_short}
+use Rattle.cw_tmpl.specs.Templates.{address_pieces, load_place, part_taken, element_address, block_size, order_size, entry_pieces}
+use Rattle.cw_tmpl.specs.ShortForms.{is_short}
 use Rattle.cw_tmpl.specs.Named.{is_named_label, is_named_switch}
 use Rattle.cw_tmpl.specs.ReferenceCode.{templates, landings, switches, entry_size, order_places, landings_place, switches_place, names_of, pieces_of, orders_code, statements_from, reach_of}
 use Rattle.cw_follow.specs.Placing.{total_size, base_of, StandsBehind, Codable}

@@ -29,7 +29,8 @@ use Rattle.cw_tmpl.specs.declared.blocks.Block.{Block}
 use Rattle.cw_tmpl.specs.declared.blocks.Block.TheVariants as block
 use Rattle.cw_tmpl.specs.Blocks.{block_at, orders_left, left_at}
 use Rattle.cw_tmpl.specs.Library.{places_of_entries, entry_place}
-use Rattle.cw_tmpl.specs.Templates.{block_size, distance, is_short, jump_of, template_by, is_close}
+use Rattle.cw_tmpl.specs.Templates.{block_size, distance, template_by, is_close}
+use Rattle.cw_tmpl.specs.ShortForms.{is_short, jump_of}
 use Rattle.cw_tmpl.specs.ReferenceCode.{mark_starts, names_of, reach_of}
 use Rattle.cw_follow.specs.Placing.{base_of}
 use Rattle.cw_tmpl.proofs.Sizes.{size_to, size_next, left_next, own_place, mark_start, pieces_by, size_by}

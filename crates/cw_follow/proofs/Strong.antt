@@ -9,7 +9,8 @@ use Rattle.cw_order.specs.OrderProgram.{OrderProgram}
 use Rattle.cw_tmpl.specs.declared.pieces.Coded.{Coded}
 use Rattle.cw_tmpl.specs.declared.pieces.Coded.TheVariants as coded
 use Rattle.cw_tmpl.specs.Pieces.{Filling, blanks, size_of, target_of, word_before}
-use Rattle.cw_tmpl.specs.Templates.{entry_pieces, landing_pieces, switch_pieces, is_short}
+use Rattle.cw_tmpl.specs.Templates.{entry_pieces, landing_pieces, switch_pieces}
+use Rattle.cw_tmpl.specs.ShortForms.{is_short}
 use Rattle.cw_tmpl.specs.Blocks.{block_at, left_at}
 use Rattle.cw_tmpl.specs.Names.{landing_start, switch_start}
 use Rattle.cw_tmpl.specs.Named.{is_named_label, is_named_switch}

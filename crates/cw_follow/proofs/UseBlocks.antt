@@ -37,7 +37,8 @@ use Rattle.cw_tmpl.specs.declared.blocks.Block.TheVariants as block
 use Rattle.cw_tmpl.specs.Blocks.{operand_orders, order_of, block_at}
 use Rattle.cw_tmpl.specs.Mnemonics.{ax, bx, cx, slot, base_slot, field, load, move}
 use Rattle.cw_tmpl.specs.Names.{no_names, call_place}
-use Rattle.cw_tmpl.specs.Templates.{frame_size, with_operand, product_with, checked_by, check_of, pieces_size, operated, block_size, is_short, is_close, branch_by}
+use Rattle.cw_tmpl.specs.Templates.{frame_size, with_operand, product_with, checked_by, pieces_size, operated, block_size, is_close, branch_by}
+use Rattle.cw_tmpl.specs.ShortForms.{check_of, is_short}
 use Rattle.cw_tmpl.specs.ReferenceCode.{names_of, mark_starts, reach_of}
 use Rattle.cw_i86.specs.Encoding.{bytes_of}
 use Rattle.cw_follow.proofs.Fields.{doubled_small, field_denotes}

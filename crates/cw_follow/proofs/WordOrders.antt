@@ -9,12 +9,14 @@ use Rattle.cw_unit.specs.Operation.{perform, Rescale, Multiply, Divide, Indexed,
 use Rattle.cw_order.specs.declared.order.Order.{Order}
 use Rattle.cw_order.specs.declared.order.Order.TheVariants as order
 use Rattle.cw_order.specs.OrderChanges.{from_base}
+use Rattle.cw_order.specs.OrderMachine.{unrefused}
 use Rattle.cw_order.specs.OrderState.{OrderActivation, at}
 use Rattle.cw_tmpl.specs.declared.pieces.Coded.{Coded}
 use Rattle.cw_tmpl.specs.Pieces.{Filling, blanks}
 use Rattle.cw_tmpl.specs.Names.{no_names, call_place}
 use Rattle.cw_tmpl.specs.Library.{overflow_entry, zero_divisor_entry, address_entry, product_entry, quotient_down_entry, quotient_up_entry}
-use Rattle.cw_tmpl.specs.Templates.{times_before, product_start, product_before, rescale_if, rescale_before, product_down, quotient_before, is_checked, pieces_size, checked_by, check_of, jump_of, block_pieces, block_size, is_short, template_by}
+use Rattle.cw_tmpl.specs.Templates.{times_before, product_start, product_before, rescale_if, rescale_before, product_down, quotient_before, is_checked, pieces_size, checked_by, block_pieces, block_size, template_by}
+use Rattle.cw_tmpl.specs.ShortForms.{check_of, jump_of, is_short}
 use Rattle.cw_tmpl.specs.ReferenceCode.{names_of, reach_of}
 use Rattle.cw_tmpl.proofs.Endings.{checked_long, one_form, rescale_forms, product_forms, quotient_forms}
 use Rattle.cw_tmpl.proofs.Sizes.{own_place, size_by, size_everywhere}
@@ -26,7 +28,7 @@ use Rattle.cw_follow.proofs.Orders.{Checked}
 use Rattle.cw_follow.proofs.CheckedBlocks.{checked_alone}
 use Rattle.cw_follow.proofs.Called.{Then}
 use Rattle.cw_follow.proofs.Addresses.{times_code, test_place}
-use Rattle.cw_follow.proofs.Elements.{forms_element, forms_element_of_two, forms_entry}
+use Rattle.cw_follow.proofs.Elements.{forms_element, forms_element_of_two, forms_element_inside, forms_entry}
 use Rattle.cw_follow.proofs.Scales.{rescales_up, rescales_down, products, products_up, products_down, products_far_down}
 use Rattle.cw_follow.proofs.Divisions.{divides_up, divides_down}
 use Rattle.cw_follow.proofs.Steps.{Follow, Alone, step_is, does, by, calls, setting, cheap, has_code, line_fits, low_room, here, next, code, behind, begins_next, above}
@@ -222,12 +224,20 @@ module _ (known : Given) where
         (forms_element (setting known s) w.memory w.input w.output words_of (next known s a) line (line_fits known s o e) (λ k. calls known s address_entry k (lit< tt)) lower w.operands
         (has_code known s o e) (low_room known s) s.fits.operands (record { stands = code known s a o e; ends = behind known s a o e }) a.landed)
 
-    pub element_of_two_follows : (lower second : ℤ) (width span line : ℕ) → slice_get s.orders.list place ≡ Some (order.ElementOfTwo lower second width span line) → Follow known (at g place true acts w Running) q
-    element_of_two_follows lower second width span line e =
-        let o = order.ElementOfTwo lower second width span line in
+    pub element_of_two_follows : (lower second : ℤ) (width line : ℕ) → slice_get s.orders.list place ≡ Some (order.ElementOfTwo lower second width line) → Follow known (at g place true acts w Running) q
+    element_of_two_follows lower second width line e =
+        let o = order.ElementOfTwo lower second width line in
         let h = has_code known s o e in
         does known s true line (from_base p.limits.area (λ base. Indexed2 base lower second width) w) 31 (begins_next known s a o e) (step_is known s (Some o) e) (cheap known s o 31 (lit≤ tt) e)
         (forms_element_of_two (setting known s) w.memory w.input w.output words_of (next known s a) line (line_fits known s o e) (λ k. calls known s address_entry k (lit< tt)) lower second width w.operands
+        h.0 h.1 h.2 (low_room known s) s.fits.operands (record { stands = code known s a o e; ends = behind known s a o e }) a.landed)
+
+    pub element_inside_follows : (lower second : ℤ) (width span : ℕ) → slice_get s.orders.list place ≡ Some (order.ElementInside lower second width span) → Follow known (at g place true acts w Running) q
+    element_inside_follows lower second width span e =
+        let o = order.ElementInside lower second width span in
+        let h = has_code known s o e in
+        does known s true 0 (unrefused (from_base p.limits.area (λ base. Indexed2 base lower second width) w)) 10 (begins_next known s a o e) (step_is known s (Some o) e) (cheap known s o 10 (lit≤ tt) e)
+        (forms_element_inside (setting known s) w.memory w.input w.output words_of (next known s a) 0 (lit< tt) (λ k. calls known s address_entry k (lit< tt)) lower second width w.operands
         h.0 h.1 h.2 (low_room known s) s.fits.operands (record { stands = code known s a o e; ends = behind known s a o e }) a.landed)
 
     pub entry_follows : (width word span line : ℕ) → slice_get s.orders.list place ≡ Some (order.Entry width word span line) → Follow known (at g place true acts w Running) q

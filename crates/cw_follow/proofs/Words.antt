@@ -24,7 +24,8 @@ use Rattle.cw_order.specs.FittingWords.{OperandFits}
 use Rattle.cw_order.specs.OrderMachine.{unrefused, after, carry_out, step}
 use Rattle.cw_tmpl.specs.Library.{address_entry, bounds_entry, read_entry}
 use Rattle.cw_tmpl.specs.declared.blocks.Block.TheVariants as block
-use Rattle.cw_tmpl.specs.Templates.{is_short, template_by}
+use Rattle.cw_tmpl.specs.Templates.{template_by}
+use Rattle.cw_tmpl.specs.ShortForms.{is_short}
 use Rattle.cw_tmpl.specs.ReferenceCode.{names_of, reach_of}
 use Rattle.cw_tmpl.proofs.Sizes.{own_place}
 use Rattle.cw_follow.proofs.Watched.{Watched}

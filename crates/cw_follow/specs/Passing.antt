@@ -9,7 +9,8 @@ use Rattle.cw_order.specs.declared.order.Orders.{Orders}
 use Rattle.cw_order.specs.OrderProgram.{OrderProgram}
 use Rattle.cw_tmpl.specs.Library.{library_bytes}
 use Rattle.cw_tmpl.specs.Blocks.{block_at, left_at}
-use Rattle.cw_tmpl.specs.Templates.{block_size, is_short}
+use Rattle.cw_tmpl.specs.Templates.{block_size}
+use Rattle.cw_tmpl.specs.ShortForms.{is_short}
 use Rattle.cw_tmpl.specs.ReferenceCode.{entry_size, order_places, landings_place, orders_code, reach_of}
 use Rattle.cw_follow.specs.Placing.{base_of}
 

@@ -89,7 +89,7 @@ retracted p x x1 x2 e1 e2 =
 
 -- the orders of a reference do not hang on what its indexes are
 form_same : (s : Scope) (line : ℕ) (x : Spot-F Arg Cond Expr Spot Ref)
-    → form_orders s.layout line (map-Spot Arg Cond Expr Spot Ref Piece ConditionPiece Value Piece Reference (argument_piece s) (condition_piece s) (value_of s) (spot_piece s) (reference_of s) x) ≡ form_orders s.layout line x
+    → form_orders s.layout s.unit.bounds line (map-Spot Arg Cond Expr Spot Ref Piece ConditionPiece Value Piece Reference (argument_piece s) (condition_piece s) (value_of s) (spot_piece s) (reference_of s) x) ≡ form_orders s.layout s.unit.bounds line x
 form_same s line (layer.Direct i) = refl
 form_same s line (layer.Through i) = refl
 form_same s line (layer.One i l u e) = refl
@@ -130,7 +130,7 @@ module _ (s : Scope) where
 
   -- ---- a reference, by whether its word is known
 
-  as_named : (a : Spot) → spot_piece s a ≡ named_or s.layout (known_item s (pieces_of s a)) (known_word s (pieces_of s a)) (followed_by (indexes_of s a) (plain (form_orders s.layout s.line (out-Spot a))))
+  as_named : (a : Spot) → spot_piece s a ≡ named_or s.layout (known_item s (pieces_of s a)) (known_word s (pieces_of s a)) (followed_by (indexes_of s a) (plain (form_orders s.layout s.unit.bounds s.line (out-Spot a))))
   as_named a =
       spot-made s a
       ∙ ap (λ os. named_or s.layout (known_item s (pieces_of s a)) (known_word s (pieces_of s a)) (followed_by (indexes_of s a) (plain os))) (form_same s s.line (out-Spot a))
@@ -138,15 +138,15 @@ module _ (s : Scope) where
   pub named : (a : Spot) (i n : ℕ) (k : Option ℕ) (x x1 x2 x3 : MarkedOrders) → x1 ≡ added (indexes_of s a) x → k ≡ known_word s (pieces_of s a) → k ≡ Some n → i ≡ known_item s (pieces_of s a) → x2 ≡ shortened (extent_of x) x1
       → x3 ≡ added (plain (item_order s.layout i n ∷ [])) x2 → x3 ≡ added (spot_piece s a) x
   named a i n k x x1 x2 x3 e1 ek is ei e2 e3 =
-      let F = followed_by (indexes_of s a) (plain (form_orders s.layout s.line (out-Spot a))) in
+      let F = followed_by (indexes_of s a) (plain (form_orders s.layout s.unit.bounds s.line (out-Spot a))) in
       e3 ∙ ap (added (plain (item_order s.layout i n ∷ []))) (retracted (indexes_of s a) x x1 x2 e1 e2)
       ∙ ap (λ j. added (plain (item_order s.layout j n ∷ [])) x) ei
       ∙ ap (λ p. added p x) (sym (as_named a ∙ ap (λ o. named_or s.layout (known_item s (pieces_of s a)) o F) (sym ek ∙ is)))
 
-  pub formed_so : (a : Spot) (k : Option ℕ) (x x1 x2 : MarkedOrders) → x1 ≡ added (indexes_of s a) x → k ≡ known_word s (pieces_of s a) → k ≡ None → x2 ≡ added (plain (form_orders s.layout s.line (out-Spot a))) x1 → x2 ≡ added (spot_piece s a) x
+  pub formed_so : (a : Spot) (k : Option ℕ) (x x1 x2 : MarkedOrders) → x1 ≡ added (indexes_of s a) x → k ≡ known_word s (pieces_of s a) → k ≡ None → x2 ≡ added (plain (form_orders s.layout s.unit.bounds s.line (out-Spot a))) x1 → x2 ≡ added (spot_piece s a) x
   formed_so a k x x1 x2 e1 ek is e2 =
-      let F = followed_by (indexes_of s a) (plain (form_orders s.layout s.line (out-Spot a))) in
-      two_steps (indexes_of s a) (plain (form_orders s.layout s.line (out-Spot a))) x x1 x2 e1 e2
+      let F = followed_by (indexes_of s a) (plain (form_orders s.layout s.unit.bounds s.line (out-Spot a))) in
+      two_steps (indexes_of s a) (plain (form_orders s.layout s.unit.bounds s.line (out-Spot a))) x x1 x2 e1 e2
       ∙ ap (λ p. added p x) (sym (as_named a ∙ ap (λ o. named_or s.layout (known_item s (pieces_of s a)) o F) (sym ek ∙ is)))
 
   -- by the first layer

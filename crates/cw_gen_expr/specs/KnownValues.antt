@@ -1,7 +1,7 @@
 -- What is known before a run: the value of an expression of numbers alone whose operations do not stop, and the word of an item that an
 -- index of such a value names.
 use Rattle.std.specs.Prelude.{ℕ, zero, suc, ◌+◌, ◌*◌, ℤ, pos, negsuc, ◌+ℤ◌, ◌-ℤ◌, neg_ℤ, int_le, nat_le}
-use Rattle.std.specs.Prelude.{nat_lt, Bool, true, false, ◌&&◌, Option, Some, None, if◌then◌else◌}
+use Rattle.std.specs.Prelude.{nat_lt, Bool, true, false, ◌&&◌, Option, Some, None, is_some, if◌then◌else◌}
 use Rattle.cw_word.specs.FixedPoint.{fits_word, rescaled, scaled_product, scaled_quotient}
 use Rattle.cw_word.specs.BitField.{unsigned_field}
 use Rattle.cw_word.specs.Word.{signed, unsigned}
@@ -82,3 +82,8 @@ element_of_two_word span width row column = of_index (λ i. of_index (λ j. word
 
 abbrev pub entry_word : (span width word : ℕ) → Option ℕ → Option ℕ
 entry_word span width word i = of_index (λ n. word_inside span (n * width + word)) i
+
+-- whether two indexes are compared with bounds between which all words are known to be in the data area: the one at both upper bounds is
+abbrev pub all_inside : (compared : Bool) → (span : ℕ) → (lower upper second last : ℤ) → (width : ℕ) → Bool
+all_inside compared span lower upper second last width =
+    compared && is_some (element_of_two_word span width (from_lower true lower upper (Some upper)) (from_lower true second last (Some last)))

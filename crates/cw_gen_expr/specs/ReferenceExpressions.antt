@@ -33,7 +33,7 @@ use Rattle.cw_unit.specs.declared.unit.Arg.TheOpen.{Arg-F, Cond-F, Spot-F, Ref-F
 use Rattle.cw_unit.specs.Scales.{answer_scale, number_scale}
 use Rattle.cw_gen_expr.specs.Pieces.{Piece, plain, followed_by, sequence, with_end}
 use Rattle.cw_gen_expr.specs.KnownValues.{of_known, of_both, known_sum, known_difference, known_negative, known_rescaled, known_product, known_quotient}
-use Rattle.cw_gen_expr.specs.KnownValues.{known_logic, known_bits, from_lower, element_word, element_of_two_word, entry_word}
+use Rattle.cw_gen_expr.specs.KnownValues.{known_logic, known_bits, from_lower, element_word, element_of_two_word, entry_word, all_inside}
 
 -- ---- the body at work
 
@@ -116,16 +116,22 @@ abbrev pub table_span : Layout → Bool → (item : ℕ) → ℕ
 table_span y true i = 0
 table_span y false i = item_span y i
 
--- the address of a reference whose indexes stand on the operand stack
-abbrev pub form_orders : {A C E S R : Type 0} → Layout → (line : ℕ) → Spot-F A C E S R → List Order
-form_orders y line (layer.Direct i) = item_order y i 0 ∷ []
-form_orders y line (layer.Through i) = item_order y i 0 ∷ order.Load ∷ order.InArea line ∷ []
-form_orders y line (layer.One i l u e) = order.Save ∷ item_order y i 0 ∷ order.Element l (item_span y i) line ∷ []
-form_orders y line (layer.Two i l1 u1 l2 u2 n e g) = order.Save ∷ item_order y i 0 ∷ order.ElementOfTwo l1 l2 n (item_span y i) line ∷ []
-form_orders y line (layer.ParamArray i e) = order.Save ∷ item_order y i 0 ∷ order.Load ∷ order.Element (pos 0) 0 line ∷ []
-form_orders y line (layer.Word i t n e) = order.Save ∷ (table_orders y t i ++ order.Element (pos 0) (table_span y t i) line ∷ [])
-form_orders y line (layer.Elem i t n m w e) = order.Save ∷ (table_orders y t i ++ order.Entry n w (table_span y t i) line ∷ [])
-form_orders y line (layer.Bare e) = order.InArea line ∷ []
+-- two indexes whose word is known to be in the data area make its address without a test
+abbrev pub row_order : (inside : Bool) → (lower second : ℤ) → (width span line : ℕ) → Order
+row_order true lower second width span line = order.ElementInside lower second width span
+row_order false lower second width span line = order.ElementOfTwo lower second width line
+
+-- the address of a reference whose indexes stand on the operand stack, compared with their bounds or not
+abbrev pub form_orders : {A C E S R : Type 0} → Layout → (compared : Bool) → (line : ℕ) → Spot-F A C E S R → List Order
+form_orders y c line (layer.Direct i) = item_order y i 0 ∷ []
+form_orders y c line (layer.Through i) = item_order y i 0 ∷ order.Load ∷ order.InArea line ∷ []
+form_orders y c line (layer.One i l u e) = order.Save ∷ item_order y i 0 ∷ order.Element l (item_span y i) line ∷ []
+form_orders y c line (layer.Two i l1 u1 l2 u2 n e g) =
+    let span = item_span y i in order.Save ∷ item_order y i 0 ∷ row_order (all_inside c span l1 u1 l2 u2 n) l1 l2 n span line ∷ []
+form_orders y c line (layer.ParamArray i e) = order.Save ∷ item_order y i 0 ∷ order.Load ∷ order.Element (pos 0) 0 line ∷ []
+form_orders y c line (layer.Word i t n e) = order.Save ∷ (table_orders y t i ++ order.Element (pos 0) (table_span y t i) line ∷ [])
+form_orders y c line (layer.Elem i t n m w e) = order.Save ∷ (table_orders y t i ++ order.Entry n w (table_span y t i) line ∷ [])
+form_orders y c line (layer.Bare e) = order.InArea line ∷ []
 
 -- ---- operations
 
@@ -289,7 +295,7 @@ module _ (s : Scope) where
 
   -- the address of a reference that its indexes make
   abbrev pub indexed_piece : Spot-F Piece ConditionPiece Value Piece Reference → Piece
-  indexed_piece x = followed_by (index_piece x) (plain (form_orders s.layout s.line x))
+  indexed_piece x = followed_by (index_piece x) (plain (form_orders s.layout s.unit.bounds s.line x))
 
   abbrev pub spot_step : Spot-F Piece ConditionPiece Value Piece Reference → Piece
   spot_step x = named_or s.layout (known_item x) (known_word x) (indexed_piece x)

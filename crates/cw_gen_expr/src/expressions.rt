@@ -6,12 +6,13 @@ ghost use Rattle.cw_gen_expr.specs.Pieces.{plain, sequence};
 ghost use Rattle.cw_gen_expr.specs.Output.{made, added};
 ghost use Rattle.cw_gen_expr.specs.UnitTables.{first_mark};
 ghost use Rattle.cw_gen_expr.specs.ReferenceExpressions.{Scope, expression_piece, condition_piece, argument_piece, spot_piece, bounds_orders, comparator_for};
-ghost use Rattle.cw_gen_expr.specs.ReferenceExpressions.{pick_mark, rescale_orders, load_orders, table_orders, form_orders, logic_order, narrow, call_order};
+ghost use Rattle.cw_gen_expr.specs.ReferenceExpressions.{pick_mark, rescale_orders, load_orders, table_orders, row_order, form_orders, logic_order, narrow, call_order};
+ghost use Rattle.cw_gen_expr.specs.KnownValues as known;
 ghost use Rattle.cw_gen_expr.specs.ReferenceExpressions.{scope_with, at_line, value_of, computed_piece, known_item, known_word, pieces_of, indexes_of};
 
 use crate::known::{
-    above, bits_of, combined, difference_of, negative_of, product_of, quotient_of, rescaled_to,
-    sum_of, word_of_element, word_of_entry, word_of_two,
+    above, all_inside, bits_of, combined, difference_of, negative_of, product_of, quotient_of,
+    rescaled_to, sum_of, word_of_element, word_of_entry, word_of_two,
 };
 use crate::orders::{item, number_word, place_of_control, scale_of_operand, span, span_of_table};
 use crate::output::Output;
@@ -97,9 +98,45 @@ fn emit_table(
     }
 }
 
-/// Adds the orders that make an address of a reference's indexes.
-fn emit_form(out: &mut Output, layout: &Layout, line: u16, spot: &Spot) -> Result<(), NoMemory>
-    ensures { OnOk result (made out.new ≡ added (plain (form_orders layout.now line (out-Spot spot.now))) (made out.old)) }
+/// The order that makes an address of two indexes.
+fn order_of_two(
+    compared: bool,
+    lower: i16,
+    upper: i16,
+    second: i16,
+    last: i16,
+    width: u16,
+    span: u16,
+    line: u16,
+) -> Order
+    ensures { result ≡ row_order (known.all_inside compared span lower upper second last width) lower second width span line }
+{
+    if all_inside(compared, span, lower, upper, second, last, width) {
+        Order::ElementInside {
+            lower,
+            second,
+            width,
+            span,
+        }
+    } else {
+        Order::ElementOfTwo {
+            lower,
+            second,
+            width,
+            line,
+        }
+    }
+}
+
+/// Adds the orders that make an address of a reference's indexes, which have been compared with their bounds or not.
+fn emit_form(
+    out: &mut Output,
+    compared: bool,
+    layout: &Layout,
+    line: u16,
+    spot: &Spot,
+) -> Result<(), NoMemory>
+    ensures { OnOk result (made out.new ≡ added (plain (form_orders layout.now compared line (out-Spot spot.now))) (made out.old)) }
 {
     match spot {
         Spot::Direct(i) => out.push(item(layout, *i, 0)),
@@ -117,16 +154,14 @@ fn emit_form(out: &mut Output, layout: &Layout, line: u16, spot: &Spot) -> Resul
                 line,
             })
         }
-        Spot::Two(i, lower, _, second, _, width, _, _) => {
+        Spot::Two(i, lower, upper, second, last, width, _, _) => {
             out.push(Order::Save)?;
             out.push(item(layout, *i, 0))?;
-            out.push(Order::ElementOfTwo {
-                lower: *lower,
-                second: *second,
-                width: *width,
-                span: span(layout, *i),
-                line,
-            })
+            let words = span(layout, *i);
+            let order = order_of_two(
+                compared, *lower, *upper, *second, *last, *width, words, line,
+            );
+            out.push(order)
         }
         Spot::ParamArray(i, _) => {
             out.push(Order::Save)?;
@@ -538,7 +573,7 @@ pub fn emit_address(
             out.retract(extent);
             out.push(item(layout, item_of(spot), word))
         }
-        None => emit_form(out, layout, line, spot),
+        None => emit_form(out, unit.bounds, layout, line, spot),
     }
 }
 

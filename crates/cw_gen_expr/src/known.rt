@@ -3,6 +3,7 @@ ghost use Rattle.std.specs.Prelude.{◌≡◌, ◌≢◌, ◌≤ℤ◌, pos, neg
 ghost use Rattle.cw_word.specs.FixedPoint.{scaled_quotient};
 ghost use Rattle.cw_gen_expr.specs.KnownValues.{of_known, of_both, fitted, known_sum, known_difference, known_negative, known_rescaled, known_product, known_quotient};
 ghost use Rattle.cw_gen_expr.specs.KnownValues.{known_logic, known_bits, word_inside, from_lower, element_word, element_of_two_word, entry_word};
+ghost use Rattle.cw_gen_expr.specs.KnownValues as known;
 
 use cw_unit::unit::LogicOp;
 use cw_word::{difference, negate, product, quotient, rescale, sum, take_bits};
@@ -133,6 +134,23 @@ pub fn word_of_two(span: u16, width: u16, row: Option<u16>, column: Option<u16>)
     let row = inside(32_768, u64::from(row?))?;
     let column = column?;
     inside(span, u64::from(row) * u64::from(width) + u64::from(column))
+}
+
+/// Whether two indexes are compared with bounds between which all words are known to be in the data area.
+pub fn all_inside(
+    compared: bool,
+    span: u16,
+    lower: i16,
+    upper: i16,
+    second: i16,
+    last: i16,
+    width: u16,
+) -> bool
+    ensures { result ≡ known.all_inside compared span lower upper second last width }
+{
+    let row = above(true, lower, i64::from(upper), Some(upper));
+    let column = above(true, second, i64::from(last), Some(last));
+    compared && word_of_two(span, width, row, column).is_some()
 }
 
 /// The word of a table's entry.

@@ -261,8 +261,13 @@ fn of_elements(word: Spelled<'_>, line: u16) -> Option<Order> {
             lower: word.signed(0)?,
             second: word.signed(1)?,
             width: word.word(2)?,
-            span: word.word(3)?,
             line,
+        }),
+        "ElementInside" => Some(Order::ElementInside {
+            lower: word.signed(0)?,
+            second: word.signed(1)?,
+            width: word.word(2)?,
+            span: word.word(3)?,
         }),
         "Entry" => Some(Order::Entry {
             width: word.word(0)?,

@@ -141,6 +141,12 @@ impl<'a> Machine<'a> {
                 second,
                 width,
                 ..
+            }
+            | Order::ElementInside {
+                lower,
+                second,
+                width,
+                ..
             } => self.element_of_two(i64::from(*lower), i64::from(*second), i64::from(*width)),
             Order::Entry { width, word, .. } => {
                 self.entry(i64::from(*width), i64::from(*word));

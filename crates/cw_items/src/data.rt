@@ -93,8 +93,8 @@ fn table_word(base: &RawBase) -> u32
     }
 }
 
-fn word_of_base(kind: &Option<Kind>, base: &RawBase) -> u32
-    ensures { result ≡ capped (word_of_base kind.now base.now) }
+fn word_of_base(kind: Option<&Kind>, base: &RawBase) -> u32
+    ensures { result ≡ capped (word_of_base (option_copied kind.entry) base.now) }
 {
     match kind {
         None => 0,
@@ -122,10 +122,10 @@ pub fn base_at(named: &Named, base: &RawBase) -> Base
     let name = name_of(base);
     let kind = kind_of(named, &name);
     let token = declared_at(named, name.at.token);
-    if can_be_laid_on(&kind, base) {
+    if can_be_laid_on(kind, base) {
         Base {
             token,
-            word: word_of_base(&kind, base),
+            word: word_of_base(kind, base),
         }
     } else {
         Base { token, word: 0 }

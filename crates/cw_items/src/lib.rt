@@ -5,5 +5,6 @@ pub mod counts;
 pub mod data;
 pub mod families;
 pub mod statements;
+mod strings;
 pub mod text;
 pub mod thing;

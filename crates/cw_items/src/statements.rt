@@ -1,133 +1,87 @@
 //! What statements and blocks store.
 ghost use Rattle.std.specs.Prelude.{◌≡◌, ◌++◌, map, OnOk};
 ghost use Rattle.cw_facts.specs.declared.fact.Reading.TheVariants as reading;
-ghost use Rattle.cw_facts.specs.Uses.{expression_uses, condition_uses, reference_uses, argument_uses};
+ghost use Rattle.cw_facts.specs.Uses.{expression_uses, condition_uses, reference_uses};
 ghost use Rattle.cw_tree.specs.declared.statement.RawBlock.{out-RawBlock};
 ghost use Rattle.cw_items.specs.Things.{texts, joined, felem_things, felems_things, is_recursive, declaration_things, form_things};
 ghost use Rattle.cw_items.specs.Things.{simple_things, block_things, procedure_things, statement_things};
 
 use crate::data::{base_at, data_things, parameters_things, store};
-use crate::thing::{Owner, Sort, Thing, capped};
-use cw_facts::expressions::{argument_uses, condition_uses, expression_uses, reference_uses};
-use cw_facts::fact::{Fact, Reading};
+use crate::strings::{argument_strings, condition_strings, expression_strings, reference_strings};
+use crate::thing::{Owner, Sort, Thing};
 use cw_scope::resolve::Named;
 use cw_tree::expression::{RawCond, RawExpr, RawRef};
 use cw_tree::statement::{
     RawBlock, RawDecl, RawFelem, RawForm, RawProc, RawPtag, RawSimple, RawStmt,
 };
 use cw_word::{List, NoMemory};
-use std::alloc::Global;
 
 // ---- strings
 
-fn texts(owner: &Option<Owner>, facts: &[Fact], out: &mut List<Thing>) -> Result<(), NoMemory>
-    ensures { OnOk result (out.new ≡ out.old ++ texts owner.now facts.now) }
-{
-    for fact in facts {
-        if let Fact::Text(at, length) = fact {
-            let words = capped((*length as u64).saturating_add(1));
-            store(Sort::Text, *at, owner, &None, words, out)?;
-        }
-    }
-    Ok(())
-}
-
+// Adds the strings of an expression that is wanted for its value.
 fn expression_texts(
-    alloc: Global,
     owner: &Option<Owner>,
     e: &RawExpr,
     out: &mut List<Thing>,
 ) -> Result<(), NoMemory>
     ensures { OnOk result (out.new ≡ out.old ++ texts owner.now (expression_uses e.now reading.Value)) }
 {
-    let mut facts = List::new(alloc);
-    expression_uses(e, Reading::Value, &mut facts)?;
-    texts(owner, facts.as_slice(), out)
+    expression_strings(e, owner, out)
 }
 
 fn condition_texts(
-    alloc: Global,
     owner: &Option<Owner>,
     test: &RawCond,
     out: &mut List<Thing>,
 ) -> Result<(), NoMemory>
     ensures { OnOk result (out.new ≡ out.old ++ texts owner.now (condition_uses test.now reading.Value)) }
 {
-    let mut facts = List::new(alloc);
-    condition_uses(test, &mut facts)?;
-    texts(owner, facts.as_slice(), out)
+    condition_strings(test, owner, out)
 }
 
-fn reference_texts(
-    alloc: Global,
-    owner: &Option<Owner>,
-    r: &RawRef,
-    out: &mut List<Thing>,
-) -> Result<(), NoMemory>
+fn reference_texts(owner: &Option<Owner>, r: &RawRef, out: &mut List<Thing>) -> Result<(), NoMemory>
     ensures { OnOk result (out.new ≡ out.old ++ texts owner.now (reference_uses r.now reading.Whole)) }
 {
-    let mut facts = List::new(alloc);
-    reference_uses(r, Reading::Whole, &mut facts)?;
-    texts(owner, facts.as_slice(), out)
-}
-
-fn argument_texts(
-    alloc: Global,
-    owner: &Option<Owner>,
-    arguments: &[RawExpr],
-    out: &mut List<Thing>,
-) -> Result<(), NoMemory>
-    ensures { OnOk result (out.new ≡ out.old ++ texts owner.now (argument_uses arguments.now)) }
-{
-    let mut facts = List::new(alloc);
-    argument_uses(arguments, &mut facts)?;
-    texts(owner, facts.as_slice(), out)
+    reference_strings(r, owner, out)
 }
 
 fn assigned_texts(
-    alloc: Global,
     owner: &Option<Owner>,
     r: &RawRef,
-    how: Reading,
     e: &RawExpr,
     out: &mut List<Thing>,
 ) -> Result<(), NoMemory>
-    ensures { OnOk result (out.new ≡ out.old ++ texts owner.now (reference_uses r.now how ++ expression_uses e.now reading.Value)) }
+    ensures target { OnOk result (out.new ≡ out.old ++ texts owner.now (reference_uses r.now reading.Target ++ expression_uses e.now reading.Value)) }
+    ensures whole { OnOk result (out.new ≡ out.old ++ texts owner.now (reference_uses r.now reading.Whole ++ expression_uses e.now reading.Value)) }
 {
-    let mut facts = List::new(alloc);
-    reference_uses(r, how, &mut facts)?;
-    expression_uses(e, Reading::Value, &mut facts)?;
-    texts(owner, facts.as_slice(), out)
+    reference_strings(r, owner, out)?;
+    expression_strings(e, owner, out)
 }
 
 // ---- FOR
 
 fn felem_things(
-    alloc: Global,
     owner: &Option<Owner>,
     element: &RawFelem,
     out: &mut List<Thing>,
 ) -> Result<(), NoMemory>
     ensures { OnOk result (out.new ≡ out.old ++ felem_things element.now owner.now) }
 {
-    let mut facts = List::new(alloc);
     match element {
-        RawFelem::One(e) => expression_uses(e.get(), Reading::Value, &mut facts)?,
+        RawFelem::One(e) => expression_texts(owner, e.get(), out),
         RawFelem::While(e, test) => {
-            expression_uses(e.get(), Reading::Value, &mut facts)?;
-            condition_uses(test.get(), &mut facts)?;
+            expression_texts(owner, e.get(), out)?;
+            condition_texts(owner, test.get(), out)
         }
         RawFelem::Step(first, step, last) => {
-            expression_uses(first.get(), Reading::Value, &mut facts)?;
-            expression_uses(step.get(), Reading::Value, &mut facts)?;
-            expression_uses(last.get(), Reading::Value, &mut facts)?;
+            expression_texts(owner, first.get(), out)?;
+            expression_texts(owner, step.get(), out)?;
+            expression_texts(owner, last.get(), out)
         }
     }
-    texts(owner, facts.as_slice(), out)
 }
 
 fn felems_things(
-    alloc: Global,
     owner: &Option<Owner>,
     elements: &[RawFelem],
     out: &mut List<Thing>,
@@ -135,7 +89,7 @@ fn felems_things(
     ensures { OnOk result (out.new ≡ out.old ++ felems_things elements.now owner.now) }
 {
     for element in elements {
-        felem_things(alloc, owner, element, out)?;
+        felem_things(owner, element, out)?;
     }
     Ok(())
 }
@@ -153,7 +107,6 @@ fn is_recursive(tag: &RawPtag) -> bool
 
 #[cycle(things)]
 fn statement_things(
-    alloc: Global,
     s: &RawStmt,
     named: &Named,
     owner: &Option<Owner>,
@@ -161,12 +114,11 @@ fn statement_things(
 ) -> Result<(), NoMemory>
     ensures { OnOk result (out.new ≡ out.old ++ statement_things named.now s.now owner.now) }
 {
-    form_things(alloc, s.form.get(), named, owner, out)
+    form_things(s.form.get(), named, owner, out)
 }
 
 #[cycle(things)]
 fn form_things(
-    alloc: Global,
     form: &RawForm,
     named: &Named,
     owner: &Option<Owner>,
@@ -175,7 +127,7 @@ fn form_things(
     ensures { OnOk result (out.new ≡ out.old ++ form_things named.now form.now owner.now) }
 {
     match form {
-        RawForm::Simple(s) => simple_things(alloc, s.get(), named, owner, out),
+        RawForm::Simple(s) => simple_things(s.get(), named, owner, out),
         RawForm::If {
             at: _,
             test,
@@ -183,11 +135,11 @@ fn form_things(
             first,
             second,
         } => {
-            condition_texts(alloc, owner, test.get(), out)?;
-            simple_things(alloc, first.get(), named, owner, out)?;
+            condition_texts(owner, test.get(), out)?;
+            simple_things(first.get(), named, owner, out)?;
             match second {
                 None => Ok(()),
-                Some(s) => statement_things(alloc, s.get(), named, owner, out),
+                Some(s) => statement_things(s.get(), named, owner, out),
             }
         }
         RawForm::For {
@@ -197,16 +149,15 @@ fn form_things(
             body,
         } => {
             store(Sort::Loop, *at, owner, &None, 4, out)?;
-            reference_texts(alloc, owner, variable.get(), out)?;
-            felems_things(alloc, owner, elems.as_slice(), out)?;
-            statement_things(alloc, body.get(), named, owner, out)
+            reference_texts(owner, variable.get(), out)?;
+            felems_things(owner, elems.as_slice(), out)?;
+            statement_things(body.get(), named, owner, out)
         }
     }
 }
 
 #[cycle(things)]
 fn simple_things(
-    alloc: Global,
     s: &RawSimple,
     named: &Named,
     owner: &Option<Owner>,
@@ -216,24 +167,19 @@ fn simple_things(
 {
     match s {
         RawSimple::Empty => Ok(()),
-        RawSimple::Assign(r, e) => {
-            assigned_texts(alloc, owner, r.get(), Reading::Target, e.get(), out)
-        }
-        RawSimple::AssignBits(_, r, e) => {
-            assigned_texts(alloc, owner, r.get(), Reading::Whole, e.get(), out)
-        }
+        RawSimple::Assign(r, e) => assigned_texts(owner, r.get(), e.get(), out),
+        RawSimple::AssignBits(_, r, e) => assigned_texts(owner, r.get(), e.get(), out),
         RawSimple::Goto(..) => Ok(()),
-        RawSimple::GotoSwitch(_, _, index) => expression_texts(alloc, owner, index.get(), out),
-        RawSimple::Call(_, arguments) => { argument_texts(alloc, owner, arguments.as_slice(), out) }
-        RawSimple::Answer(_, e) => expression_texts(alloc, owner, e.get(), out),
-        RawSimple::Block(block) => block_things(alloc, block.get(), named, owner, out),
+        RawSimple::GotoSwitch(_, _, index) => expression_texts(owner, index.get(), out),
+        RawSimple::Call(_, arguments) => { argument_strings(arguments.as_slice(), owner, out) }
+        RawSimple::Answer(_, e) => expression_texts(owner, e.get(), out),
+        RawSimple::Block(block) => block_things(block.get(), named, owner, out),
     }
 }
 
 /// Adds what a block stores.
 #[cycle(things)]
 pub(crate) fn block_things(
-    alloc: Global,
     block: &RawBlock,
     named: &Named,
     owner: &Option<Owner>,
@@ -242,17 +188,16 @@ pub(crate) fn block_things(
     ensures { OnOk result (out.new ≡ out.old ++ block_things named.now block.now owner.now) }
 {
     for declaration in block.decls.as_slice() {
-        declaration_things(alloc, declaration, named, owner, out)?;
+        declaration_things(declaration, named, owner, out)?;
     }
     for statement in block.stmts.as_slice() {
-        statement_things(alloc, statement, named, owner, out)?;
+        statement_things(statement, named, owner, out)?;
     }
     Ok(())
 }
 
 #[cycle(things)]
 fn declaration_things(
-    alloc: Global,
     d: &RawDecl,
     named: &Named,
     owner: &Option<Owner>,
@@ -266,13 +211,12 @@ fn declaration_things(
             data_things(owner, &Some(base_at(named, base)), items, out)
         }
         RawDecl::Switch(..) => Ok(()),
-        RawDecl::Proc(procedure) => procedure_things(alloc, procedure.get(), named, owner, out),
+        RawDecl::Proc(procedure) => procedure_things(procedure.get(), named, owner, out),
     }
 }
 
 #[cycle(things)]
 fn procedure_things(
-    alloc: Global,
     p: &RawProc,
     named: &Named,
     around: &Option<Owner>,
@@ -286,5 +230,5 @@ fn procedure_things(
         recursive: is_recursive(&p.tag),
     });
     parameters_things(&owner, p.params.as_slice(), out)?;
-    statement_things(alloc, p.body.get(), named, &owner, out)
+    statement_things(p.body.get(), named, &owner, out)
 }

@@ -10,6 +10,7 @@ use cw_scope::resolve::Named;
 use cw_tree::segment::{Raw, RawAitem, RawCitem, RawComm};
 use cw_word::{List, NoMemory};
 use std::alloc::Global;
+use std::marker::Model;
 
 fn citem_things(named: &Named, item: &RawCitem, out: &mut List<Thing>) -> Result<(), NoMemory>
     ensures { OnOk result (out.new ≡ out.old ++ citem_things named.now item.now) }
@@ -86,12 +87,58 @@ fn communicators_things(
     Ok(())
 }
 
-/// What a text stores, in order of the text.
-pub fn text_things(alloc: Global, named: &Named, raw: &Raw) -> Result<List<Thing>, NoMemory>
+fn text_things(alloc: Global, named: &Named, raw: &Raw) -> Result<List<Thing>, NoMemory>
     ensures { IfOk result (λ things. things ≡ text_things named.now raw.now) }
 {
     let mut things = List::new(alloc);
     communicators_things(named, raw.comms.as_slice(), &mut things)?;
-    block_things(alloc, &raw.block, named, &None, &mut things)?;
+    block_things(&raw.block, named, &None, &mut things)?;
     Ok(things)
+}
+
+/// A named text beside what it stores. Contracts see the named text.
+#[derive(Drop)]
+pub struct StoredText<'a> {
+    named: Named<'a>,
+    things: List<Thing>,
+}
+
+impl<'a> Model for StoredText<'a> {
+    ghost use Rattle.std.specs.Prelude.{◌≡◌};
+    ghost use Rattle.std.specs.Coded.{codes, coded_list};
+    ghost use Rattle.cw_facts.specs.contracts.fact.Fact as fact;
+    ghost use Rattle.cw_tree.specs.contracts.statement.RawBlock as block;
+    ghost use Rattle.cw_scope.specs.declared.resolve.Named.{Named as Resolved};
+    ghost use Rattle.cw_scope.specs.Gathered.{Gathers-coded};
+    ghost use Rattle.cw_items.specs.Things.{text_things};
+
+    ghost Value = { Resolved };
+
+    ghost coded = { Prim.hlevel (codes, block.the_row.coded, fact.the_row.coded, Gathers-coded (coded_list fact.the_row.coded)) };
+
+    ghost view = { λ t. t.named };
+
+    ghost invariant = { λ t. t.things ≡ text_things t.named t.named.raw.now };
+}
+
+impl StoredText<'_> {
+    pub fn new(alloc: Global, named: Named<'_>) -> Result<StoredText<'_>, NoMemory>
+        ensures { IfOk result (λ text. text ≡ named.entry) }
+    {
+        let things = text_things(alloc, &named, named.raw)?;
+        Ok(StoredText { named, things })
+    }
+
+    pub fn named(&self) -> &Named<'_>
+        ensures { result.now ≡ self.now }
+    {
+        &self.named
+    }
+
+    /// What the text stores, in order of the text.
+    pub fn things(&self) -> &[Thing]
+        ensures { result.now ≡ text_things self.now self.now.raw.now }
+    {
+        self.things.as_slice()
+    }
 }

@@ -188,7 +188,7 @@ fn prim_operators(e: &RawPrim, out: &mut List<Position>) -> Result<(), NoMemory>
     ensures { OnOk result (out.new ≡ out.old ++ prim_operators e.now) }
 {
     bits_operators(e.bits.as_slice(), out)?;
-    primary_operators(e.primary.get(), out)
+    primary_operators(&e.primary, out)
 }
 
 #[cycle(operators)]
@@ -203,7 +203,7 @@ fn primary_operators(e: &RawPrimary, out: &mut List<Position>) -> Result<(), NoM
         RawPrimary::Location(_, r) => reference_operators(r.get(), out),
         RawPrimary::Forced(_, e) => expression_operators(e.get(), out),
         RawPrimary::Bracket(_, e) => expression_operators(e.get(), out),
-        RawPrimary::Ref(r) => reference_operators(r.get(), out),
+        RawPrimary::Ref(r) => reference_operators(r, out),
         RawPrimary::Call(_, arguments) => argument_operators(arguments.as_slice(), out),
     }
 }

@@ -9,7 +9,7 @@ use crate::statements::judge_block;
 use cw_amount::amount::place_amount;
 use cw_data::specifications::{judge_aitems, judge_spec, judge_specs};
 use cw_items::families::{Site, judge_things};
-use cw_items::text::text_things;
+use cw_items::text::StoredText;
 use cw_items::thing::Thing;
 use cw_scale::fault::Fault;
 use cw_scope::resolve::Named;
@@ -163,9 +163,8 @@ fn judge_stored(alloc: Global, named: &Named, things: &[Thing]) -> Result<Option
 }
 
 /// The first fault of the types of a text.
-pub fn judge_text(alloc: Global, named: &Named) -> Result<Option<Fault>, NoMemory>
-    ensures { IfOk result (λ fault. fault ≡ first_type_fault named.now) }
+pub fn judge_text(alloc: Global, text: &StoredText) -> Result<Option<Fault>, NoMemory>
+    ensures { IfOk result (λ fault. fault ≡ first_type_fault text.now) }
 {
-    let things = text_things(alloc, named, named.raw)?;
-    judge_stored(alloc, named, things.as_slice())
+    judge_stored(alloc, text.named(), text.things())
 }

@@ -1,5 +1,5 @@
 -- The code of each block is told, and so is that of a segment.
-use Rattle.std.proofs.Common.{ℕ, zero, suc, ◌+◌, ◌==◌, ℤ, pos, negsuc, ◌-ℤ◌, if◌then◌else◌, Bool, true, false, List, [], ◌∷◌, ◌++◌, refl}
+use Rattle.std.proofs.Common.{ℕ, zero, suc, ◌+◌, ◌==◌, ℤ, pos, negsuc, ◌-ℤ◌, Bool, true, false, List, [], ◌∷◌, ◌++◌, refl}
 use Rattle.cw_run86.specs.Views.{with_number}
 use Rattle.cw_word.specs.BitField.{field_mask}
 use Rattle.cw_unit.specs.declared.unit.Goal.{Goal}
@@ -27,7 +27,7 @@ use Rattle.cw_tmpl.specs.declared.blocks.Use.{Use}
 use Rattle.cw_tmpl.specs.declared.blocks.Use.TheVariants as uses
 use Rattle.cw_tmpl.specs.declared.blocks.Block.{Block}
 use Rattle.cw_tmpl.specs.declared.blocks.Block.TheVariants as block
-use Rattle.cw_tmpl.specs.Mnemonics.{ax, bx, cx, si, di, at_si, compare, load, store, add, double, multiply, set_word, jump_if_below}
+use Rattle.cw_tmpl.specs.Mnemonics.{ax, cx, si, di, at_si, compare, load, store, add, double, multiply, jump_if_below}
 use Rattle.cw_tmpl.specs.Mnemonics.{shift_up, shift_up_once, shift_down_signed, shift_down_signed_once}
 use Rattle.cw_tmpl.specs.Library.{address_entry}
 use Rattle.cw_tmpl.specs.Names.{Names, mark_place, call_place}
@@ -36,13 +36,14 @@ use Rattle.cw_tmpl.specs.Templates.{call_stop, checked_by, branch_by, shifted_up
 use Rattle.cw_tmpl.specs.Templates.{operate_place, change_place, index_loaded, from_lower, index_added, index_below, element_tested}
 use Rattle.cw_tmpl.specs.Templates.{element_address, operation, product_with, indexes_between, top_from_lower, top_below, times_entry}
 use Rattle.cw_tmpl.specs.Templates.{formed, bounded_address, column_loaded, column_below, row_summed, column_tested, row_address, pieces_size, with_operand}
-use Rattle.cw_tmpl.specs.Templates.{operated, word_compared, block_pieces, block_size, is_short, entry_pieces}
+use Rattle.cw_tmpl.specs.Templates.{operated, word_compared, block_pieces, block_size, entry_pieces}
+use Rattle.cw_tmpl.specs.ShortForms.{is_short}
 use Rattle.cw_tmpl.specs.ReferenceCode.{templates, entry_size, landing_where, landings, switch_where, switches}
 use Rattle.cw_tmpl.specs.ReferenceCode.{landings_place, switches_place, names_of, pieces_of}
 use Rattle.cw_tmpl.specs.Names.{has_landing, landing_bytes, switch_bytes}
 use Rattle.cw_tmpl.specs.Named.{is_named_label, is_named_switch}
 use Rattle.cw_listed.proofs.Walk.{Told, both}
-use Rattle.cw_listed.proofs.Orders.{shifted_told, part_told, entry_pieces_told, landing_told, switch_told, order_told}
+use Rattle.cw_listed.proofs.Orders.{shifted_told, part_told, top_told, entry_times_told, entry_pieces_told, landing_told, switch_told, order_told}
 
 -- ---- places, elements and operands
 
@@ -102,19 +103,10 @@ product_with_told (simple.Element e) = both (element_address e) (coded.Whole (lo
 
 -- ---- bounds and rows
 
-top_told : (lower : ℤ) → Told (top_from_lower lower)
-top_told (pos zero) = refl
-top_told (pos (suc n)) = refl
-top_told (negsuc n) = refl
-
-times_told : (one : Bool) (width : ℕ) → Told (if one then [] else coded.Whole (set_word bx width) ∷ coded.Whole (multiply bx) ∷ [])
-times_told true width = refl
-times_told false width = refl
-
 formed_told : (family first : ℕ) (f : Form) → Told (formed family first f)
 formed_told family first (form.Element span line) = refl
 formed_told family first (form.Entry width word span line) =
-    both (times_entry width) (coded.Sum ax (target.Word family (first + word)) ∷ []) (times_told (width == 1) width) refl
+    both (times_entry width) (coded.Sum ax (target.Word family (first + word)) ∷ []) (entry_times_told (width == 1) width) refl
 
 below_then : (line count : ℕ) (ps : List Coded) → Told ps → Told (top_below line count ++ ps)
 below_then line count ps h = h
@@ -135,7 +127,7 @@ second_told (column.Contents x) = loaded_told x
 
 summed_told : (r : Row) → Told (row_summed r)
 summed_told r =
-    let f : Form = form.Entry r.width 0 r.span r.line in
+    let f : Form = form.Entry r.width 0 r.span r.columns.line in
     both (formed r.family r.first f) (coded.Whole (add ax si) ∷ []) (formed_told r.family r.first f) refl
 
 column_told : (r : Row) → Told (column_tested r)

@@ -1,5 +1,4 @@
 pub mod Walk
-pub mod Sized
 pub mod Orders
 pub mod Blocks
 pub mod Places
@@ -10,3 +9,5 @@ pub mod LibraryLines
 pub mod SegmentLines
 pub mod Program
 pub mod ProgramShown
+pub mod Coding
+pub mod Images

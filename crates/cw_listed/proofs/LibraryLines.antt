@@ -13,7 +13,7 @@ use Rattle.cw_listing.specs.declared.line.Shown.TheVariants.{Byte}
 use Rattle.cw_listing.specs.declared.line.Line.{Line}
 use Rattle.cw_listing.specs.Lines.{is_among, IsLineAt, AreLinesBetween}
 use Rattle.cw_listed.specs.ProgramLines.{instruction_lines, library_lines}
-use Rattle.cw_listed.proofs.Sized.{instr_some}
+use Rattle.cw_follow.proofs.Sized.{instr_some}
 use Rattle.cw_listed.proofs.Lines.{instruction_shown}
 
 -- lines, and others behind them

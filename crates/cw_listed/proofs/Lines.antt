@@ -21,7 +21,7 @@ use Rattle.cw_listing.specs.Lines.{is_among, Shows, AreLinesBetween}
 use Rattle.cw_listed.specs.Behind.{is_word, Stands}
 use Rattle.cw_listed.specs.PieceLines.{shown_with, piece_lines}
 use Rattle.cw_listed.proofs.Walk.{whole}
-use Rattle.cw_listed.proofs.Sized.{piece_some}
+use Rattle.cw_follow.proofs.Sized.{piece_some}
 
 pub instruction_shown : (code words : List ℕ) (place : ℕ) (i : Instr) (rest : List ℕ) (n : ℕ)
     → drop place code ≡ bytes_of i ++ rest → is_among words place ≡ false

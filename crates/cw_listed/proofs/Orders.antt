@@ -14,14 +14,14 @@ use Rattle.cw_order.specs.declared.order.Place.{Place}
 use Rattle.cw_order.specs.declared.order.Place.TheVariants as cell
 use Rattle.cw_tmpl.specs.declared.pieces.Coded.{Coded}
 use Rattle.cw_tmpl.specs.declared.pieces.Coded.TheVariants as coded
-use Rattle.cw_tmpl.specs.Mnemonics.{ax, cx, at_bx, move, operate, change}
+use Rattle.cw_tmpl.specs.Mnemonics.{ax, bx, cx, si, at_bx, set_word, move, add, multiply, operate, change}
 use Rattle.cw_tmpl.specs.Mnemonics.{shift_up, shift_down, shift_down_signed, shift_up_once, shift_down_once, shift_down_signed_once}
 use Rattle.cw_tmpl.specs.Library.{overflow_entry, address_entry}
 use Rattle.cw_tmpl.specs.Names.{Names, mark_place, call_place}
 use Rattle.cw_tmpl.specs.Templates.{times_if, times, shifted, shifted_up, shifted_down, shifted_down_signed, lowest_if, part_taken, store_part}
 use Rattle.cw_tmpl.specs.Templates.{rescale_if, rescale, product_down, product, quotient, less_bound, plus_word, pieces_size, checked_by}
 use Rattle.cw_tmpl.specs.Templates.{ended_back, times_before, rescale_before, product_before, quotient_before, is_checked}
-use Rattle.cw_tmpl.specs.Templates.{times_width, based, element, in_row, element_of_two, entry, in_bounds, entered, mark_words, goal_words, loop_ways}
+use Rattle.cw_tmpl.specs.Templates.{times_width, based, element, in_row, element_of_two, top_from_lower, times_entry, element_inside, entry, in_bounds, entered, mark_words, goal_words, loop_ways}
 use Rattle.cw_tmpl.specs.Templates.{step_taken, switch_pieces, landing_pieces, entry_pieces, template, short_template, template_by}
 use Rattle.cw_listed.proofs.Walk.{Told, both}
 
@@ -117,6 +117,22 @@ element_of_two_told line lower second width =
     both (less_bound line second) (coded.Whole (move cx ax) ∷ coded.Whole (i86.Pop ax) ∷ (less_bound line lower ++ made)) (bound_told line second)
     (both (less_bound line lower) made (bound_told line lower) (both (times address_entry line width) last (multiplied_told (width == 32768) line width) refl))
 
+pub top_told : (lower : ℤ) → Told (top_from_lower lower)
+top_told (pos zero) = refl
+top_told (pos (suc n)) = refl
+top_told (negsuc n) = refl
+
+pub entry_times_told : (one : Bool) (width : ℕ) → Told (if one then [] else coded.Whole (set_word bx width) ∷ coded.Whole (multiply bx) ∷ [])
+entry_times_told true width = refl
+entry_times_told false width = refl
+
+element_inside_told : (lower second : ℤ) (width : ℕ) → Told (element_inside lower second width)
+element_inside_told lower second width =
+    let last : List Coded = coded.Whole (add ax cx) ∷ coded.Whole (add ax si) ∷ [] in
+    let made : List Coded = times_entry width ++ last in
+    both (top_from_lower second) (coded.Whole (move cx ax) ∷ coded.Whole (i86.Pop ax) ∷ (top_from_lower lower ++ made)) (top_told second)
+    (both (top_from_lower lower) made (top_told lower) (both (times_entry width) last (entry_times_told (width == 1) width) refl))
+
 entry_told : (line width word : ℕ) → Told (entry line width word)
 entry_told line width word =
     both (times_width line width) (plus_word line word ++ based line) (width_told (width == 1) (width == 32768) line width)
@@ -170,7 +186,8 @@ template_told names place (order.Mul power line) = product_told line power
 template_told names place (order.Div power line) = quotient_told line power
 template_told names place (order.Take t b) = part_told t b false
 template_told names place (order.Element lower span line) = element_told line lower
-template_told names place (order.ElementOfTwo lower second width span line) = element_of_two_told line lower second width
+template_told names place (order.ElementOfTwo lower second width line) = element_of_two_told line lower second width
+template_told names place (order.ElementInside lower second width span) = element_inside_told lower second width
 template_told names place (order.Entry width word span line) = entry_told line width word
 template_told names place (order.InBounds lower upper line) = bounds_told line lower upper
 template_told names place (order.NextStep x line mark) = step_told x line place (mark_place names mark)

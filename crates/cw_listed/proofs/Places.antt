@@ -15,7 +15,7 @@ use Rattle.cw_listing.specs.Lines.{is_among}
 use Rattle.cw_listing.specs.Remarks.{words_behind, words_behind_call}
 use Rattle.cw_listed.specs.Behind.{is_word, places_behind, word_places, IsKnownData, NamesEntries}
 use Rattle.cw_listed.proofs.Walk.{behind_target, passed, is_clear, is_due, is_entry, is_told, coming_behind, are_told, Told, parts}
-use Rattle.cw_listed.proofs.Sized.{piece_some}
+use Rattle.cw_follow.proofs.Sized.{piece_some}
 
 -- ---- places among others
 

@@ -1,3 +1,4 @@
 pub mod Behind
 pub mod PieceLines
 pub mod ProgramLines
+pub mod Shown

@@ -5,6 +5,7 @@ ghost use Rattle.cw_unit.specs.declared.unit.Goal.{Goal};
 ghost use Rattle.cw_order.specs.declared.order.Order.{Order};
 ghost use Rattle.cw_order.specs.declared.order.Orders.{Orders};
 ghost use Rattle.cw_order.specs.declared.order.LabelMark.{LabelMark};
+ghost use Rattle.cw_order.specs.OrderProgram.{OrderProgram};
 ghost use Rattle.cw_tmpl.specs.declared.pieces.Coded.{Coded};
 ghost use Rattle.cw_tmpl.specs.declared.blocks.Block.{Block};
 ghost use Rattle.cw_tmpl.specs.Library.{library_bytes};
@@ -12,12 +13,14 @@ ghost use Rattle.cw_tmpl.specs.Names.{Names};
 ghost use Rattle.cw_tmpl.specs.Pieces.{Filling};
 ghost use Rattle.cw_tmpl.specs.Templates.{block_pieces, entry_pieces, landing_pieces, switch_pieces};
 ghost use Rattle.cw_tmpl.specs.ReferenceCode.{pieces_of, orders_code};
+ghost use Rattle.cw_follow.specs.Placing.{IsImage, Codable};
 ghost use Rattle.cw_listing.specs.declared.line.Line.{Line};
 ghost use Rattle.cw_listing.specs.Lines.{is_among, AreLines};
 ghost use Rattle.cw_listing.specs.Listing.{listing};
 ghost use Rattle.cw_listing.specs.CodeListing.{IsCodeListing, notes_of, words_of};
 ghost use Rattle.cw_listed.specs.Behind.{is_word, known_places, Stands, IsListed};
 ghost use Rattle.cw_listed.specs.ProgramLines.{AreCoded, program_code, program_lines};
+ghost use Rattle.cw_listed.specs.Shown.{ShowsPieces};
 
 use cw_routines::laws::standing;
 
@@ -56,4 +59,13 @@ pub fn program_shown()
         text ≡ listing (program_code values os) (program_lines values os) (notes_of us (map orders_code os) sources) (words_of us (map orders_code os)) }
 {
     standing();
+}
+
+/// A listing of the image of a program that code can carry out shows each piece of its code, as an instruction or as
+/// a word, and each instruction of the library.
+pub fn image_shown()
+    ensures { (p : OrderProgram) (image : List ℕ) (us : List SourceUnit) (sources : List (List ℕ)) (text : List ℕ) → IsImage p image → Codable p →
+        length p.units ≤ length us → IsCodeListing image us (map orders_code p.units) sources text → ShowsPieces p.units image us sources text }
+{
+    program_shown();
 }

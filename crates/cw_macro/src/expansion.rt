@@ -296,10 +296,14 @@ impl<'a> Expansion<'a> {
     fn new(alloc: Global, tokens: &[Token<'a>]) -> Result<Expansion<'a>, NoMemory>
         ensures { IfOk result (λ e. expansion_of e ≡ start (map view tokens.now)) }
     {
+        // Most texts have few macros, so there is room for their own tokens at once.
+        let room = tokens.len().min(MOST_TOKENS);
+        let left = Left::of_text(alloc, tokens)?;
+        let done = Vec::with_capacity(alloc, room).map_err(|_| NoMemory)?;
         Ok(Expansion {
-            done: List::new(alloc),
+            done: List::of(done),
             definitions: Definitions::new(alloc),
-            left: Left::of_text(alloc, tokens)?,
+            left,
             count: tokens.len(),
         })
     }

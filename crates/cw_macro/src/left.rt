@@ -26,9 +26,8 @@ impl<'a> Left<'a> {
     pub(crate) fn of_text(alloc: Global, tokens: &[Token<'a>]) -> Result<Left<'a>, NoMemory>
         ensures { IfOk result (λ left. left_of left ≡ map of_text (map view tokens.now)) }
     {
-        let mut left = Left {
-            items: Vec::new(alloc),
-        };
+        let items = Vec::with_capacity(alloc, tokens.len()).map_err(|_| NoMemory)?;
+        let mut left = Left { items };
         let mut at = tokens.len();
         while at > 0 {
             at -= 1;

@@ -1,18 +1,16 @@
 //! What a segment defines of what its communicators list.
-ghost use Rattle.std.specs.Prelude.{◌≡◌, ◌++◌, ◌∷◌, [], IfOk, OnOk};
+ghost use Rattle.std.specs.Prelude.{◌≡◌, ◌++◌, ◌∷◌, [], IfOk, OnOk, option_copied};
 ghost use Rattle.cw_table.specs.Rows.{item_at};
 ghost use Rattle.cw_facts.specs.declared.fact.Fact.{out-Fact};
 ghost use Rattle.cw_make.specs.Definitions.{declared_by, all_declared, inside, inside_first, outermost_declared};
 ghost use Rattle.cw_make.specs.Definitions.{def_in, def_if, def_by, def_named, def_of, defs_from, defined_of};
 
 use cw_facts::fact::{Declaration, Fact};
-use cw_facts::statements::block_facts;
 use cw_number::listed::{Listing, listed_of};
 use cw_number::numbered::Numbered;
 use cw_scope::names::Names;
 use cw_scope::resolve::Named;
 use cw_table::table::{Row, Table};
-use cw_tree::segment::Raw;
 use cw_unit::unit::Def;
 use cw_word::{List, NoMemory};
 use std::alloc::Global;
@@ -54,12 +52,10 @@ fn inside_first(alloc: Global, facts: &[Fact]) -> Result<Names, NoMemory>
     }
 }
 
-fn outermost_declared(alloc: Global, raw: &Raw) -> Result<Names, NoMemory>
-    ensures { IfOk result (λ names. names ≡ outermost_declared raw.now) }
+fn outermost_declared(alloc: Global, named: &Named) -> Result<Names, NoMemory>
+    ensures { IfOk result (λ names. names ≡ outermost_declared named.now.raw.now) }
 {
-    let mut facts = List::new(alloc);
-    block_facts(alloc, &raw.block, true, &mut facts)?;
-    inside_first(alloc, facts.as_slice())
+    inside_first(alloc, named.block_facts())
 }
 
 fn def_in(number: &Option<Numbered>) -> Option<Def>
@@ -73,8 +69,8 @@ fn def_in(number: &Option<Numbered>) -> Option<Def>
     }
 }
 
-fn def_by(numbers: &Table<Numbered>, declaration: &Option<Declaration>) -> Option<Def>
-    ensures { result ≡ def_by numbers.now declaration.now }
+fn def_by(numbers: &Table<Numbered>, declaration: Option<&Declaration>) -> Option<Def>
+    ensures { result ≡ def_by numbers.now (option_copied declaration.entry) }
 {
     match declaration {
         None => None,
@@ -89,7 +85,7 @@ fn def_of(named: &Named, numbers: &Table<Numbered>, own: &Names, row: &Row<Listi
         Listing::Data => None,
         _ => match named.declarations.find(row.token) {
             None => None,
-            Some(listed) => def_by(numbers, &own.find(&listed.name.name)),
+            Some(listed) => def_by(numbers, own.find(&listed.name.name)),
         },
     }
 }
@@ -129,7 +125,7 @@ pub fn defined_of(
 ) -> Result<List<(u16, Def)>, NoMemory>
     ensures { IfOk result (λ all. all ≡ defined_of named.now numbers.now) }
 {
-    let own = outermost_declared(alloc, named.raw)?;
+    let own = outermost_declared(alloc, named)?;
     let listed = listed_of(alloc, named.raw)?;
     defs(alloc, named, numbers, &own, listed.rows())
 }

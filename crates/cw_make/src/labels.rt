@@ -4,11 +4,10 @@ ghost use Rattle.cw_make.specs.Labels.{joined, declared_label, proc_within, fact
 ghost use Rattle.cw_make_items.specs.Lookup.{line_of};
 
 use cw_facts::fact::{Declaration, Fact, Kind};
-use cw_facts::statements::block_facts;
 use cw_make_items::lookup::{line_of, proc_here};
 use cw_number::numbered::Numbered;
+use cw_scope::resolve::Named;
 use cw_table::table::Table;
-use cw_tree::segment::Raw;
 use cw_unit::unit::Label;
 use cw_word::{List, NoMemory};
 use std::alloc::Global;
@@ -75,14 +74,12 @@ fn fact_labels(
 /// The labels that a text sets, in order of the text.
 pub fn labels_of(
     alloc: Global,
+    named: &Named,
     numbers: &Table<Numbered>,
-    raw: &Raw,
 ) -> Result<List<Label>, NoMemory>
-    ensures { IfOk result (λ all. all ≡ labels_of numbers.now raw.now) }
+    ensures { IfOk result (λ all. all ≡ labels_of numbers.now named.now.raw.now) }
 {
-    let mut facts = List::new(alloc);
-    block_facts(alloc, &raw.block, true, &mut facts)?;
     let mut all = List::new(alloc);
-    facts_labels(facts.as_slice(), numbers, None, &mut all)?;
+    facts_labels(named.block_facts(), numbers, None, &mut all)?;
     Ok(all)
 }

@@ -18,7 +18,7 @@ use cw_make_stmt::statements::make_block;
 use cw_number::listed::listed_of;
 use cw_number::numbered::Numbered;
 use cw_number::numbers::numbers_of;
-use cw_number::text_things;
+use cw_number::{StoredText, Thing};
 use cw_preset::held::held_of;
 use cw_scope::resolve::Named;
 use cw_table::table::{Row, Table};
@@ -54,7 +54,13 @@ struct Storage {
     items: List<Item>,
 }
 
-fn storage_of(alloc: Global, named: &Named, numbers: &Table<Numbered>) -> Result<Storage, NoMemory>
+fn storage_of(
+    alloc: Global,
+    named: &Named,
+    numbers: &Table<Numbered>,
+    things: &[Thing],
+) -> Result<Storage, NoMemory>
+    requires { things.now ≡ text_things named.now named.now.raw.now }
     ensures descs { IfOk result (λ s. s.descs
         ≡ descs_of numbers.now (listed_of named.now.raw.now) (text_things named.now named.now.raw.now)
         named.now.raw.now.comms) }
@@ -64,11 +70,10 @@ fn storage_of(alloc: Global, named: &Named, numbers: &Table<Numbered>) -> Result
         (text_things named.now named.now.raw.now)) }
 {
     let lists = named.raw.comms.as_slice();
-    let things = text_things(alloc, named, named.raw)?;
     let listed = listed_of(alloc, named.raw)?;
     let addresses = addresses_of(alloc, lists)?;
     let held = held_of(alloc, named.raw)?;
-    let descs = descs_of(alloc, numbers, &listed, things.as_slice(), lists)?;
+    let descs = descs_of(alloc, numbers, &listed, things, lists)?;
     let items = items_of(
         alloc,
         &named.declarations,
@@ -76,18 +81,24 @@ fn storage_of(alloc: Global, named: &Named, numbers: &Table<Numbered>) -> Result
         &listed,
         &addresses,
         &held,
-        things.as_slice(),
+        things,
     )?;
     Ok(Storage { descs, items })
 }
 
-fn unit_with(alloc: Global, named: &Named, numbers: &Table<Numbered>) -> Result<Unit, NoMemory>
+fn unit_with(
+    alloc: Global,
+    named: &Named,
+    numbers: &Table<Numbered>,
+    things: &[Thing],
+) -> Result<Unit, NoMemory>
+    requires { things.now ≡ text_things named.now named.now.raw.now }
     ensures { IfOk result (λ u. u ≡ unit_with named.now numbers.now named.now.raw.now) }
 {
     let raw = named.raw;
-    let Storage { descs, items } = storage_of(alloc, named, numbers)?;
+    let Storage { descs, items } = storage_of(alloc, named, numbers, things)?;
     let procs = procs_of(alloc, named, numbers)?;
-    let labels = labels_of(alloc, numbers, raw)?;
+    let labels = labels_of(alloc, named, numbers)?;
     let switches = switches_of(alloc, named, numbers)?;
     let defined = defined_of(alloc, named, numbers)?;
     let body = make_block(alloc, named, numbers, &raw.block)?;
@@ -106,9 +117,9 @@ fn unit_with(alloc: Global, named: &Named, numbers: &Table<Numbered>) -> Result<
 }
 
 /// The unit of a named text.
-pub fn unit_of_named(alloc: Global, named: &Named) -> Result<Unit, NoMemory>
-    ensures { IfOk result (λ u. u ≡ unit_of named.now) }
+pub fn unit_of_named(alloc: Global, text: &StoredText) -> Result<Unit, NoMemory>
+    ensures { IfOk result (λ u. u ≡ unit_of text.now) }
 {
-    let numbers = numbers_of(alloc, named)?;
-    unit_with(alloc, named, &numbers)
+    let numbers = numbers_of(alloc, text)?;
+    unit_with(alloc, text.named(), &numbers, text.things())
 }

@@ -1,5 +1,5 @@
 -- The trees of a text's expressions, primaries and references by which of their forms they are.
-use Rattle.std.proofs.Common.{◌≡◌, ℕ, Bool, false, List, sym, ap, ap₂, ◌∙◌, map, Option, None}
+use Rattle.std.proofs.Common.{◌≡◌, ℕ, Bool, false, List, sym, ap, ap₂, ◌∙◌, map, None}
 use Rattle.cw_word.specs.Word.{signed}
 use Rattle.cw_tree.specs.declared.leaf.Position.{Position}
 use Rattle.cw_tree.specs.declared.leaf.RawName.{RawName}
@@ -17,23 +17,21 @@ use Rattle.cw_tree.specs.declared.expression.RawExpr.{RawExpr, fold-roll-RawExpr
 use Rattle.cw_tree.specs.declared.expression.RawPrimary.{RawPrimary, fold-roll-RawPrimary}
 use Rattle.cw_tree.specs.declared.expression.RawRef.{RawRef, fold-roll-RawRef}
 use Rattle.cw_tree.specs.declared.segment.RawPs.{RawPs}
-use Rattle.cw_facts.specs.declared.fact.Kind.{Kind}
 use Rattle.cw_scope.specs.declared.resolve.Named.{Named}
-use Rattle.cw_number.specs.declared.numbered.Numbered.{Numbered}
 use Rattle.cw_amount.specs.Amounts.{octal_word}
-use Rattle.cw_scale.specs.Kinds.{kind_of, fraction_of, signature_of}
+use Rattle.cw_scale.specs.Kinds.{fraction_of, signature_of}
 use Rattle.cw_unit.specs.declared.unit.Arg.TheOpen as unit_layer
 use Rattle.cw_unit.specs.declared.unit.Expr.{Expr}
 use Rattle.cw_unit.specs.declared.unit.Expr.TheVariants as unit
 use Rattle.cw_unit.specs.declared.unit.Cond.{Cond}
 use Rattle.cw_unit.specs.declared.unit.Ref.{Ref}
-use Rattle.cw_unit.specs.declared.unit.Spot.{Spot, roll-Spot}
+use Rattle.cw_unit.specs.declared.unit.Spot.{roll-Spot}
 use Rattle.cw_unit.specs.declared.unit.Spot.TheVariants as spots
 use Rattle.cw_unit.specs.declared.unit.Arg.{Arg}
 use Rattle.cw_unit.specs.declared.unit.Target.{Target}
 use Rattle.cw_make_expr.specs.Nodes.{number, constant, string, call, force, locate, choice, reference, whole_part_if}
-use Rattle.cw_make_expr.specs.Parts.{Numbers, within, item_here, item_in, number_of, params_of, indexed_spot, twice_indexed_spot}
-use Rattle.cw_make_expr.specs.Made.{Made, Placed, simply, plainly, place_read, place_of_name, reference_at, arguments_for, item_of, target, arguments, expression_step, primary_step, reference_step, conjunction_step, comparison_step, condition_step, differ_step, mask_step, prim_step, sum_step, term_step, union_step, expression_made, primary_made, reference_made, condition_made, sum_made}
+use Rattle.cw_make_expr.specs.Parts.{Numbers, within, item_here, params_of}
+use Rattle.cw_make_expr.specs.Made.{Made, Placed, simply, plainly, place_read, place_of_name, indexed_place, twice_indexed_place, value_of, arguments_for, target, arguments, expression_step, primary_step, reference_step, conjunction_step, comparison_step, condition_step, differ_step, mask_step, prim_step, sum_step, term_step, union_step, expression_made, primary_made, reference_made, condition_made, sum_made}
 
 module _ (named : Named) (numbers : Numbers) where
   pub of_choice : (at : Position) (test : RawCond) (a : RawExpr) (b : RawExpr) → expression_made named numbers (expression.Choice at test a b) ≡ simply (choice (condition_made named numbers test) ((expression_made named numbers a).made false) ((expression_made named numbers b).made false))
@@ -96,12 +94,12 @@ module _ (named : Named) (numbers : Numbers) where
       (expression_step named numbers) (primary_step named numbers) (reference_step named numbers) (conjunction_step named numbers) (comparison_step named numbers) (condition_step named numbers)
       (differ_step named numbers) (mask_step named numbers) (prim_step named numbers) (sum_step named numbers) (term_step named numbers) (union_step named numbers) (layer.Name n)
 
-  pub of_indexed : (n : RawName) (e : RawExpr) → reference_made named numbers (ref.One n e) ≡ place_read (reference_at named n (indexed_spot named numbers (kind_of named n) (item_of named numbers n) ((expression_made named numbers e).made false)))
+  pub of_indexed : (n : RawName) (e : RawExpr) → reference_made named numbers (ref.One n e) ≡ place_read (indexed_place named numbers n ((expression_made named numbers e).made false))
   of_indexed n e = ap (reference_made named numbers) (sym (ref.rolls-One n e)) ∙ fold-roll-RawRef Made Made Placed Cond Cond Cond Made Made Made Made Made Made
       (expression_step named numbers) (primary_step named numbers) (reference_step named numbers) (conjunction_step named numbers) (comparison_step named numbers) (condition_step named numbers)
       (differ_step named numbers) (mask_step named numbers) (prim_step named numbers) (sum_step named numbers) (term_step named numbers) (union_step named numbers) (layer.One n e)
 
-  pub of_twice_indexed : (n : RawName) (a : RawExpr) (b : RawExpr) → reference_made named numbers (ref.Two n a b) ≡ place_read (reference_at named n (twice_indexed_spot (kind_of named n) (item_of named numbers n) ((expression_made named numbers a).made false) ((expression_made named numbers b).made false)))
+  pub of_twice_indexed : (n : RawName) (a : RawExpr) (b : RawExpr) → reference_made named numbers (ref.Two n a b) ≡ place_read (twice_indexed_place named numbers n ((expression_made named numbers a).made false) ((expression_made named numbers b).made false))
   of_twice_indexed n a b = ap (reference_made named numbers) (sym (ref.rolls-Two n a b)) ∙ fold-roll-RawRef Made Made Placed Cond Cond Cond Made Made Made Made Made Made
       (expression_step named numbers) (primary_step named numbers) (reference_step named numbers) (conjunction_step named numbers) (comparison_step named numbers) (condition_step named numbers)
       (differ_step named numbers) (mask_step named numbers) (prim_step named numbers) (sum_step named numbers) (term_step named numbers) (union_step named numbers) (layer.Two n a b)
@@ -149,8 +147,9 @@ module _ (named : Named) (numbers : Numbers) where
   bracket_made p at e e' x z operand ep ee e1 k =
       made_as (primary_made named numbers) p (primary.Bracket at e) _ operand z ep (of_bracket at e) (k ∙ ap (whole_part_if operand) (e1 ∙ ap (λ e. (expression_made named numbers e).made false) ee))
 
-  pub value_made : (p : RawPrimary) (r r' : RawRef) (z : Expr) (operand : Bool) → p ≡ primary.Ref r → r' ≡ r → z ≡ (reference_made named numbers r').value → z ≡ (primary_made named numbers p).made operand
-  value_made p r r' z operand ep er k = made_as (primary_made named numbers) p (primary.Ref r) _ operand z ep (of_ref r) (k ∙ ap (λ r. (reference_made named numbers r).value) er)
+  pub value_made : (p : RawPrimary) (r : RawRef) (z : Expr) (operand : Bool) → p ≡ primary.Ref r
+      → z ≡ (reference_made named numbers r).value → z ≡ (primary_made named numbers p).made operand
+  value_made p r z operand ep = made_as (primary_made named numbers) p (primary.Ref r) _ operand z ep (of_ref r)
 
   pub call_made : (p : RawPrimary) (n : RawName) (es es' : List RawExpr) (params : List RawPs) (args : List Arg) (t : Target) (x z : Expr) (operand : Bool) → p ≡ primary.Call n es → es' ≡ es
       → params ≡ params_of (signature_of named n) → args ≡ arguments_for (map (expression_made named numbers) es') params → t ≡ target named numbers n → x ≡ call t args → z ≡ x
@@ -162,20 +161,20 @@ module _ (named : Named) (numbers : Numbers) where
   pub place_made : (r : RawRef) (n : RawName) (z : Ref) → r ≡ ref.Name n → z ≡ place_of_name named numbers n → z ≡ (reference_made named numbers r).place
   place_made r n z er k = k ∙ ap (λ m. m.place) (sym (of_name n) ∙ ap (reference_made named numbers) (sym er))
 
-  pub indexed_made : (r : RawRef) (n : RawName) (e e' : RawExpr) (x y : Expr) (number : Option Numbered) (item : ℕ) (kind : Option Kind) (spot : Spot) (z : Ref) → r ≡ ref.One n e → e' ≡ e
-      → x ≡ (expression_made named numbers e').made false → number ≡ number_of named numbers n → item ≡ item_in number → kind ≡ kind_of named n → y ≡ x
-      → spot ≡ indexed_spot named numbers kind item y → z ≡ reference_at named n spot → z ≡ (reference_made named numbers r).place
-  indexed_made r n e e' x y number item kind spot z er ee e1 e2 e3 e4 e5 e6 k =
-      k ∙ ap (reference_at named n) (e6 ∙ ap₂ (λ kind item. indexed_spot named numbers kind item y) e4 (e3 ∙ ap item_in e2)
-      ∙ ap (indexed_spot named numbers (kind_of named n) (item_of named numbers n)) (e5 ∙ e1 ∙ ap (λ e. (expression_made named numbers e).made false) ee))
+  pub named_made : (r : RawRef) (n : RawName) (z : Expr) → r ≡ ref.Name n → z ≡ value_of named numbers n → z ≡ (reference_made named numbers r).value
+  named_made r n z er k = k ∙ ap (λ m. m.value) (sym (of_name n) ∙ ap (reference_made named numbers) (sym er))
+
+  pub indexed_made : (r : RawRef) (n : RawName) (e e' : RawExpr) (x y : Expr) (z : Ref) → r ≡ ref.One n e → e' ≡ e → x ≡ (expression_made named numbers e').made false → y ≡ x
+      → z ≡ indexed_place named numbers n y → z ≡ (reference_made named numbers r).place
+  indexed_made r n e e' x y z er ee e1 e2 k =
+      k ∙ ap (indexed_place named numbers n) (e2 ∙ e1 ∙ ap (λ e. (expression_made named numbers e).made false) ee)
       ∙ ap (λ m. m.place) (sym (of_indexed n e) ∙ ap (reference_made named numbers) (sym er))
 
-  pub twice_indexed_made : (r : RawRef) (n : RawName) (a a' b b' : RawExpr) (x y : Expr) (number : Option Numbered) (item : ℕ) (kind : Option Kind) (spot : Spot) (z : Ref) → r ≡ ref.Two n a b → a' ≡ a → b' ≡ b
-      → x ≡ (expression_made named numbers a').made false → y ≡ (expression_made named numbers b').made false → number ≡ number_of named numbers n → item ≡ item_in number → kind ≡ kind_of named n
-      → spot ≡ twice_indexed_spot kind item x y → z ≡ reference_at named n spot → z ≡ (reference_made named numbers r).place
-  twice_indexed_made r n a a' b b' x y number item kind spot z er ea eb e1 e2 e3 e4 e5 e6 k =
-      k ∙ ap (reference_at named n) (e6 ∙ ap₂ (λ kind item. twice_indexed_spot kind item x y) e5 (e4 ∙ ap item_in e3)
-      ∙ ap₂ (twice_indexed_spot (kind_of named n) (item_of named numbers n)) (e1 ∙ ap (λ a. (expression_made named numbers a).made false) ea) (e2 ∙ ap (λ b. (expression_made named numbers b).made false) eb))
+  pub twice_indexed_made : (r : RawRef) (n : RawName) (a a' b b' : RawExpr) (x y : Expr) (z : Ref) → r ≡ ref.Two n a b → a' ≡ a → b' ≡ b
+      → x ≡ (expression_made named numbers a').made false → y ≡ (expression_made named numbers b').made false → z ≡ twice_indexed_place named numbers n x y
+      → z ≡ (reference_made named numbers r).place
+  twice_indexed_made r n a a' b b' x y z er ea eb e1 e2 k =
+      k ∙ ap₂ (twice_indexed_place named numbers n) (e1 ∙ ap (λ a. (expression_made named numbers a).made false) ea) (e2 ∙ ap (λ b. (expression_made named numbers b).made false) eb)
       ∙ ap (λ m. m.place) (sym (of_twice_indexed n a b) ∙ ap (reference_made named numbers) (sym er))
 
   pub bare_made : (r : RawRef) (at : Position) (e e' : RawExpr) (x y : Expr) (z : Ref) → r ≡ ref.Bare at e → e' ≡ e → x ≡ (expression_made named numbers e').made false → y ≡ x

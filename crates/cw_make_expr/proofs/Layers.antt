@@ -20,7 +20,7 @@ use Rattle.cw_unit.specs.declared.unit.Cond.{Cond}
 use Rattle.cw_make_expr.specs.Nodes.{nothing, no_condition, comparison, comparator, whole_part_if}
 use Rattle.cw_make_expr.specs.Parts.{Numbers}
 use Rattle.cw_make_expr.specs.Made.{Made, Placed, operand_for, logic_from, logic_of, factors_from, term_of, terms_from, signed_term, is_alone, sum_from, sum_of, prim_of, all_from, any_from, all_of, any_of, expression_step, primary_step, reference_step, conjunction_step, comparison_step, condition_step, differ_step, mask_step, prim_step, sum_step, term_step, union_step, primary_made, conjunction_made, comparison_made, condition_made, differ_made, mask_made, prim_made, sum_made, term_made, union_made}
-use Rattle.cw_make_expr.proofs.Loops.{behind_first, first_and_rest, no_item, length_map, none_more}
+use Rattle.cw_scale.proofs.Turns.{behind_first, first_and_rest, no_item, length_map, none_more}
 
 module _ (named : Named) (numbers : Numbers) where
   pub condition-layer : (x : RawCond) → condition_made named numbers x ≡ any_of (map (conjunction_made named numbers) (out-RawCond x).operands)

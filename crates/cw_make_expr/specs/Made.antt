@@ -190,6 +190,15 @@ module _ (named : Named) (numbers : Numbers) where
   abbrev pub place_of_name : RawName → Ref
   place_of_name n = reference_at named n (named_spot (kind_of named n) (item_of n))
 
+  abbrev pub indexed_place : RawName → (index : Expr) → Ref
+  indexed_place n e = reference_at named n (indexed_spot named numbers (kind_of named n) (item_of n) e)
+
+  abbrev pub twice_indexed_place : RawName → (first second : Expr) → Ref
+  twice_indexed_place n e g = reference_at named n (twice_indexed_spot (kind_of named n) (item_of n) e g)
+
+  abbrev pub value_of : RawName → Expr
+  value_of n = value_of_name (is_called (kind_of named n)) (target n) (place_of_name n)
+
   -- ---- rules of the grammar
 
   abbrev pub expression_step : RawExpr-F Made Made Placed Cond Cond Cond Made Made Made Made Made Made → Made
@@ -211,12 +220,11 @@ module _ (named : Named) (numbers : Numbers) where
   reference_step (layer.Name n) =
       record {
         place = place_of_name n;
-        value = value_of_name (is_called (kind_of named n)) (target n) (place_of_name n);
+        value = value_of n;
         handed = handed (kind_of named n) (number_of named numbers n);
       }
-  reference_step (layer.One n e) = place_read (reference_at named n (indexed_spot named numbers (kind_of named n) (item_of n) (e.made false)))
-  reference_step (layer.Two n e g) =
-      place_read (reference_at named n (twice_indexed_spot (kind_of named n) (item_of n) (e.made false) (g.made false)))
+  reference_step (layer.One n e) = place_read (indexed_place n (e.made false))
+  reference_step (layer.Two n e g) = place_read (twice_indexed_place n (e.made false) (g.made false))
   reference_step (layer.Bare at e) = place_read (reference (roll-Spot (unit_layer.Bare (e.made false))) 0 None)
 
   abbrev pub conjunction_step : RawCand-F Made Made Placed Cond Cond Cond Made Made Made Made Made Made → Cond

@@ -16,7 +16,7 @@ fn reference_handed(named: &Named, numbers: &Table<Numbered>, r: &RawRef) -> Arg
     ensures { result ≡ (reference_made named.now numbers.now r.now).handed }
 {
     match r {
-        RawRef::Name(name) => handed(&kind_of(named, name), &number_of(named, numbers, name)),
+        RawRef::Name(name) => handed(kind_of(named, name), &number_of(named, numbers, name)),
         _ => no_argument(),
     }
 }
@@ -25,7 +25,7 @@ fn primary_handed(named: &Named, numbers: &Table<Numbered>, e: &RawPrimary) -> A
     ensures { result ≡ (primary_made named.now numbers.now e.now).handed }
 {
     match e {
-        RawPrimary::Ref(r) => reference_handed(named, numbers, r.get()),
+        RawPrimary::Ref(r) => reference_handed(named, numbers, r),
         _ => no_argument(),
     }
 }
@@ -34,7 +34,7 @@ fn prim_handed(named: &Named, numbers: &Table<Numbered>, e: &RawPrim) -> Arg
     ensures { result ≡ (prim_made named.now numbers.now e.now).handed }
 {
     match e.bits.as_slice() {
-        [] => primary_handed(named, numbers, e.primary.get()),
+        [] => primary_handed(named, numbers, &e.primary),
         _ => no_argument(),
     }
 }

@@ -1,9 +1,11 @@
 //! Makes the trees of expressions, conditions and references.
-ghost use Rattle.std.specs.Prelude.{◌≡◌, ◌++◌, [], map, IfOk, OnOk};
-ghost use Rattle.cw_scale.specs.Kinds.{signature_of};
+ghost use Rattle.std.specs.Prelude.{◌≡◌, ◌++◌, [], map, IfOk, OnOk, option_copied};
+ghost use Rattle.cw_scale.specs.Kinds.{signature_of, fraction_of_kind};
+ghost use Rattle.cw_make_expr.specs.Nodes.{reference};
+ghost use Rattle.cw_make_expr.specs.Parts.{field_of};
 ghost use Rattle.cw_make_expr.specs.Made.{expression_made, condition_made, conjunction_made, comparison_made, sum_made, term_made, differ_made};
 ghost use Rattle.cw_make_expr.specs.Made.{union_made, mask_made, prim_made, primary_made, reference_made, operand_for, is_alone, signed_term};
-ghost use Rattle.cw_make_expr.specs.Made.{bits_around, arguments_for, argument_for, place_of_name, reference_at, target};
+ghost use Rattle.cw_make_expr.specs.Made.{bits_around, arguments_for, argument_for, place_of_name, indexed_place, twice_indexed_place, value_of, target};
 
 use crate::handed::expression_handed;
 use crate::nodes::{
@@ -15,8 +17,9 @@ use crate::parts::{
     target_of, twice_indexed_spot, word,
 };
 use cw_amount::amount::{is_negative, octal_word, place_amount};
+use cw_facts::fact::Kind;
 use cw_number::numbered::Numbered;
-use cw_scale::kinds::{fraction_of, kind_of, name_fraction};
+use cw_scale::kinds::{fraction_of, fraction_of_kind, kind_of};
 use cw_scope::resolve::Named;
 use cw_table::table::Table;
 use cw_tree::expression::{
@@ -34,24 +37,63 @@ use std::alloc::Global;
 pub(crate) fn target(named: &Named, numbers: &Table<Numbered>, name: &RawName) -> Target
     ensures { result ≡ target named.now numbers.now name.now }
 {
-    target_of(&kind_of(named, name), &number_of(named, numbers, name))
+    target_of(kind_of(named, name), &number_of(named, numbers, name))
 }
 
-fn reference_at(named: &Named, name: &RawName, at: Spot) -> Ref
-    ensures { result ≡ reference_at named.now name.now at }
+// The reference of a name at a place of it, by its kind.
+fn reference_at(kind: Option<&Kind>, at: Spot) -> Ref
+    ensures { result ≡ reference at (fraction_of_kind (option_copied kind.entry)) (field_of (option_copied kind.entry)) }
 {
-    reference(
-        at,
-        name_fraction(named, name),
-        field_of(&kind_of(named, name)),
-    )
+    reference(at, fraction_of_kind(kind), field_of(kind))
 }
 
 fn place_of_name(named: &Named, numbers: &Table<Numbered>, name: &RawName) -> Ref
     ensures { result ≡ place_of_name named.now numbers.now name.now }
 {
+    let kind = kind_of(named, name);
     let item = item_in(&number_of(named, numbers, name));
-    reference_at(named, name, named_spot(&kind_of(named, name), item))
+    reference_at(kind, named_spot(kind, item))
+}
+
+fn indexed_place(named: &Named, numbers: &Table<Numbered>, name: &RawName, index: Expr) -> Ref
+    ensures { result ≡ indexed_place named.now numbers.now name.now index }
+{
+    let kind = kind_of(named, name);
+    let item = item_in(&number_of(named, numbers, name));
+    reference_at(kind, indexed_spot(named, numbers, kind, item, index))
+}
+
+fn twice_indexed_place(
+    named: &Named,
+    numbers: &Table<Numbered>,
+    name: &RawName,
+    first: Boxed<Expr>,
+    second: Boxed<Expr>,
+) -> Ref
+    ensures { result ≡ twice_indexed_place named.now numbers.now name.now first second }
+{
+    let kind = kind_of(named, name);
+    let item = item_in(&number_of(named, numbers, name));
+    reference_at(kind, twice_indexed_spot(kind, item, first, second))
+}
+
+// What a name by itself reads, or the call of a procedure that takes nothing.
+fn value_of(
+    alloc: Global,
+    named: &Named,
+    numbers: &Table<Numbered>,
+    name: &RawName,
+) -> Result<Boxed<Expr>, NoMemory>
+    ensures { IfOk result (λ t. t ≡ value_of named.now numbers.now name.now) }
+{
+    let kind = kind_of(named, name);
+    let number = number_of(named, numbers, name);
+    if is_called(kind) {
+        Boxed::new(alloc, call(target_of(kind, &number), List::new(alloc)))
+    } else {
+        let at = named_spot(kind, item_in(&number));
+        read(alloc, reference_at(kind, at))
+    }
 }
 
 // ---- signs and BITS
@@ -329,7 +371,7 @@ fn make_prim(
 {
     let all = e.bits.as_slice();
     let inside = operand_for(all.len() == 0, operand);
-    let inner = make_primary(alloc, named, numbers, e.primary.get(), inside)?;
+    let inner = make_primary(alloc, named, numbers, &e.primary, inside)?;
     bits_around(alloc, all, inner)
 }
 
@@ -365,7 +407,7 @@ fn make_primary(
             let inner = make_expression(alloc, named, numbers, e.get(), false)?;
             whole_part_if(alloc, operand, inner)
         }
-        RawPrimary::Ref(r) => make_value(alloc, named, numbers, r.get()),
+        RawPrimary::Ref(r) => make_value(alloc, named, numbers, r),
         RawPrimary::Call(name, arguments) => {
             let params = params_of(named, name);
             let arguments = make_arguments(alloc, named, numbers, params, arguments.as_slice())?;
@@ -388,18 +430,12 @@ pub(crate) fn make_reference(
         RawRef::Name(name) => Ok(place_of_name(named, numbers, name)),
         RawRef::One(name, index) => {
             let index = make_expression(alloc, named, numbers, index.get(), false)?;
-            let item = item_in(&number_of(named, numbers, name));
-            let kind = kind_of(named, name);
-            let at = indexed_spot(named, numbers, &kind, item, index.into_inner());
-            Ok(reference_at(named, name, at))
+            Ok(indexed_place(named, numbers, name, index.into_inner()))
         }
         RawRef::Two(name, first, second) => {
             let first = make_expression(alloc, named, numbers, first.get(), false)?;
             let second = make_expression(alloc, named, numbers, second.get(), false)?;
-            let item = item_in(&number_of(named, numbers, name));
-            let kind = kind_of(named, name);
-            let at = twice_indexed_spot(&kind, item, first, second);
-            Ok(reference_at(named, name, at))
+            Ok(twice_indexed_place(named, numbers, name, first, second))
         }
         RawRef::Bare(_, address) => {
             let address = make_expression(alloc, named, numbers, address.get(), false)?;
@@ -419,9 +455,7 @@ fn make_value(
     ensures { IfOk result (λ t. t ≡ (reference_made named.now numbers.now r.now).value) }
 {
     match r {
-        RawRef::Name(name) if is_called(&kind_of(named, name)) => {
-            Boxed::new(alloc, call(target(named, numbers, name), List::new(alloc)))
-        }
+        RawRef::Name(name) => value_of(alloc, named, numbers, name),
         _ => {
             let place = make_reference(alloc, named, numbers, r)?;
             read(alloc, place)

@@ -1,7 +1,7 @@
 //! What the names of a text give to the trees of its unit.
 ghost use Rattle.std.specs.Prelude.{◌≡◌, option_copied};
 ghost use Rattle.cw_amount.specs.Amounts.{place_amount, place_sint};
-ghost use Rattle.cw_scale.specs.Kinds.{kind_of, signature_of};
+ghost use Rattle.cw_scale.specs.Kinds.{signature_of};
 ghost use Rattle.cw_make_expr.specs.Parts.{within, bound, scale_of, item_in, item_here, number_of, params_of, is_called, answer_of, target_of, handed_item};
 ghost use Rattle.cw_make_expr.specs.Parts.{no_argument, handed, named_spot, words_of, width_of, entries_of, element_word, element_field, field_of};
 ghost use Rattle.cw_make_expr.specs.Parts.{element_spot, row_length, double_spot, twice_indexed_spot, kind_here, indexed_spot};
@@ -11,7 +11,7 @@ use cw_data::data::range_span;
 use cw_data::presets::table_words;
 use cw_facts::fact::Kind;
 use cw_number::numbered::Numbered;
-use cw_scale::kinds::{fraction_of_sint, kind_of, signature_of};
+use cw_scale::kinds::{fraction_of_sint, signature_of};
 use cw_scope::resolve::Named;
 use cw_table::table::Table;
 use cw_tree::items::{RawElem, RawRange};
@@ -110,8 +110,8 @@ pub(crate) fn params_of<'a>(named: &'a Named, name: &RawName) -> &'a [RawPs]
 
 // ---- procedures
 
-pub(crate) fn is_called(kind: &Option<Kind>) -> bool
-    ensures { result ≡ is_called kind.now }
+pub(crate) fn is_called(kind: Option<&Kind>) -> bool
+    ensures { result ≡ is_called (option_copied kind.entry) }
 {
     match kind {
         Some(Kind::Proc(_) | Kind::ProcParam(_) | Kind::ReadByte | Kind::WriteByte) => true,
@@ -119,8 +119,8 @@ pub(crate) fn is_called(kind: &Option<Kind>) -> bool
     }
 }
 
-fn answer_of(kind: &Option<Kind>) -> Option<Scale>
-    ensures { result ≡ answer_of kind.now }
+fn answer_of(kind: Option<&Kind>) -> Option<Scale>
+    ensures { result ≡ answer_of (option_copied kind.entry) }
 {
     match kind {
         Some(Kind::ProcParam(Some(scale))) => Some(scale_of(scale)),
@@ -128,8 +128,8 @@ fn answer_of(kind: &Option<Kind>) -> Option<Scale>
     }
 }
 
-pub(crate) fn target_of(kind: &Option<Kind>, number: &Option<Numbered>) -> Target
-    ensures { result ≡ target_of kind.now number.now }
+pub(crate) fn target_of(kind: Option<&Kind>, number: &Option<Numbered>) -> Target
+    ensures { result ≡ target_of (option_copied kind.entry) number.now }
 {
     match number {
         Some(Numbered::Proc(p)) => Target::Own(*p),
@@ -143,8 +143,8 @@ pub(crate) fn target_of(kind: &Option<Kind>, number: &Option<Numbered>) -> Targe
 
 // ---- a name that is a whole argument, and no value and no place
 
-fn handed_item(kind: &Option<Kind>, item: u32) -> Arg
-    ensures { result ≡ handed_item kind.now item }
+fn handed_item(kind: Option<&Kind>, item: u32) -> Arg
+    ensures { result ≡ handed_item (option_copied kind.entry) item }
 {
     match kind {
         Some(Kind::Array(_, bounds)) => Arg::Array(item, bound(&bounds.first.lower)),
@@ -160,8 +160,8 @@ pub(crate) fn no_argument() -> Arg
     Arg::Special(0)
 }
 
-fn handed_number(kind: &Option<Kind>, number: &Numbered) -> Arg
-    ensures { result ≡ handed kind.now (Some number.now) }
+fn handed_number(kind: Option<&Kind>, number: &Numbered) -> Arg
+    ensures { result ≡ handed (option_copied kind.entry) (Some number.now) }
 {
     match number {
         Numbered::Item(i) => handed_item(kind, *i),
@@ -176,8 +176,8 @@ fn handed_number(kind: &Option<Kind>, number: &Numbered) -> Arg
     }
 }
 
-pub(crate) fn handed(kind: &Option<Kind>, number: &Option<Numbered>) -> Arg
-    ensures { result ≡ handed kind.now number.now }
+pub(crate) fn handed(kind: Option<&Kind>, number: &Option<Numbered>) -> Arg
+    ensures { result ≡ handed (option_copied kind.entry) number.now }
 {
     match number {
         None => no_argument(),
@@ -187,8 +187,8 @@ pub(crate) fn handed(kind: &Option<Kind>, number: &Option<Numbered>) -> Arg
 
 // ---- where a word is
 
-pub(crate) fn named_spot(kind: &Option<Kind>, item: u32) -> Spot
-    ensures { result ≡ named_spot kind.now item }
+pub(crate) fn named_spot(kind: Option<&Kind>, item: u32) -> Spot
+    ensures { result ≡ named_spot (option_copied kind.entry) item }
 {
     match kind {
         Some(Kind::Location(_)) => Spot::Through(item),
@@ -241,8 +241,8 @@ fn element_field(element: &RawElem) -> Option<Field>
     }
 }
 
-pub(crate) fn field_of(kind: &Option<Kind>) -> Option<Field>
-    ensures { result ≡ field_of kind.now }
+pub(crate) fn field_of(kind: Option<&Kind>) -> Option<Field>
+    ensures { result ≡ field_of (option_copied kind.entry) }
 {
     match kind {
         Some(Kind::Element(_, element)) => element_field(element),
@@ -250,8 +250,8 @@ pub(crate) fn field_of(kind: &Option<Kind>) -> Option<Field>
     }
 }
 
-fn element_spot(table: &Option<Kind>, item: u32, place: u16, e: Expr) -> Spot
-    ensures { result ≡ element_spot table.now item place e }
+fn element_spot(table: Option<&Kind>, item: u32, place: u16, e: Expr) -> Spot
+    ensures { result ≡ element_spot (option_copied table.entry) item place e }
 {
     match table {
         Some(Kind::Table(size)) => {
@@ -295,12 +295,12 @@ fn double_spot(
 }
 
 pub(crate) fn twice_indexed_spot(
-    kind: &Option<Kind>,
+    kind: Option<&Kind>,
     item: u32,
     e: Boxed<Expr>,
     other: Boxed<Expr>,
 ) -> Spot
-    ensures { result ≡ twice_indexed_spot kind.now item e other }
+    ensures { result ≡ twice_indexed_spot (option_copied kind.entry) item e other }
 {
     match kind {
         Some(Kind::Array(_, bounds)) => {
@@ -310,12 +310,12 @@ pub(crate) fn twice_indexed_spot(
     }
 }
 
-fn kind_here(named: &Named, token: u32) -> Option<Kind>
-    ensures { result ≡ kind_here named.now token }
+fn kind_here<'a>(named: &'a Named, token: u32) -> Option<&'a Kind>
+    ensures { option_copied result ≡ kind_here named.now token }
 {
     match named.declarations.find(token) {
         None => None,
-        Some(declaration) => Some(declaration.kind),
+        Some(declaration) => Some(&declaration.kind),
     }
 }
 
@@ -330,17 +330,17 @@ fn element_of(
 {
     let kind = kind_here(named, table.at.token);
     let item = item_here(numbers, table.at.token);
-    element_spot(&kind, item, element_word(element), e)
+    element_spot(kind, item, element_word(element), e)
 }
 
 pub(crate) fn indexed_spot(
     named: &Named,
     numbers: &Table<Numbered>,
-    kind: &Option<Kind>,
+    kind: Option<&Kind>,
     item: u32,
     e: Expr,
 ) -> Spot
-    ensures { result ≡ indexed_spot named.now numbers.now kind.now item e }
+    ensures { result ≡ indexed_spot named.now numbers.now (option_copied kind.entry) item e }
 {
     match kind {
         Some(Kind::Array(_, bounds)) => Spot::One(

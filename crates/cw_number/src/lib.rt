@@ -5,5 +5,5 @@ pub mod listed;
 pub mod numbered;
 pub mod numbers;
 
-pub use cw_items::text::text_things;
+pub use cw_items::text::StoredText;
 pub use cw_items::thing::{Base, Owner, Sort, Thing};

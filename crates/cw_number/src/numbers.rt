@@ -8,7 +8,7 @@ ghost use Rattle.cw_number.specs.Numbers.{counted_after, declared_rows, none_cou
 use crate::listed::{Listing, listed_of};
 use crate::numbered::Numbered;
 use cw_facts::fact::{Declaration, Kind};
-use cw_items::text::text_things;
+use cw_items::text::StoredText;
 use cw_items::thing::Thing;
 use cw_scope::resolve::Named;
 use cw_table::table::{Row, Table};
@@ -181,11 +181,10 @@ fn with_declared(
     Ok(all)
 }
 
-fn stored(alloc: Global, named: &Named) -> Result<Table<Numbered>, NoMemory>
-    ensures { IfOk result (λ t. t ≡ item_rows 0 (text_things named.now named.now.raw.now)) }
+fn stored(alloc: Global, text: &StoredText) -> Result<Table<Numbered>, NoMemory>
+    ensures { IfOk result (λ t. t ≡ item_rows 0 (text_things text.now text.now.raw.now)) }
 {
-    let things = text_things(alloc, named, named.raw)?;
-    with_items(things.as_slice(), Table::new(alloc))
+    with_items(text.things(), Table::new(alloc))
 }
 
 fn with_shared(
@@ -206,11 +205,24 @@ fn begin_of(raw: &Raw) -> u32
     raw.block.at.token
 }
 
-/// What the unit of a text has for each of its declarations, strings and FORs, found by tokens.
-pub fn numbers_of(alloc: Global, named: &Named) -> Result<Table<Numbered>, NoMemory>
-    ensures { IfOk result (λ t. t ≡ numbers_of named.now) }
+// The numbers behind those of what is stored.
+fn with_names(
+    alloc: Global,
+    named: &Named,
+    before: Table<Numbered>,
+) -> Result<Table<Numbered>, NoMemory>
+    ensures { IfOk result (λ t. t
+        ≡ before ++ (listed_rows 0 (listed_of named.now.raw.now)
+        ++ declared_rows (begin_of named.now.raw.now) none_counted named.now.declarations)) }
 {
-    let items = stored(alloc, named)?;
-    let shared = with_shared(alloc, named.raw, items)?;
+    let shared = with_shared(alloc, named.raw, before)?;
     with_declared(begin_of(named.raw), named.declarations.rows(), shared)
+}
+
+/// What the unit of a text has for each of its declarations, strings and FORs, found by tokens.
+pub fn numbers_of(alloc: Global, text: &StoredText) -> Result<Table<Numbered>, NoMemory>
+    ensures { IfOk result (λ t. t ≡ numbers_of text.now) }
+{
+    let items = stored(alloc, text)?;
+    with_names(alloc, text.named(), items)
 }

@@ -94,7 +94,7 @@ fn bracket_in_prim(prim: &RawPrim) -> Option<&RawExpr>
     ensures { option_copied result ≡ bracket_prim prim.now }
 {
     if prim.bits.as_slice().is_empty() {
-        bracket_in_primary(prim.primary.get())
+        bracket_in_primary(&prim.primary)
     } else {
         None
     }
@@ -193,7 +193,7 @@ fn out_of_prim(prim: RawPrim) -> Option<RawExpr>
 {
     let RawPrim { bits, primary } = prim;
     if bits.as_slice().is_empty() {
-        out_of_primary(primary.into_inner())
+        out_of_primary(primary)
     } else {
         None
     }
@@ -233,9 +233,7 @@ fn out_of_term(term: RawTerm) -> Option<RawExpr>
 pub fn start<T: Drop, U>(alloc: Global, first: T) -> Result<(List<T>, List<U>), NoMemory>
     ensures { IfOk result (λ x. x ≡ (first ∷ [], [])) }
 {
-    let mut operands = List::new(alloc);
-    operands.push(first)?;
-    Ok((operands, List::new(alloc)))
+    Ok((List::first(alloc, first)?, List::new(alloc)))
 }
 
 fn holds_mask(prim: &RawPrim) -> bool
@@ -268,9 +266,7 @@ pub fn mask_start(alloc: Global, prim: RawPrim) -> Result<(List<RawPrim>, List<P
             None => Err(NoMemory),
         };
     }
-    let mut operands = List::new(alloc);
-    operands.push(prim)?;
-    Ok((operands, List::new(alloc)))
+    Ok((List::first(alloc, prim)?, List::new(alloc)))
 }
 
 fn holds_union(mask: &RawMask) -> bool
@@ -306,9 +302,7 @@ pub fn union_start(
             None => Err(NoMemory),
         };
     }
-    let mut operands = List::new(alloc);
-    operands.push(mask)?;
-    Ok((operands, List::new(alloc)))
+    Ok((List::first(alloc, mask)?, List::new(alloc)))
 }
 
 fn holds_differ(union: &RawUnion) -> bool
@@ -344,9 +338,7 @@ pub fn differ_start(
             None => Err(NoMemory),
         };
     }
-    let mut operands = List::new(alloc);
-    operands.push(union)?;
-    Ok((operands, List::new(alloc)))
+    Ok((List::first(alloc, union)?, List::new(alloc)))
 }
 
 fn holds_term(differ: &RawDiffer) -> bool
@@ -382,9 +374,7 @@ pub fn term_start(
             None => Err(NoMemory),
         };
     }
-    let mut operands = List::new(alloc);
-    operands.push(differ)?;
-    Ok((operands, List::new(alloc)))
+    Ok((List::first(alloc, differ)?, List::new(alloc)))
 }
 
 fn holds_sum(term: &RawTerm) -> bool
@@ -422,9 +412,7 @@ pub fn sum_start(
             None => Err(NoMemory),
         };
     }
-    let mut operands = List::new(alloc);
-    operands.push(term)?;
-    Ok((sign, (operands, List::new(alloc))))
+    Ok((sign, (List::first(alloc, term)?, List::new(alloc))))
 }
 
 fn bracket_in_sum(sum: &RawSum) -> Option<&RawExpr>
@@ -478,7 +466,7 @@ fn joined(bits: List<RawBits>, more: &List<RawBits>) -> Result<List<RawBits>, No
 }
 
 /// The primary behind its BITS.
-pub fn prim_of(alloc: Global, bits: List<RawBits>, primary: RawPrimary) -> Result<RawPrim, NoMemory>
+pub fn prim_of(bits: List<RawBits>, primary: RawPrimary) -> Result<RawPrim, NoMemory>
     ensures { IfOk result (λ x. x ≡ prim_of bits primary) }
 {
     if holds_prim(&primary) {
@@ -494,6 +482,5 @@ pub fn prim_of(alloc: Global, bits: List<RawBits>, primary: RawPrimary) -> Resul
             None => Err(NoMemory),
         };
     }
-    let primary = Boxed::new(alloc, primary)?;
     Ok(RawPrim { bits, primary })
 }

@@ -389,7 +389,8 @@ action-fits p g acts order.WriteByte all =
     on_top-fits (λ x v. Changed (record v { output = v.output ++ byte_of x ∷ [] })) (λ x fx v fv. record { operands = fv.operands; memory = fv.memory; input = fv.input })
 action-fits p g acts (order.IndexLess lower line) all = index-fits (λ i. i -ℤ lower)
 action-fits p g acts (order.Element lower span line) all = from_base-fits p.limits.area (λ base. Indexed base lower)
-action-fits p g acts (order.ElementOfTwo lower second width span line) all = from_base-fits p.limits.area (λ base. Indexed2 base lower second width)
+action-fits p g acts (order.ElementOfTwo lower second width line) all = from_base-fits p.limits.area (λ base. Indexed2 base lower second width)
+action-fits p g acts (order.ElementInside lower second width span) all = from_base-fits p.limits.area (λ base. Indexed2 base lower second width)
 action-fits p g acts (order.Entry width word span line) all = from_base-fits p.limits.area (λ base. Scaled base width word)
 action-fits p g acts (order.InArea line) all = on_top-fits (address_of p.limits.area) (λ z fz. address-fits p.limits.area z fz)
 action-fits p g acts (order.InBounds lower upper line) all =

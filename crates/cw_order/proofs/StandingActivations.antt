@@ -401,7 +401,8 @@ module _ (p : OrderProgram) where
           top-stands P plain (λ x v. Changed (record v { output = v.output ++ byte_of x ∷ [] })) (λ x v fv. fv)
       action-stands (order.IndexLess lower line) = index-stands P plain (λ i. i -ℤ lower)
       action-stands (order.Element lower span line) = base-stands P plain p.limits.area (λ base. Indexed base lower)
-      action-stands (order.ElementOfTwo lower second width span line) = base-stands P plain p.limits.area (λ base. Indexed2 base lower second width)
+      action-stands (order.ElementOfTwo lower second width line) = base-stands P plain p.limits.area (λ base. Indexed2 base lower second width)
+      action-stands (order.ElementInside lower second width span) = base-stands P plain p.limits.area (λ base. Indexed2 base lower second width)
       action-stands (order.Entry width word span line) = base-stands P plain p.limits.area (λ base. Scaled base width word)
       action-stands (order.InArea line) = top-stands P plain (address_of p.limits.area) (λ z. address-stands P plain p.limits.area z)
       action-stands (order.InBounds lower upper line) =

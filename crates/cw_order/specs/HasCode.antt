@@ -35,7 +35,8 @@ HasCode (order.StorePart t b) = (1 ≤ t) × (t + b ≤ 16)
 -- a row or an entry has at most all words of the data area
 HasCode (order.IndexLess lower line) = FitsWord lower
 HasCode (order.Element lower span line) = FitsWord lower
-HasCode (order.ElementOfTwo lower second width span line) = FitsWord lower × FitsWord second × (width ≤ 32768)
+HasCode (order.ElementOfTwo lower second width line) = FitsWord lower × FitsWord second × (width ≤ 32768)
+HasCode (order.ElementInside lower second width span) = FitsWord lower × FitsWord second × (width ≤ 32768)
 HasCode (order.Entry width word span line) = (width ≤ 32768) × (word < 32768)
 HasCode (order.InArea line) = Unit {0}
 HasCode (order.InBounds lower upper line) = FitsWord lower × FitsWord upper

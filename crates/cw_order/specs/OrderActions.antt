@@ -81,7 +81,8 @@ module _ (p : OrderProgram) where
   -- addresses
   action_of g acts (order.IndexLess lower line) = Alter line (index (λ i. i -ℤ lower))
   action_of g acts (order.Element lower span line) = Alter line (from_base p.limits.area (λ base. Indexed base lower))
-  action_of g acts (order.ElementOfTwo lower second width span line) = Alter line (from_base p.limits.area (λ base. Indexed2 base lower second width))
+  action_of g acts (order.ElementOfTwo lower second width line) = Alter line (from_base p.limits.area (λ base. Indexed2 base lower second width))
+  action_of g acts (order.ElementInside lower second width span) = AlterWithin (from_base p.limits.area (λ base. Indexed2 base lower second width))
   action_of g acts (order.Entry width word span line) = Alter line (from_base p.limits.area (λ base. Scaled base width word))
   action_of g acts (order.InArea line) = Perform line (Form Taken)
   action_of g acts (order.InBounds lower upper line) = Perform line (InBounds lower upper)

@@ -43,7 +43,9 @@ weight_of order.WriteByte = 2
 weight_of (order.IndexLess lower line) = 18
 -- up to three tests, five and four
 weight_of (order.Element lower span line) = 26
-weight_of (order.ElementOfTwo lower second width span line) = 40
+weight_of (order.ElementOfTwo lower second width line) = 40
+-- the same without tests, or two comparisons before it
+weight_of (order.ElementInside lower second width span) = 24
 weight_of (order.Entry width word span line) = 32
 weight_of (order.InArea line) = 18
 -- two comparisons; or one, behind that of another index

@@ -7,7 +7,7 @@ use Rattle.cw_order.specs.OrderActions.{home_word}
 
 abbrev pub span_of : Order → ℕ
 span_of (order.Element lower span line) = span
-span_of (order.ElementOfTwo lower second width span line) = span
+span_of (order.ElementInside lower second width span) = span
 span_of (order.Entry width word span line) = span
 span_of _ = 0
 

@@ -114,8 +114,15 @@ pub enum Order {
         lower: i16,
         second: i16,
         width: u16,
-        span: u16,
         line: u16,
+    },
+    /// The same where every number on the way fits and the element is in the data area, as it is where both indexes have been compared
+    /// with their bounds: it never stops. `span` is as in `Element`.
+    ElementInside {
+        lower: i16,
+        second: i16,
+        width: u16,
+        span: u16,
     },
     /// Takes the address of the first word of a table, then the number of an entry below it, and puts the address of that
     /// word of the entry; entries have `width` words. It stops with Address where the number times that, or this with the

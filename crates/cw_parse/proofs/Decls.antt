@@ -10,7 +10,7 @@ use Rattle.cw_tree.specs.declared.statement.RawDecl.TheVariants as decl_tree
 use Rattle.cw_grammar.specs.Tokens.{Item}
 use Rattle.cw_grammar.specs.declared.stop.Stop.{Stop}
 use Rattle.cw_grammar.specs.declared.stop.Stop.TheVariants as stops
-use Rattle.cw_grammar.specs.Grammar.{Sort, a_from, an_option, a_type, a_data, a_decl, Value, Grammar, ◌·◌, ◌∣◌, ◌⇒◌, starts, first, null}
+use Rattle.cw_grammar.specs.Grammar.{Sort, a_from, an_option, a_type, a_data, a_decl, Value, Grammar, ◌·◌, ◌∣◌, ◌⇒◌, starts, first}
 use Rattle.cw_grammar.specs.Rules.{number_type, int, sint, octal, symbol, ◌<*◌}
 use Rattle.cw_grammar.specs.Statements.{from, singles, arrays, decl, worded_decl, proc_behind, data_table, overlay, ptag}
 use Rattle.cw_grammar.specs.Reading.{Read, ◌>>=◌, Fails, Fault, syntax_at, deep_at, applied, read, reads, Gives}
@@ -73,11 +73,6 @@ pub decl_starts : (p : Bool) (ts : List Item) (b : Bool) → starts ts (first (d
 unfolding decl number_type worded_decl data_table overlay proc_behind ptag
 decl_starts true ts b e = e
 decl_starts false ts b e = e
-
-pub decl_takes : (p : Bool) → null (decl p <* symbol symbols.Semicolon) ≡ false
-unfolding decl number_type worded_decl data_table overlay proc_behind ptag
-decl_takes true = refl
-decl_takes false = refl
 
 type_any_fails : (s : Stop) (n : ℕ) (ts : List Item) → Fails s (reads 0 number_type ts) → Fails s (reads n number_type ts)
 unfolding number_type int sint octal

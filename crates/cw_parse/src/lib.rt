@@ -2,6 +2,7 @@
 #![tactic(auto)]
 
 pub mod parsing;
+mod simple;
 mod statement;
 
 pub use cw_grammar::fault::ParseFault;

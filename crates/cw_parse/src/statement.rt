@@ -1,5 +1,5 @@
 //! Statements, blocks and procedures from left to right.
-ghost use Rattle.std.specs.Prelude.{◌≡◌, ℕ, [], ◌∷◌, false};
+ghost use Rattle.std.specs.Prelude.{◌≡◌, false};
 ghost use Rattle.cw_grammar.specs.Tokens.{behind};
 ghost use Rattle.cw_grammar.specs.Grammar.{starts, first, many, a_pair, a_list, an_option, a_from, a_name, a_type, a_stmt, a_form, a_simple, a_felem, a_decl};
 ghost use Rattle.cw_grammar.specs.Grammar.{a_param, a_cond, a_ref, if_rest, else_rest, for_rest, block_rest, proc_body, labelled, labelled_simple, again};
@@ -8,23 +8,24 @@ ghost use Rattle.cw_grammar.specs.Statements.{semicolons, listed, in_round, para
 ghost use Rattle.cw_grammar.specs.Reading.{Gives, read, inside, applied};
 ghost use Rattle.cw_grammar.specs.Labels.{unlabelled, unlabelled_simple};
 ghost use Rattle.cw_lex.specs.declared.token.Symbol.TheVariants.{Semicolon};
-ghost use Rattle.cw_parse_simple.specs.Alternatives.{block, if_form, for_form, second_stmt};
+ghost use Rattle.cw_parse.specs.Alternatives.{block, if_form, for_form, second_stmt};
 
+use crate::simple::{
+    for_form, if_form, proc_decl, read_address_assigned, read_answered, read_bits_assigned,
+    read_felems, read_goto, read_labels, read_simple_behind,
+};
 use cw_grammar::reading::{read_name, read_type};
 use cw_grammar::stop::Stop;
 use cw_grammar::token::{deep, next_is, position, take_kind};
 use cw_lex::{Symbol, Token, TokenKind, Word};
-use cw_parse_data::data::{is_type, read_arrays, read_singles};
 use cw_parse_expr::reading::{read_condition, read_reference};
+use cw_parse_items::data::{is_type, read_arrays, read_singles};
 use cw_parse_items::decls::{
     is_local_decl, is_outer_decl, is_worded_decl, read_local_decl, read_worded_decl,
 };
 use cw_parse_items::params::read_param_list;
 use cw_parse_items::specifications::read_ptag;
-use cw_parse_simple::simple::{
-    for_form, if_form, proc_decl, read_address_assigned, read_answered, read_bits_assigned,
-    read_felems, read_goto, read_labels, read_simple_behind,
-};
+use cw_series::lists::{read_ended, read_list};
 use cw_tree::expression::{RawCond, RawRef};
 use cw_tree::leaf::{RawName, RawType};
 use cw_tree::statement::{RawBlock, RawDecl, RawFelem, RawForm, RawParam, RawSimple, RawStmt};
@@ -391,15 +392,14 @@ fn read_decls(
 ) -> Result<(List<RawDecl>, usize), Stop>
     ensures { Gives (λ x. (x.0, behind tokens.now x.1)) result (read levels (a_list a_decl) (many (decl in_proc <* symbol Semicolon)) (behind tokens.now at)) }
 {
-    let mut found = List::new(alloc);
-    let mut next = at;
-    while is_decl(tokens, in_proc, next) {
-        let (item, after) = read_decl(alloc, levels, in_proc, tokens, next)?;
-        let (_, after) = take_kind(tokens, after, TokenKind::Symbol(Symbol::Semicolon))?;
-        found.push(item)?;
-        next = after;
-    }
-    Ok((found, next))
+    let begins = move |at: usize| -> bool
+        ensures { result ≡ starts (behind tokens.entry.now at) (first (decl in_proc)) }
+    { is_decl(tokens, in_proc, at) };
+    let item = move |at: usize| -> Result<(RawDecl, usize), Stop>
+        ensures { Gives (λ x. (x.0, behind tokens.entry.now x.1)) result (read levels a_decl (decl in_proc) (behind tokens.entry.now at)) }
+    { read_decl(alloc, levels, in_proc, tokens, at) };
+    let semicolon = TokenKind::Symbol(Symbol::Semicolon);
+    read_ended(alloc, tokens, at, semicolon, begins, item)
 }
 
 #[tactic(auto, using(cw_grammar::proofs::Levels::inside_opened, cw_grammar::proofs::Levels::inside_full), unfolding(cw_grammar::specs::Table::rule))]
@@ -437,15 +437,14 @@ fn read_stmts(
 ) -> Result<(List<RawStmt>, usize), Stop>
     ensures { Gives (λ x. (x.0, behind tokens.now x.1)) result (read levels (a_list a_stmt) (semicolons (again (labelled in_proc))) (behind tokens.now at)) }
 {
-    let (first, at) = read_stmt(alloc, levels, in_proc, tokens, at)?;
-    let mut found = List::new(alloc);
-    found.push(first)?;
-    let mut next = at;
-    while next_is(tokens, next, TokenKind::Symbol(Symbol::Semicolon)) {
-        let (_, after) = take_kind(tokens, next, TokenKind::Symbol(Symbol::Semicolon))?;
-        let (item, after) = read_stmt(alloc, levels, in_proc, tokens, after)?;
-        found.push(item)?;
-        next = after;
-    }
-    Ok((found, next))
+    let item = move |at: usize| -> Result<(RawStmt, usize), Stop>
+        ensures { Gives (λ x. (x.0, behind tokens.entry.now x.1)) result (read levels a_stmt (again (labelled in_proc)) (behind tokens.entry.now at)) }
+    { read_stmt(alloc, levels, in_proc, tokens, at) };
+    read_list(
+        alloc,
+        tokens,
+        at,
+        TokenKind::Symbol(Symbol::Semicolon),
+        item,
+    )
 }

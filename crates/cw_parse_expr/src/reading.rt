@@ -1,5 +1,4 @@
 //! Expressions, conditions and references from left to right.
-ghost use Rattle.std.specs.Prelude.{◌≡◌, ℕ, [], ◌∷◌, IfOk};
 ghost use Rattle.cw_grammar.specs.Tokens.{behind};
 ghost use Rattle.cw_grammar.specs.Grammar.{a_pair, a_list, an_option, an_expr, a_cond, a_cand, a_cmp, a_sum, a_term, a_differ, a_union, a_mask};
 ghost use Rattle.cw_grammar.specs.Grammar.{a_prim, a_primary, a_ref, bracketed, subscript, indexed, called, located, conditional};
@@ -9,7 +8,8 @@ ghost use Rattle.cw_grammar.specs.Reading.{Gives, read, inside};
 ghost use Rattle.cw_lex.specs.declared.token.Symbol.TheVariants.{Comma};
 ghost use Rattle.cw_operand.specs.Operands.{location, forced, in_brackets, addressed};
 
-use cw_grammar::reading::{is_sign, read_name, read_optional_sign, read_sign, read_type};
+use crate::chains::{FactorSign, Sign, read_chain};
+use cw_grammar::reading::{read_name, read_optional_sign, read_type};
 use cw_grammar::stop::Stop;
 use cw_grammar::token::{deep, next_is, position, take_kind};
 use cw_lex::{Symbol, Token, TokenKind, Word};
@@ -17,9 +17,10 @@ use cw_operand::brackets::{
     differ_start, expr_of, mask_start, prim_of, start, sum_start, term_start, union_start,
 };
 use cw_operand::operands::{
-    choice, indexed_name, is_constant, is_enclosed, is_factor_sign, is_worded, read_all_bits,
-    read_comparator, read_constant, read_factor_sign, read_operator,
+    choice, indexed_name, is_constant, is_enclosed, is_worded, read_all_bits, read_comparator,
+    read_constant,
 };
+use cw_series::lists::{read_before, read_list};
 use cw_tree::expression::{
     RawCand, RawCmp, RawCond, RawDiffer, RawExpr, RawMask, RawPrim, RawPrimary, RawRef, RawSum,
     RawTerm, RawUnion,
@@ -40,9 +41,8 @@ fn read_bracketed(
     if levels == 0 {
         return Err(deep(tokens, at));
     }
-    let (inner, at) = read_expr(alloc, levels - 1, tokens, at)?;
-    let (_, at) = take_kind(tokens, at, TokenKind::Symbol(Symbol::Close))?;
-    Ok((inner, at))
+    let inner = read_expr(alloc, levels - 1, tokens, at)?;
+    read_before(tokens, inner, TokenKind::Symbol(Symbol::Close))
 }
 
 #[tactic(auto, using(cw_grammar::proofs::Levels::inside_opened, cw_grammar::proofs::Levels::inside_full), unfolding(cw_grammar::specs::Table::rule))]
@@ -58,9 +58,8 @@ pub fn read_subscript(
     if levels == 0 {
         return Err(deep(tokens, at));
     }
-    let (inner, at) = read_expr(alloc, levels - 1, tokens, at)?;
-    let (_, at) = take_kind(tokens, at, TokenKind::Symbol(Symbol::CloseSquare))?;
-    Ok((inner, at))
+    let inner = read_expr(alloc, levels - 1, tokens, at)?;
+    read_before(tokens, inner, TokenKind::Symbol(Symbol::CloseSquare))
 }
 
 #[cycle(reader)]
@@ -108,17 +107,10 @@ fn read_arguments(
 ) -> Result<(List<RawExpr>, usize), Stop>
     ensures { Gives (λ x. (x.0, behind tokens.now x.1)) result (read levels (a_list an_expr) (commas expr) (behind tokens.now at)) }
 {
-    let (first, at) = read_expr(alloc, levels, tokens, at)?;
-    let mut found = List::new(alloc);
-    found.push(first)?;
-    let mut next = at;
-    while next_is(tokens, next, TokenKind::Symbol(Symbol::Comma)) {
-        let (_, after) = take_kind(tokens, next, TokenKind::Symbol(Symbol::Comma))?;
-        let (item, after) = read_expr(alloc, levels, tokens, after)?;
-        found.push(item)?;
-        next = after;
-    }
-    Ok((found, next))
+    let item = move |at: usize| -> Result<(RawExpr, usize), Stop>
+        ensures { Gives (λ x. (x.0, behind tokens.entry.now x.1)) result (read levels an_expr expr (behind tokens.entry.now at)) }
+    { read_expr(alloc, levels, tokens, at) };
+    read_list(alloc, tokens, at, TokenKind::Symbol(Symbol::Comma), item)
 }
 
 #[tactic(auto, using(cw_grammar::proofs::Levels::inside_opened, cw_grammar::proofs::Levels::inside_full), unfolding(cw_grammar::specs::Table::rule))]
@@ -134,9 +126,8 @@ pub fn read_called(
     if levels == 0 {
         return Err(deep(tokens, at));
     }
-    let (arguments, at) = read_arguments(alloc, levels - 1, tokens, at)?;
-    let (_, at) = take_kind(tokens, at, TokenKind::Symbol(Symbol::Close))?;
-    Ok((arguments, at))
+    let inner = read_arguments(alloc, levels - 1, tokens, at)?;
+    read_before(tokens, inner, TokenKind::Symbol(Symbol::Close))
 }
 
 #[tactic(auto, using(cw_grammar::proofs::Levels::inside_opened, cw_grammar::proofs::Levels::inside_full), unfolding(cw_grammar::specs::Table::rule))]
@@ -152,9 +143,8 @@ fn read_located(
     if levels == 0 {
         return Err(deep(tokens, at));
     }
-    let (reference, at) = read_reference(alloc, levels - 1, tokens, at)?;
-    let (_, at) = take_kind(tokens, at, TokenKind::Symbol(Symbol::Close))?;
-    Ok((reference, at))
+    let inner = read_reference(alloc, levels - 1, tokens, at)?;
+    read_before(tokens, inner, TokenKind::Symbol(Symbol::Close))
 }
 
 #[cycle(reader)]
@@ -293,7 +283,7 @@ fn read_addressed(
     let (bracket, at) = take_kind(tokens, at, TokenKind::Symbol(Symbol::OpenSquare))?;
     let (inner, at) = read_subscript(alloc, levels, tokens, at)?;
     let reference = RawRef::Bare(position(bracket), Boxed::new(alloc, inner)?);
-    Ok((RawPrimary::Ref(Boxed::new(alloc, reference)?), at))
+    Ok((RawPrimary::Ref(reference), at))
 }
 
 #[tactic(auto, unfolding(cw_grammar::specs::Rules::enclosed))]
@@ -327,14 +317,14 @@ fn read_named(
         let (_, at) = take_kind(tokens, at, TokenKind::Symbol(Symbol::OpenSquare))?;
         let (index, at) = read_indexed(alloc, levels, tokens, at)?;
         let reference = indexed_name(alloc, name, index)?;
-        return Ok((RawPrimary::Ref(Boxed::new(alloc, reference)?), at));
+        return Ok((RawPrimary::Ref(reference), at));
     }
     if next_is(tokens, at, TokenKind::Symbol(Symbol::Open)) {
         let (_, at) = take_kind(tokens, at, TokenKind::Symbol(Symbol::Open))?;
         let (arguments, at) = read_called(alloc, levels, tokens, at)?;
         return Ok((RawPrimary::Call(name, arguments), at));
     }
-    Ok((RawPrimary::Ref(Boxed::new(alloc, RawRef::Name(name))?), at))
+    Ok((RawPrimary::Ref(RawRef::Name(name)), at))
 }
 
 #[tactic(auto, unfolding(cw_grammar::specs::Rules::primary))]
@@ -371,7 +361,7 @@ fn read_prim(
 {
     let (bits, at) = read_all_bits(alloc, levels, tokens, at)?;
     let (primary, at) = read_primary(alloc, levels, tokens, at)?;
-    Ok((prim_of(alloc, bits, primary)?, at))
+    Ok((prim_of(bits, primary)?, at))
 }
 
 #[tactic(auto, unfolding(cw_grammar::specs::Rules::mask))]
@@ -385,22 +375,17 @@ fn read_mask(
     ensures { Gives (λ x. (x.0, behind tokens.now x.1)) result (read levels a_mask mask (behind tokens.now at)) }
 {
     let (first, at) = read_prim(alloc, levels, tokens, at)?;
-    let (mut operands, mut operators) = mask_start(alloc, first)?;
-    let mut next = at;
-    while next_is(tokens, next, TokenKind::Word(Word::Mask)) {
-        let (operator, after) = read_operator(tokens, next, Word::Mask)?;
-        let (operand, after) = read_prim(alloc, levels, tokens, after)?;
-        operands.push(operand)?;
-        operators.push(operator)?;
-        next = after;
-    }
-    Ok((
-        RawMask {
-            operands,
-            operators,
-        },
-        next,
-    ))
+    let start = mask_start(alloc, first)?;
+    let operand = move |at: usize| -> Result<(RawPrim, usize), Stop>
+        ensures { Gives (λ x. (x.0, behind tokens.entry.now x.1)) result (read levels a_prim prim (behind tokens.entry.now at)) }
+    { read_prim(alloc, levels, tokens, at) };
+    let (chain, at) = read_chain(tokens, at, Word::Mask, start, operand)?;
+    let (operands, operators) = chain;
+    let mask = RawMask {
+        operands,
+        operators,
+    };
+    Ok((mask, at))
 }
 
 #[tactic(auto, unfolding(cw_grammar::specs::Rules::union))]
@@ -414,22 +399,17 @@ fn read_union(
     ensures { Gives (λ x. (x.0, behind tokens.now x.1)) result (read levels a_union union (behind tokens.now at)) }
 {
     let (first, at) = read_mask(alloc, levels, tokens, at)?;
-    let (mut operands, mut operators) = union_start(alloc, first)?;
-    let mut next = at;
-    while next_is(tokens, next, TokenKind::Word(Word::Union)) {
-        let (operator, after) = read_operator(tokens, next, Word::Union)?;
-        let (operand, after) = read_mask(alloc, levels, tokens, after)?;
-        operands.push(operand)?;
-        operators.push(operator)?;
-        next = after;
-    }
-    Ok((
-        RawUnion {
-            operands,
-            operators,
-        },
-        next,
-    ))
+    let start = union_start(alloc, first)?;
+    let operand = move |at: usize| -> Result<(RawMask, usize), Stop>
+        ensures { Gives (λ x. (x.0, behind tokens.entry.now x.1)) result (read levels a_mask mask (behind tokens.entry.now at)) }
+    { read_mask(alloc, levels, tokens, at) };
+    let (chain, at) = read_chain(tokens, at, Word::Union, start, operand)?;
+    let (operands, operators) = chain;
+    let union = RawUnion {
+        operands,
+        operators,
+    };
+    Ok((union, at))
 }
 
 #[tactic(auto, unfolding(cw_grammar::specs::Rules::differ))]
@@ -443,22 +423,17 @@ fn read_differ(
     ensures { Gives (λ x. (x.0, behind tokens.now x.1)) result (read levels a_differ differ (behind tokens.now at)) }
 {
     let (first, at) = read_union(alloc, levels, tokens, at)?;
-    let (mut operands, mut operators) = differ_start(alloc, first)?;
-    let mut next = at;
-    while next_is(tokens, next, TokenKind::Word(Word::Differ)) {
-        let (operator, after) = read_operator(tokens, next, Word::Differ)?;
-        let (operand, after) = read_union(alloc, levels, tokens, after)?;
-        operands.push(operand)?;
-        operators.push(operator)?;
-        next = after;
-    }
-    Ok((
-        RawDiffer {
-            operands,
-            operators,
-        },
-        next,
-    ))
+    let start = differ_start(alloc, first)?;
+    let operand = move |at: usize| -> Result<(RawUnion, usize), Stop>
+        ensures { Gives (λ x. (x.0, behind tokens.entry.now x.1)) result (read levels a_union union (behind tokens.entry.now at)) }
+    { read_union(alloc, levels, tokens, at) };
+    let (chain, at) = read_chain(tokens, at, Word::Differ, start, operand)?;
+    let (operands, operators) = chain;
+    let differ = RawDiffer {
+        operands,
+        operators,
+    };
+    Ok((differ, at))
 }
 
 #[tactic(auto, unfolding(cw_grammar::specs::Rules::term))]
@@ -472,22 +447,17 @@ fn read_term(
     ensures { Gives (λ x. (x.0, behind tokens.now x.1)) result (read levels a_term term (behind tokens.now at)) }
 {
     let (first, at) = read_differ(alloc, levels, tokens, at)?;
-    let (mut operands, mut operators) = term_start(alloc, first)?;
-    let mut next = at;
-    while is_factor_sign(tokens, next) {
-        let (operator, after) = read_factor_sign(tokens, next)?;
-        let (operand, after) = read_differ(alloc, levels, tokens, after)?;
-        operands.push(operand)?;
-        operators.push(operator)?;
-        next = after;
-    }
-    Ok((
-        RawTerm {
-            operands,
-            operators,
-        },
-        next,
-    ))
+    let start = term_start(alloc, first)?;
+    let operand = move |at: usize| -> Result<(RawDiffer, usize), Stop>
+        ensures { Gives (λ x. (x.0, behind tokens.entry.now x.1)) result (read levels a_differ differ (behind tokens.entry.now at)) }
+    { read_differ(alloc, levels, tokens, at) };
+    let (chain, at) = read_chain(tokens, at, FactorSign, start, operand)?;
+    let (operands, operators) = chain;
+    let term = RawTerm {
+        operands,
+        operators,
+    };
+    Ok((term, at))
 }
 
 #[tactic(auto, unfolding(cw_grammar::specs::Rules::sum))]
@@ -497,21 +467,18 @@ fn read_sum(alloc: Global, levels: u8, tokens: &[Token], at: usize) -> Result<(R
 {
     let (sign, at) = read_optional_sign(tokens, at)?;
     let (first, at) = read_term(alloc, levels, tokens, at)?;
-    let (front, (mut operands, mut operators)) = sum_start(alloc, sign, first)?;
-    let mut next = at;
-    while is_sign(tokens, next) {
-        let (operator, after) = read_sign(tokens, next)?;
-        let (operand, after) = read_term(alloc, levels, tokens, after)?;
-        operands.push(operand)?;
-        operators.push(operator)?;
-        next = after;
-    }
+    let (front, start) = sum_start(alloc, sign, first)?;
+    let operand = move |at: usize| -> Result<(RawTerm, usize), Stop>
+        ensures { Gives (λ x. (x.0, behind tokens.entry.now x.1)) result (read levels a_term term (behind tokens.entry.now at)) }
+    { read_term(alloc, levels, tokens, at) };
+    let (chain, at) = read_chain(tokens, at, Sign, start, operand)?;
+    let (operands, operators) = chain;
     let sum = RawSum {
         sign: front,
         operands,
         operators,
     };
-    Ok((sum, next))
+    Ok((sum, at))
 }
 
 #[tactic(auto, unfolding(cw_grammar::specs::Rules::cmp))]
@@ -520,18 +487,16 @@ fn read_cmp(alloc: Global, levels: u8, tokens: &[Token], at: usize) -> Result<(R
     ensures { Gives (λ x. (x.0, behind tokens.now x.1)) result (read levels a_cmp cmp (behind tokens.now at)) }
 {
     let (left, at) = read_sum(alloc, levels, tokens, at)?;
+    let left = Boxed::new(alloc, left)?;
     let (operator, at) = read_comparator(tokens, at)?;
     let (right, at) = read_sum(alloc, levels, tokens, at)?;
-    let left = Boxed::new(alloc, left)?;
     let right = Boxed::new(alloc, right)?;
-    Ok((
-        RawCmp {
-            left,
-            operator,
-            right,
-        },
-        at,
-    ))
+    let cmp = RawCmp {
+        left,
+        operator,
+        right,
+    };
+    Ok((cmp, at))
 }
 
 #[tactic(auto, unfolding(cw_grammar::specs::Rules::cand))]
@@ -545,22 +510,17 @@ fn read_cand(
     ensures { Gives (λ x. (x.0, behind tokens.now x.1)) result (read levels a_cand cand (behind tokens.now at)) }
 {
     let (first, at) = read_cmp(alloc, levels, tokens, at)?;
-    let (mut operands, mut operators) = start(alloc, first)?;
-    let mut next = at;
-    while next_is(tokens, next, TokenKind::Word(Word::And)) {
-        let (operator, after) = read_operator(tokens, next, Word::And)?;
-        let (operand, after) = read_cmp(alloc, levels, tokens, after)?;
-        operands.push(operand)?;
-        operators.push(operator)?;
-        next = after;
-    }
-    Ok((
-        RawCand {
-            operands,
-            operators,
-        },
-        next,
-    ))
+    let start = start(alloc, first)?;
+    let operand = move |at: usize| -> Result<(RawCmp, usize), Stop>
+        ensures { Gives (λ x. (x.0, behind tokens.entry.now x.1)) result (read levels a_cmp cmp (behind tokens.entry.now at)) }
+    { read_cmp(alloc, levels, tokens, at) };
+    let (chain, at) = read_chain(tokens, at, Word::And, start, operand)?;
+    let (operands, operators) = chain;
+    let cand = RawCand {
+        operands,
+        operators,
+    };
+    Ok((cand, at))
 }
 
 #[tactic(auto, unfolding(cw_grammar::specs::Rules::condition))]
@@ -574,22 +534,17 @@ pub fn read_condition(
     ensures { Gives (λ x. (x.0, behind tokens.now x.1)) result (read levels a_cond condition (behind tokens.now at)) }
 {
     let (first, at) = read_cand(alloc, levels, tokens, at)?;
-    let (mut operands, mut operators) = start(alloc, first)?;
-    let mut next = at;
-    while next_is(tokens, next, TokenKind::Word(Word::Or)) {
-        let (operator, after) = read_operator(tokens, next, Word::Or)?;
-        let (operand, after) = read_cand(alloc, levels, tokens, after)?;
-        operands.push(operand)?;
-        operators.push(operator)?;
-        next = after;
-    }
-    Ok((
-        RawCond {
-            operands,
-            operators,
-        },
-        next,
-    ))
+    let start = start(alloc, first)?;
+    let operand = move |at: usize| -> Result<(RawCand, usize), Stop>
+        ensures { Gives (λ x. (x.0, behind tokens.entry.now x.1)) result (read levels a_cand cand (behind tokens.entry.now at)) }
+    { read_cand(alloc, levels, tokens, at) };
+    let (chain, at) = read_chain(tokens, at, Word::Or, start, operand)?;
+    let (operands, operators) = chain;
+    let condition = RawCond {
+        operands,
+        operators,
+    };
+    Ok((condition, at))
 }
 
 #[tactic(auto, unfolding(cw_grammar::specs::Rules::expr))]

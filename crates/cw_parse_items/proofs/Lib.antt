@@ -1,2 +1,4 @@
 pub mod Typed
 pub mod Communicators
+pub mod Elems
+pub mod Places

@@ -30,6 +30,16 @@ some_mapped : {A B C : Type 0} (x : A) (f : B → C) (o : Read (Option A → B))
 some_mapped x f (Ok y) = refl
 some_mapped x f (Err k) = refl
 
+-- ---- data
+
+pub data_singles : (ts us : List Item) (x : RawType) → starts ts (first number_type) ≡ true → reads 0 number_type ts ≡ Ok (x, us) → starts us (kinds.Name ∷ []) ≡ true → applied x (reads 0 singles us) ≡ reads 0 item_data ts
+unfolding item_data singles number_type
+data_singles ts us x t e f = sym (rw t (from_first 0 a_type a_data number_type singles arrays x ts us e f))
+
+pub data_arrays : (ts us : List Item) (x : RawType) → starts ts (first number_type) ≡ true → reads 0 number_type ts ≡ Ok (x, us) → starts us (kinds.Name ∷ []) ≡ false → applied x (reads 0 arrays us) ≡ reads 0 item_data ts
+unfolding item_data singles number_type
+data_arrays ts us x t e f = sym (rw t (from_other 0 a_type a_data number_type singles arrays x ts us e f))
+
 -- ---- communicators' items
 
 abbrev citem_singles : Grammar (a_from a_type a_citem)

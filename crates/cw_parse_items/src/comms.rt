@@ -1,25 +1,26 @@
 //! Communicators from left to right.
-ghost use Rattle.std.specs.Prelude.{◌≡◌, ◌≤◌, ℕ, [], ◌∷◌, length};
+ghost use Rattle.std.specs.Prelude.{◌≡◌};
 ghost use Rattle.cw_grammar.specs.Tokens.{behind};
-ghost use Rattle.cw_grammar.specs.Grammar.{starts, first, many, a_pair, a_list, a_name, a_bounds, an_int, a_citem, a_spec, an_aitem, a_comm};
+ghost use Rattle.cw_grammar.specs.Grammar.{starts, first, many, a_pair, a_list, a_name, a_bounds, an_int, a_citem, an_aitem, a_comm};
 ghost use Rattle.cw_grammar.specs.Rules.{symbol, ◌<*◌};
-ghost use Rattle.cw_grammar.specs.Statements.{in_round, semicolons, citem, spec, aitem, comm};
+ghost use Rattle.cw_grammar.specs.Statements.{citem, spec, aitem, comm};
 ghost use Rattle.cw_grammar.specs.Reading.{Gives, read};
 ghost use Rattle.cw_parse_items.specs.Alternatives.{overlay_citem, label_citem, switch_citem, absolute_address, bounded, common, library, absolute};
 ghost use Rattle.cw_lex.specs.declared.token.Symbol.TheVariants.{Semicolon};
 
+use crate::data::{
+    is_type, read_arrays, read_data_table, read_names, read_overlay, read_singles,
+    read_square_bounds, read_table,
+};
 use crate::specifications::{read_spec, read_spec_behind};
 use cw_grammar::reading::{read_int, read_name, read_type};
 use cw_grammar::stop::Stop;
 use cw_grammar::token::{next_is, position, take_kind};
 use cw_lex::{Symbol, Token, TokenKind, Word};
-use cw_parse_data::data::{
-    is_type, read_arrays, read_data_table, read_names, read_overlay, read_singles,
-    read_square_bounds, read_table,
-};
+use cw_series::lists::{read_bracketed, read_ended};
 use cw_tree::items::RawBounds;
 use cw_tree::leaf::{RawInt, RawName};
-use cw_tree::segment::{RawAitem, RawCitem, RawComm, RawSpec};
+use cw_tree::segment::{RawAitem, RawCitem, RawComm};
 use cw_word::List;
 use std::alloc::Global;
 
@@ -119,61 +120,13 @@ fn read_aitem(alloc: Global, tokens: &[Token], at: usize) -> Result<(RawAitem, u
     Ok((RawAitem::Table(table, address), at))
 }
 
-fn read_citems(alloc: Global, tokens: &[Token], at: usize) -> Result<(List<RawCitem>, usize), Stop>
-    ensures { Gives (λ x. (x.0, behind tokens.now x.1)) result (read 0 (a_list a_citem) (semicolons citem) (behind tokens.now at)) }
-{
-    let (first, at) = read_citem(alloc, tokens, at)?;
-    let mut found = List::new(alloc);
-    found.push(first)?;
-    let mut next = at;
-    while next_is(tokens, next, TokenKind::Symbol(Symbol::Semicolon)) {
-        let (_, after) = take_kind(tokens, next, TokenKind::Symbol(Symbol::Semicolon))?;
-        let (item, after) = read_citem(alloc, tokens, after)?;
-        found.push(item)?;
-        next = after;
-    }
-    Ok((found, next))
-}
-
-fn read_specs(alloc: Global, tokens: &[Token], at: usize) -> Result<(List<RawSpec>, usize), Stop>
-    ensures { Gives (λ x. (x.0, behind tokens.now x.1)) result (read 0 (a_list a_spec) (semicolons spec) (behind tokens.now at)) }
-{
-    let (first, at) = read_spec(alloc, tokens, at)?;
-    let mut found = List::new(alloc);
-    found.push(first)?;
-    let mut next = at;
-    while next_is(tokens, next, TokenKind::Symbol(Symbol::Semicolon)) {
-        let (_, after) = take_kind(tokens, next, TokenKind::Symbol(Symbol::Semicolon))?;
-        let (item, after) = read_spec(alloc, tokens, after)?;
-        found.push(item)?;
-        next = after;
-    }
-    Ok((found, next))
-}
-
-fn read_aitems(alloc: Global, tokens: &[Token], at: usize) -> Result<(List<RawAitem>, usize), Stop>
-    ensures { Gives (λ x. (x.0, behind tokens.now x.1)) result (read 0 (a_list an_aitem) (semicolons aitem) (behind tokens.now at)) }
-{
-    let (first, at) = read_aitem(alloc, tokens, at)?;
-    let mut found = List::new(alloc);
-    found.push(first)?;
-    let mut next = at;
-    while next_is(tokens, next, TokenKind::Symbol(Symbol::Semicolon)) {
-        let (_, after) = take_kind(tokens, next, TokenKind::Symbol(Symbol::Semicolon))?;
-        let (item, after) = read_aitem(alloc, tokens, after)?;
-        found.push(item)?;
-        next = after;
-    }
-    Ok((found, next))
-}
-
 fn read_common(alloc: Global, tokens: &[Token], at: usize) -> Result<(RawComm, usize), Stop>
     ensures { Gives (λ x. (x.0, behind tokens.now x.1)) result (read 0 a_comm common (behind tokens.now at)) }
 {
     let (word, at) = take_kind(tokens, at, TokenKind::Word(Word::Common))?;
-    let (_, at) = take_kind(tokens, at, TokenKind::Symbol(Symbol::Open))?;
-    let (list, at) = read_citems(alloc, tokens, at)?;
-    let (_, at) = take_kind(tokens, at, TokenKind::Symbol(Symbol::Close))?;
+    let semicolon = TokenKind::Symbol(Symbol::Semicolon);
+    let item = |at: usize| read_citem(alloc, tokens, at);
+    let (list, at) = read_bracketed(alloc, tokens, at, semicolon, item)?;
     Ok((RawComm::Common(position(word), list), at))
 }
 
@@ -181,9 +134,9 @@ fn read_library(alloc: Global, tokens: &[Token], at: usize) -> Result<(RawComm, 
     ensures { Gives (λ x. (x.0, behind tokens.now x.1)) result (read 0 a_comm library (behind tokens.now at)) }
 {
     let (word, at) = take_kind(tokens, at, TokenKind::Word(Word::Library))?;
-    let (_, at) = take_kind(tokens, at, TokenKind::Symbol(Symbol::Open))?;
-    let (list, at) = read_specs(alloc, tokens, at)?;
-    let (_, at) = take_kind(tokens, at, TokenKind::Symbol(Symbol::Close))?;
+    let semicolon = TokenKind::Symbol(Symbol::Semicolon);
+    let item = |at: usize| read_spec(alloc, tokens, at);
+    let (list, at) = read_bracketed(alloc, tokens, at, semicolon, item)?;
     Ok((RawComm::Library(position(word), list), at))
 }
 
@@ -191,9 +144,9 @@ fn read_absolute(alloc: Global, tokens: &[Token], at: usize) -> Result<(RawComm,
     ensures { Gives (λ x. (x.0, behind tokens.now x.1)) result (read 0 a_comm absolute (behind tokens.now at)) }
 {
     let (word, at) = take_kind(tokens, at, TokenKind::Word(Word::Absolute))?;
-    let (_, at) = take_kind(tokens, at, TokenKind::Symbol(Symbol::Open))?;
-    let (list, at) = read_aitems(alloc, tokens, at)?;
-    let (_, at) = take_kind(tokens, at, TokenKind::Symbol(Symbol::Close))?;
+    let semicolon = TokenKind::Symbol(Symbol::Semicolon);
+    let item = |at: usize| read_aitem(alloc, tokens, at);
+    let (list, at) = read_bracketed(alloc, tokens, at, semicolon, item)?;
     Ok((RawComm::Absolute(position(word), list), at))
 }
 
@@ -226,13 +179,13 @@ pub fn read_comms(
 ) -> Result<(List<RawComm>, usize), Stop>
     ensures { Gives (λ x. (x.0, behind tokens.now x.1)) result (read 0 (a_list a_comm) (many (comm <* symbol Semicolon)) (behind tokens.now at)) }
 {
-    let mut found = List::new(alloc);
-    let mut next = at;
-    while is_comm(tokens, next) {
-        let (comm, after) = read_comm(alloc, tokens, next)?;
-        let (_, after) = take_kind(tokens, after, TokenKind::Symbol(Symbol::Semicolon))?;
-        found.push(comm)?;
-        next = after;
-    }
-    Ok((found, next))
+    let semicolon = TokenKind::Symbol(Symbol::Semicolon);
+    read_ended(
+        alloc,
+        tokens,
+        at,
+        semicolon,
+        |at| is_comm(tokens, at),
+        |at| read_comm(alloc, tokens, at),
+    )
 }

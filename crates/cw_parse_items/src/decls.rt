@@ -1,18 +1,16 @@
 //! Declarations that open no level.
-ghost use Rattle.std.specs.Prelude.{◌≡◌, ℕ, [], ◌∷◌, true, false};
+ghost use Rattle.std.specs.Prelude.{◌≡◌, true, false};
 ghost use Rattle.cw_grammar.specs.Tokens.{behind};
 ghost use Rattle.cw_grammar.specs.Grammar.{starts, first, a_decl};
 ghost use Rattle.cw_grammar.specs.Statements.{decl, worded_decl};
 ghost use Rattle.cw_grammar.specs.Reading.{Gives, read};
 ghost use Rattle.cw_parse_items.specs.Alternatives.{overlay_decl, switch_decl};
 
+use crate::data::{is_type, read_arrays, read_data_table, read_names, read_overlay, read_singles};
 use cw_grammar::reading::{read_name, read_type};
 use cw_grammar::stop::Stop;
 use cw_grammar::token::{next_is, position, take_kind};
 use cw_lex::{Symbol, Token, TokenKind, Word};
-use cw_parse_data::data::{
-    is_type, read_arrays, read_data_table, read_names, read_overlay, read_singles,
-};
 use cw_tree::statement::RawDecl;
 use std::alloc::Global;
 

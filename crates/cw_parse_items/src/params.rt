@@ -1,17 +1,17 @@
 //! Formal parameters from left to right.
-ghost use Rattle.std.specs.Prelude.{◌≡◌, ℕ, [], ◌∷◌};
 ghost use Rattle.cw_grammar.specs.Tokens.{behind};
-ghost use Rattle.cw_grammar.specs.Grammar.{starts, first, a_list, an_option, a_from, a_type, a_param};
+ghost use Rattle.cw_grammar.specs.Grammar.{a_list, an_option, a_from, a_type, a_param};
 ghost use Rattle.cw_grammar.specs.Statements.{semicolons, listed, in_round, procedure_param, param};
 ghost use Rattle.cw_grammar.specs.Reading.{Gives, read, applied};
 ghost use Rattle.cw_parse_items.specs.Alternatives.{value_param, location_param, label_param, switch_param};
 
+use crate::data::{is_type, read_names, read_table};
 use crate::specifications::read_ips_list;
 use cw_grammar::reading::{read_name, read_type};
 use cw_grammar::stop::Stop;
 use cw_grammar::token::{next_is, position, take_kind};
 use cw_lex::{Symbol, Token, TokenKind, Word};
-use cw_parse_data::data::{is_type, read_names, read_table};
+use cw_series::lists::read_listed;
 use cw_tree::leaf::RawType;
 use cw_tree::statement::RawParam;
 use cw_word::List;
@@ -103,22 +103,6 @@ fn read_param(alloc: Global, tokens: &[Token], at: usize) -> Result<(RawParam, u
     read_switch_param(alloc, tokens, at)
 }
 
-fn read_params(alloc: Global, tokens: &[Token], at: usize) -> Result<(List<RawParam>, usize), Stop>
-    ensures { Gives (λ x. (x.0, behind tokens.now x.1)) result (read 0 (a_list a_param) (semicolons param) (behind tokens.now at)) }
-{
-    let (first, at) = read_param(alloc, tokens, at)?;
-    let mut found = List::new(alloc);
-    found.push(first)?;
-    let mut next = at;
-    while next_is(tokens, next, TokenKind::Symbol(Symbol::Semicolon)) {
-        let (_, after) = take_kind(tokens, next, TokenKind::Symbol(Symbol::Semicolon))?;
-        let (item, after) = read_param(alloc, tokens, after)?;
-        found.push(item)?;
-        next = after;
-    }
-    Ok((found, next))
-}
-
 pub fn read_param_list(
     alloc: Global,
     tokens: &[Token],
@@ -126,11 +110,11 @@ pub fn read_param_list(
 ) -> Result<(List<RawParam>, usize), Stop>
     ensures { Gives (λ x. (x.0, behind tokens.now x.1)) result (read 0 (a_list a_param) (listed (in_round (semicolons param))) (behind tokens.now at)) }
 {
-    if next_is(tokens, at, TokenKind::Symbol(Symbol::Open)) {
-        let (_, at) = take_kind(tokens, at, TokenKind::Symbol(Symbol::Open))?;
-        let (found, at) = read_params(alloc, tokens, at)?;
-        let (_, at) = take_kind(tokens, at, TokenKind::Symbol(Symbol::Close))?;
-        return Ok((found, at));
-    }
-    Ok((List::new(alloc), at))
+    read_listed(
+        alloc,
+        tokens,
+        at,
+        TokenKind::Symbol(Symbol::Semicolon),
+        |at| read_param(alloc, tokens, at),
+    )
 }

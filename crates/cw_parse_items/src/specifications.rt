@@ -1,25 +1,22 @@
 //! Specifications from left to right.
-ghost use Rattle.std.specs.Prelude.{◌≡◌, ℕ, [], ◌∷◌};
-ghost use Rattle.cw_grammar.specs.Tokens.{behind, seen};
+ghost use Rattle.std.specs.Prelude.{◌≡◌};
+ghost use Rattle.cw_grammar.specs.Tokens.{behind};
 ghost use Rattle.cw_grammar.specs.Grammar.{starts, first, a_list, an_option, a_from, a_token, a_type, a_ptag, an_ips, a_ps, a_spec};
 ghost use Rattle.cw_grammar.specs.Statements.{separated, separator, listed, in_round, ptag, worded_ips, ips, ips_list, procedure_ps, ps, spec_behind, spec};
 ghost use Rattle.cw_grammar.specs.Reading.{Gives, read, applied};
 ghost use Rattle.cw_parse_items.specs.Alternatives.{value_ips, location_ips, table_ips, label_ips, switch_ips};
 
+use crate::data::is_type;
 use cw_grammar::reading::{read_name, read_size, read_type};
 use cw_grammar::stop::Stop;
 use cw_grammar::token::{Item, next_is, position, take_kind};
 use cw_lex::{Symbol, Token, TokenKind, Word};
-use cw_parse_data::data::is_type;
-use cw_tree::leaf::{RawInt, RawSint, RawSize, RawType};
+use cw_series::lists::{Separator, read_listed};
+use cw_tree::leaf::RawType;
 use cw_tree::segment::{RawIps, RawPs, RawSpec};
 use cw_tree::statement::RawPtag;
 use cw_word::List;
 use std::alloc::Global;
-
-// What stands inside the items of lists. A loop that keeps such items names it once: only so does the prover find where the
-// ranges of the numbers inside them are stated.
-type Inside = (RawInt, RawSint, RawSize, RawType);
 
 #[tactic(auto, unfolding(cw_grammar::specs::Statements::ptag))]
 pub fn read_ptag(tokens: &[Token], at: usize) -> Result<(RawPtag, usize), Stop>
@@ -117,45 +114,27 @@ fn read_ips(tokens: &[Token], at: usize) -> Result<(RawIps, usize), Stop>
     Ok((RawIps::Array(kind), at))
 }
 
-fn is_separator(tokens: &[Token], at: usize) -> bool
-    ensures { result ≡ starts (behind tokens.now at) (first separator) }
-{
-    next_is(tokens, at, TokenKind::Symbol(Symbol::Comma))
-        || next_is(tokens, at, TokenKind::Symbol(Symbol::Semicolon))
-}
+#[derive(Clone, Copy)]
+struct CommaOrSemicolon;
 
-fn take_separator<'a>(tokens: &[Token<'a>], at: usize) -> Result<(Item<'a>, usize), Stop>
-    ensures { Gives (λ x. (seen x.0, behind tokens.now x.1)) result (read 0 a_token separator (behind tokens.now at)) }
-{
-    if next_is(tokens, at, TokenKind::Symbol(Symbol::Comma)) {
-        return take_kind(tokens, at, TokenKind::Symbol(Symbol::Comma));
+impl Separator for CommaOrSemicolon {
+    ghost begins = { λ _ ts. starts ts (first separator) };
+
+    ghost taken = { λ _ ts. read 0 a_token separator ts };
+
+    fn is_next(self, tokens: &[Token], at: usize) -> bool {
+        next_is(tokens, at, TokenKind::Symbol(Symbol::Comma))
+            || next_is(tokens, at, TokenKind::Symbol(Symbol::Semicolon))
     }
-    take_kind(tokens, at, TokenKind::Symbol(Symbol::Semicolon))
-}
 
-fn read_separated_ips(
-    alloc: Global,
-    tokens: &[Token],
-    at: usize,
-) -> Result<(List<RawIps>, usize), Stop>
-    ensures { Gives (λ x. (x.0, behind tokens.now x.1)) result (read 0 (a_list an_ips) (separated ips) (behind tokens.now at)) }
-{
-    let (first, at) = read_ips(tokens, at)?;
-    let none: Option<Inside> = None;
-    prove!(none.is_none());
-    let mut found = List::new(alloc);
-    found.push(first)?;
-    let mut next = at;
-    while is_separator(tokens, next) {
-        let (_, after) = take_separator(tokens, next)?;
-        let (item, after) = read_ips(tokens, after)?;
-        found.push(item)?;
-        next = after;
+    fn take<'a>(self, tokens: &[Token<'a>], at: usize) -> Result<(Item<'a>, usize), Stop> {
+        if next_is(tokens, at, TokenKind::Symbol(Symbol::Comma)) {
+            return take_kind(tokens, at, TokenKind::Symbol(Symbol::Comma));
+        }
+        take_kind(tokens, at, TokenKind::Symbol(Symbol::Semicolon))
     }
-    Ok((found, next))
 }
 
-#[tactic(auto, unfolding(cw_grammar::specs::Statements::ips_list, cw_grammar::specs::Statements::ips, cw_grammar::specs::Statements::worded_ips, cw_grammar::specs::Rules::number_type))]
 pub fn read_ips_list(
     alloc: Global,
     tokens: &[Token],
@@ -163,13 +142,13 @@ pub fn read_ips_list(
 ) -> Result<(List<RawIps>, usize), Stop>
     ensures { Gives (λ x. (x.0, behind tokens.now x.1)) result (read 0 (a_list an_ips) ips_list (behind tokens.now at)) }
 {
-    if next_is(tokens, at, TokenKind::Symbol(Symbol::Open)) {
-        let (_, at) = take_kind(tokens, at, TokenKind::Symbol(Symbol::Open))?;
-        let (found, at) = read_separated_ips(alloc, tokens, at)?;
-        let (_, at) = take_kind(tokens, at, TokenKind::Symbol(Symbol::Close))?;
-        return Ok((found, at));
-    }
-    Ok((List::new(alloc), at))
+    read_listed(
+        alloc,
+        tokens,
+        at,
+        CommaOrSemicolon,
+        |at| read_ips(tokens, at),
+    )
 }
 
 #[tactic(auto, unfolding(cw_grammar::specs::Statements::procedure_ps))]
@@ -205,37 +184,16 @@ fn read_ps(alloc: Global, tokens: &[Token], at: usize) -> Result<(RawPs, usize),
     Ok((RawPs::Plain(plain), at))
 }
 
-fn read_separated_ps(
-    alloc: Global,
-    tokens: &[Token],
-    at: usize,
-) -> Result<(List<RawPs>, usize), Stop>
-    ensures { Gives (λ x. (x.0, behind tokens.now x.1)) result (read 0 (a_list a_ps) (separated ps) (behind tokens.now at)) }
-{
-    let (first, at) = read_ps(alloc, tokens, at)?;
-    let mut found = List::new(alloc);
-    found.push(first)?;
-    let mut next = at;
-    while is_separator(tokens, next) {
-        let (_, after) = take_separator(tokens, next)?;
-        let (item, after) = read_ps(alloc, tokens, after)?;
-        found.push(item)?;
-        next = after;
-    }
-    Ok((found, next))
-}
-
-#[tactic(auto, unfolding(cw_grammar::specs::Statements::ps, cw_grammar::specs::Statements::worded_ips, cw_grammar::specs::Rules::number_type))]
 fn read_ps_list(alloc: Global, tokens: &[Token], at: usize) -> Result<(List<RawPs>, usize), Stop>
     ensures { Gives (λ x. (x.0, behind tokens.now x.1)) result (read 0 (a_list a_ps) (listed (in_round (separated ps))) (behind tokens.now at)) }
 {
-    if next_is(tokens, at, TokenKind::Symbol(Symbol::Open)) {
-        let (_, at) = take_kind(tokens, at, TokenKind::Symbol(Symbol::Open))?;
-        let (found, at) = read_separated_ps(alloc, tokens, at)?;
-        let (_, at) = take_kind(tokens, at, TokenKind::Symbol(Symbol::Close))?;
-        return Ok((found, at));
-    }
-    Ok((List::new(alloc), at))
+    read_listed(
+        alloc,
+        tokens,
+        at,
+        CommaOrSemicolon,
+        |at| read_ps(alloc, tokens, at),
+    )
 }
 
 #[tactic(auto, unfolding(cw_grammar::specs::Statements::spec_behind))]

@@ -1,6 +1,6 @@
 -- The families before one of a segment, and those before the next.
-use Rattle.std.proofs.Common.{◌≡◌, ℕ, ◌+◌, ◌<◌, ◌≤◌, List, [], ◌∷◌, ◌++◌, length, set, get_or, Option, Some, None, slice_get, Vec, Global, refl, sym, ap, ap₂, ◌∙◌, append-nil}
-use Rattle.std.proofs.lemmas.List.{length-set}
+use Rattle.std.proofs.Common.{◌≡◌, ℕ, ◌+◌, ◌<◌, ◌≤◌, List, [], ◌∷◌, ◌++◌, length, set, get_or, Option, Some, None, slice_get, Vec, Global, refl, sym, ap, ap₂, ◌∙◌, append-nil, arith}
+use Rattle.std.proofs.lemmas.List.{length-set, get_or_default}
 use Rattle.std.proofs.lemmas.Option.{slice_get-get_or, slice_get_read, get_or_from_slice_get}
 use Rattle.cw_unit.specs.declared.layout.Family.{Family}
 use Rattle.cw_unit.specs.declared.layout.Sort.{Sort}
@@ -16,7 +16,7 @@ use Rattle.cw_place.specs.Segments.{numbers_of, names_of, segment_storage, AreOf
 use Rattle.cw_place.specs.Placement.{told_words}
 use Rattle.cw_place.specs.Placing.{AreSweptFor, keys_before, placed_by, placed_before, told_address, told, start_if_placed, HasPlaced}
 use Rattle.cw_place.proofs.Keys.{next_family, own_is_new}
-use Rattle.cw_place.proofs.Numbers.{name_is, storage_read}
+use Rattle.cw_place.proofs.Numbers.{name_is, numbers_read, number_below, descriptor_below, storage_read}
 use Rattle.cw_place.proofs.Placed.{last_append, not_placed, next_placed, new_key, old_key, start_last, starts_own, starts_common}
 
 -- ---- a family of a segment
@@ -35,6 +35,47 @@ pub is_here : (spaces : List Space) (g n : ℕ) (t : Space) (d : Family) → g <
 is_here spaces g n t d lt is within =
     let found : slice_get spaces g ≡ Some t = slice_get_read spaces (length spaces) g t refl lt is in
     record { segment = found; family = slice_get-get_or t.families n d (within t found) }
+
+-- a family that is not there
+abbrev pub no_family : Family
+no_family = record { sort = sort.Common 0; extent = 0 }
+
+-- a family of this sort, at its place
+pub record OfSort (spaces : List Space) (g n : ℕ) (fs : List Family) (s : Space) (f : Family) (x : Sort) : Type 0 where
+  pub here : Here spaces g n s f
+  pub read : get_or fs n no_family ≡ f
+  pub sorted : f.sort ≡ x
+
+-- What was read of the family is so of it where it is known by its place.
+pub known_read : (spaces : List Space) (g n : ℕ) (s : Space) (f : Family) (t : Space) (fs : List Family) (x : Sort) → Here spaces g n s f → t ≡ get_or spaces g t → fs ≡ t.families → (get_or fs n no_family).sort ≡ x → OfSort spaces g n fs s f x
+known_read spaces g n s f t fs x here is are e =
+    let read = read_here spaces g n s f here t fs no_family is are in
+    record { here = here; read = read; sorted = ap (λ (y : Family). y.sort) (sym read) ∙ e }
+
+-- The same of the family that was read.
+pub first_read : (spaces : List Space) (g n : ℕ) (t : Space) (fs : List Family) (x : Sort) → g < length spaces → t ≡ get_or spaces g t → ((s : Space) → slice_get spaces g ≡ Some s → n < length s.families) → fs ≡ t.families → (get_or fs n no_family).sort ≡ x
+    → OfSort spaces g n fs t (get_or t.families n no_family) x
+first_read spaces g n t fs x lt is within are e = known_read spaces g n t (get_or t.families n no_family) t fs x (is_here spaces g n t no_family lt is within) is are e
+
+-- ---- a common family that is looked up
+
+-- its number, and where it begins, if it is placed
+pub record Looked (agreed : Agreed) (g d : ℕ) (ps : List Placed) (numbers : List ℕ) (table : List (Option ℕ)) (start : Option ℕ) : Type 0 where
+  pub below : d < length (numbers_of agreed g)
+  pub named : get_or numbers d 0 ≡ get_or (numbers_of agreed g) d 0
+  pub known : get_or (numbers_of agreed g) d 0 < length agreed.names
+  pub told_at : get_or table (get_or (numbers_of agreed g) d 0) None ≡ start
+  pub placed : start_if_placed (Shared (name_at agreed.names (get_or (numbers_of agreed g) d 0))) (told ps) ≡ start
+
+pub looked_up : (agreed : Agreed) (spaces : List Space) (of : AreOf agreed spaces) (spans : List Span) (ps : List Placed) (old : Placing) (has : HasPlaced agreed spans ps old) (g n d : ℕ) (t : Space) (numbers : List ℕ) (start : Option ℕ)
+    → (get_or t.families n no_family).sort ≡ sort.Common d → g < length spaces → t ≡ get_or spaces g t → n < length t.families → numbers ≡ get_or agreed.of g numbers → start ≡ get_or old.starts.items (get_or numbers d 0) start
+    → Looked agreed g d ps numbers old.starts.items start
+looked_up agreed spaces of spans ps old has g n d t numbers start sorted lt is within are at =
+    let below = descriptor_below agreed spaces of g t lt is n d no_family within sorted in
+    let known = number_below agreed spaces of g d below in
+    let named = ap (λ (ns : List ℕ). get_or ns d 0) (numbers_read agreed spaces of g numbers lt are) in
+    let read = get_or_default old.starts.items (get_or (numbers_of agreed g) d 0) None start (omega (arith, known, has.count)) ∙ sym (at ∙ ap (λ k. get_or old.starts.items k start) named) in
+    record { below = below; named = named; known = known; told_at = read; placed = sym (has.starts (get_or (numbers_of agreed g) d 0) known) ∙ read }
 
 module _ (agreed : Agreed) (spaces : List Space) (of : AreOf agreed spaces) (g n : ℕ) (s : Space) (f : Family) (here : Here spaces g n s f) where
   next : (x : Sort) → f.sort ≡ x → placed_before agreed spaces g (n + 1) ≡ placed_by (segment_storage agreed spaces) (keys_before (segment_storage agreed spaces) g n ++ placed_key g (names_of agreed g) n x)

@@ -180,7 +180,7 @@ fn prim_rows(
 ) -> Result<(), NoMemory>
     ensures { OnOk result (out.new ≡ out.old ++ prim_rows e.now) }
 {
-    primary_rows(e.primary.get(), alloc, out)
+    primary_rows(&e.primary, alloc, out)
 }
 
 #[cycle(strings)]
@@ -203,7 +203,7 @@ fn primary_rows(
         RawPrimary::Location(_, reference) => reference_rows(reference.get(), alloc, out),
         RawPrimary::Forced(_, e) => expression_rows(e.get(), alloc, out),
         RawPrimary::Bracket(_, e) => expression_rows(e.get(), alloc, out),
-        RawPrimary::Ref(reference) => reference_rows(reference.get(), alloc, out),
+        RawPrimary::Ref(reference) => reference_rows(reference, alloc, out),
         RawPrimary::Call(_, arguments) => argument_rows(arguments.as_slice(), alloc, out),
     }
 }

@@ -81,6 +81,50 @@ new_record stack n segment calls base rest low few = record {
   rest_is = four_0 stack n segment calls base rest;
 }
 
+-- ---- the record of an activation that begins
+
+-- its caller's record and four words come on the stack
+abbrev pub begun_stack : (stack : ℕ → ℕ) (m bp number calls area rest size : ℕ) → ℕ → ℕ
+begun_stack stack m bp number calls area rest size = four (put_word stack (m + 4) bp) m number (word_difference calls 1) (2 * word_difference area rest % 65536) (word_difference rest size)
+
+-- the slots that they take, the record that they are, and what stays
+pub record Begun (stack : ℕ → ℕ) (m bp number calls area rest size : ℕ) : Type 0 where
+  pub slot4 : (m + 4 < 32768) × (2 * suc (m + 4) ≡ 2 * suc (m + 4) % 65536)
+  pub slot3 : (m + 3 < 32768) × (2 * (m + 4) ≡ 2 * suc (m + 3) % 65536)
+  pub slot2 : (m + 2 < 32768) × (2 * (m + 3) ≡ 2 * suc (m + 2) % 65536)
+  pub slot1 : (m + 1 < 32768) × (2 * (m + 2) ≡ 2 * suc (m + 1) % 65536)
+  pub slot0 : (m < 32768) × (2 * (m + 1) ≡ 2 * suc m % 65536)
+  pub record_is : RecordIs (begun_stack stack m bp number calls area rest size) (2 * (m + 4)) m number (calls - 1) (2 * (area - rest) % 65536) (rest - size)
+  pub caller : begun_stack stack m bp number calls area rest size (m + 4) ≡ bp
+  pub above : (k : ℕ) → m + 4 < k → begun_stack stack m bp number calls area rest size k ≡ stack k
+
+pub begun : (stack : ℕ → ℕ) (m bp number calls area rest size : ℕ) → m + 4 < 32767 → number < 256 → 0 < calls → calls < 65536 → size ≤ rest → rest ≤ area → area ≤ 32768
+    → Begun stack m bp number calls area rest size
+begun stack m bp number calls area rest size low byte some few le rest_low area_low =
+    let left = word_difference calls 1 in
+    let behind = word_difference rest size in
+    let from = 2 * word_difference area rest % 65536 in
+    let left_is : left ≡ calls - 1 = omega arith in
+    let behind_is : behind ≡ rest - size = omega arith in
+    let from_is : from ≡ 2 * (area - rest) % 65536 = omega arith in
+    let low' : m < 32765 = omega arith in
+    let bp_is : 2 * (m + 4) % 65536 ≡ 2 * (m + 4) = omega arith in
+    let st = begun_stack stack m bp number calls area rest size in
+    let e0 = new_record (put_word stack (m + 4) bp) m number left from behind low' byte in
+    let e1 : RecordIs st (2 * (m + 4)) m number left from behind = subst (λ x. RecordIs st x m number left from behind) bp_is e0 in
+    let e2 : RecordIs st (2 * (m + 4)) m number (calls - 1) from behind = subst (λ x. RecordIs st (2 * (m + 4)) m number x from behind) left_is e1 in
+    let e3 : RecordIs st (2 * (m + 4)) m number (calls - 1) from (rest - size) = subst (λ x. RecordIs st (2 * (m + 4)) m number (calls - 1) from x) behind_is e2 in
+    record {
+      slot4 = (omega arith, omega arith);
+      slot3 = (omega arith, omega arith);
+      slot2 = (omega arith, omega arith);
+      slot1 = (omega arith, omega arith);
+      slot0 = (omega arith, omega arith);
+      record_is = subst (λ x. RecordIs st (2 * (m + 4)) m number (calls - 1) x (rest - size)) from_is e3;
+      caller = four_above (put_word stack (m + 4) bp) m number left from behind (m + 4) (omega arith) ∙ put_at stack (m + 4) bp;
+      above = λ k lt. four_above (put_word stack (m + 4) bp) m number left from behind k (omega arith) ∙ put_off stack (m + 4) bp k (λ e. omega arith);
+    }
+
 pub none_left : (n : ℕ) → nat_lt 0 n ≡ false → n ≡ 0
 none_left zero e = refl
 none_left (suc n) e = absurd (grind (arith, nat_tests))
@@ -229,29 +273,7 @@ module _ (finds : Finds) (Quiet : ℕ → Type 0) (code : List ℕ) (stands : St
           let fits = s.sees.fits in
           let in2 = names.within in
           let e2 = word_within at 2 in2 fits in
-          let left = word_difference calls 1 in
-          let behind = word_difference rest size in
-          let from = 2 * word_difference area rest % 65536 in
-          let left_is : left ≡ calls - 1 = omega arith in
-          let behind_is : behind ≡ rest - size = omega arith in
-          let from_is : from ≡ 2 * (area - rest) % 65536 = omega arith in
-          let n4 : m + 4 < 32768 = omega arith in
-          let n3 : m + 3 < 32768 = omega arith in
-          let n2 : m + 2 < 32768 = omega arith in
-          let n1 : m + 1 < 32768 = omega arith in
-          let n0 : m < 32768 = omega arith in
-          let t4 : 2 * suc (m + 4) ≡ 2 * suc (m + 4) % 65536 = omega arith in
-          let t3 : 2 * (m + 4) ≡ 2 * suc (m + 3) % 65536 = omega arith in
-          let t2 : 2 * (m + 3) ≡ 2 * suc (m + 2) % 65536 = omega arith in
-          let t1 : 2 * (m + 2) ≡ 2 * suc (m + 1) % 65536 = omega arith in
-          let t0 : 2 * (m + 1) ≡ 2 * suc m % 65536 = omega arith in
-          let low' : m < 32765 = omega arith in
-          let bp_is : 2 * (m + 4) % 65536 ≡ 2 * (m + 4) = omega arith in
-          let st = four (put_word stack (m + 4) bp) m number left from behind in
-          let e0 = new_record (put_word stack (m + 4) bp) m number left from behind low' byte in
-          let e1 : RecordIs st (2 * (m + 4)) m number left from behind = subst (λ x. RecordIs st x m number left from behind) bp_is e0 in
-          let e2' : RecordIs st (2 * (m + 4)) m number (calls - 1) from behind = subst (λ x. RecordIs st (2 * (m + 4)) m number x from behind) left_is e1 in
-          let e3 : RecordIs st (2 * (m + 4)) m number (calls - 1) from (rest - size) = subst (λ x. RecordIs st (2 * (m + 4)) m number (calls - 1) from x) behind_is e2' in
+          let w = begun stack m bp number calls area rest size low byte some few le rest_low area_low in
           within Quiet code told.output 18 18 (lit≤ tt)
           (both Quiet code told.output 6 12 (taken some) (λ q u.
           more Quiet code told.output finds u (library 106 (lit< tt)) refl
@@ -271,14 +293,14 @@ module _ (finds : Finds) (Quiet : ℕ → Type 0) (code : List ℕ) (stands : St
                 tt,
                 (
                   (lit< tt, lit≤ tt),
-                  (n4, t4),
+                  w.slot4,
                   (
                     (lit< tt, lit≤ tt),
                     tt,
                     (
                       (lit< tt, lit≤ tt),
-                      ((e2, names), n3, t3),
-                      ((lit< tt, lit≤ tt), (n2, t2), ((lit< tt, lit≤ tt), (n1, t1), ((lit< tt, lit≤ tt), (n0, t0), ((lit< tt, lit≤ tt), tt, tt)))),
+                      ((e2, names), w.slot3.0, w.slot3.1),
+                      ((lit< tt, lit≤ tt), w.slot2, ((lit< tt, lit≤ tt), w.slot1, ((lit< tt, lit≤ tt), w.slot0, ((lit< tt, lit≤ tt), tt, tt)))),
                     ),
                   ),
                 ),
@@ -286,18 +308,17 @@ module _ (finds : Finds) (Quiet : ℕ → Type 0) (code : List ℕ) (stands : St
             ),
           ) u (λ q u.
           last Quiet code told.output finds u (library 128 (lit< tt)) refl (record {
-            ax = left;
-            cx = behind;
+            ax = word_difference calls 1;
+            cx = word_difference rest size;
             dx = line;
-            bx = from;
+            bx = 2 * word_difference area rest % 65536;
             si = (at + 4) % 65536;
             flags = _;
-            stack = st;
+            stack = begun_stack stack m bp number calls area rest size;
             is = acts.jump_to finds u 6 (at + 4) g.1.1.1.1.1.1.1.1.1.1.0 refl;
-            record_is = subst (λ x. RecordIs st (2 * (m + 4)) m number (calls - 1) x (rest - size)) from_is e3;
-            caller = four_above (put_word stack (m + 4) bp) m number left from behind (m + 4) (omega arith) ∙ put_at stack (m + 4) bp;
-            above = λ k lt. four_above (put_word stack (m + 4) bp) m number left from behind k (omega arith)
-                ∙ put_off stack (m + 4) bp k (λ e. omega arith);
+            record_is = w.record_is;
+            caller = w.caller;
+            above = w.above;
           })))))
 
       cases : (b : Bool) → nat_lt 0 calls ≡ b

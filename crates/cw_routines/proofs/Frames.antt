@@ -1,12 +1,12 @@
 -- The begin of an activation by the code of a segment, where its frame has words.
-use Rattle.std.proofs.Common.{◌≡◌, ℕ, suc, ◌+◌, ◌-◌, ◌*◌, ◌%◌, ◌<◌, ◌≤◌, Bool, true, false, List, [], ◌∷◌, refl, sym, ap, ◌∙◌, subst, arith, lit<, lit≤}
+use Rattle.std.proofs.Common.{◌≡◌, ℕ, suc, ◌+◌, ◌-◌, ◌*◌, ◌%◌, ◌<◌, ◌≤◌, Bool, true, false, List, [], ◌∷◌, refl, sym, ap, subst, arith, lit<, lit≤}
 use Rattle.std.specs.Prelude.{nat_lt, nat_le, ◌==◌}
 use Rattle.std.proofs.lemmas.Bool.{ne_eqb, ltb-true, leb-true}
 use Rattle.cw_i86.specs.Sums.{difference_flags}
 use Rattle.cw_i86.specs.declared.flags.Flags.{Flags}
 use Rattle.cw_i86.specs.declared.instr.Place.TheVariants as places
 use Rattle.cw_run86.specs.Processor.{Processor, Told}
-use Rattle.cw_run86.specs.Views.{put_word, word_difference}
+use Rattle.cw_run86.specs.Views.{word_difference}
 use Rattle.cw_run86.proofs.Tests.{Finds}
 use Rattle.cw_unit.specs.Stop.{DepthReached, FramesFull}
 use Rattle.cw_routines.specs.Ways.{QuietAll, At, HasAll, HasWord, view, Leads, Within, Over}
@@ -15,10 +15,10 @@ use Rattle.cw_routines.proofs.Arrive.{jumps_if, passes_if, jumps_if_none, passes
 use Rattle.cw_routines.proofs.Sources.{Register, Slot, InCode}
 use Rattle.cw_routines.proofs.Acts as acts
 use Rattle.cw_routines.proofs.Chains.{Load, Difference, DifferenceNumber, DoubleWord, LessOne, Push, PushFrom, done, onward, more, within, each_of, both}
-use Rattle.cw_routines.proofs.Facts.{put_at, put_off, not_below, below}
+use Rattle.cw_routines.proofs.Facts.{not_below, below}
 use Rattle.cw_routines.proofs.Places.{to_place, depth_stands, frames_stands, enter_stop_stands}
 use Rattle.cw_routines.proofs.Stops.{told_stops}
-use Rattle.cw_routines.proofs.Begins.{tells_of, calls_there, rest_there, four, four_above, new_record, none_left, not_within}
+use Rattle.cw_routines.proofs.Begins.{tells_of, calls_there, rest_there, begun_stack, begun, none_left, not_within}
 
 module _ (finds : Finds) (Quiet : ℕ → Type 0) (code : List ℕ) (stands : Stands code) (library : (k : ℕ) → k < 438 → Quiet k) where
   -- ---- the stop of the library
@@ -103,29 +103,7 @@ module _ (finds : Finds) (Quiet : ℕ → Type 0) (code : List ℕ) (stands : St
           let le : size ≤ rest = leb-true size rest is in
           let g = h.1.1.1.1.1.1.1.1.1 in
           let z = silent.1.1.1.1.1.1.1.1.1 in
-          let left = word_difference calls 1 in
-          let behind = word_difference rest size in
-          let from = 2 * word_difference area rest % 65536 in
-          let left_is : left ≡ calls - 1 = omega arith in
-          let behind_is : behind ≡ rest - size = omega arith in
-          let from_is : from ≡ 2 * (area - rest) % 65536 = omega arith in
-          let n4 : m + 4 < 32768 = omega arith in
-          let n3 : m + 3 < 32768 = omega arith in
-          let n2 : m + 2 < 32768 = omega arith in
-          let n1 : m + 1 < 32768 = omega arith in
-          let n0 : m < 32768 = omega arith in
-          let t4 : 2 * suc (m + 4) ≡ 2 * suc (m + 4) % 65536 = omega arith in
-          let t3 : 2 * (m + 4) ≡ 2 * suc (m + 3) % 65536 = omega arith in
-          let t2 : 2 * (m + 3) ≡ 2 * suc (m + 2) % 65536 = omega arith in
-          let t1 : 2 * (m + 2) ≡ 2 * suc (m + 1) % 65536 = omega arith in
-          let t0 : 2 * (m + 1) ≡ 2 * suc m % 65536 = omega arith in
-          let low' : m < 32765 = omega arith in
-          let bp_is : 2 * (m + 4) % 65536 ≡ 2 * (m + 4) = omega arith in
-          let st = four (put_word stack (m + 4) bp) m number left from behind in
-          let e0 = new_record (put_word stack (m + 4) bp) m number left from behind low' byte in
-          let e1 : RecordIs st (2 * (m + 4)) m number left from behind = subst (λ x. RecordIs st x m number left from behind) bp_is e0 in
-          let e2 : RecordIs st (2 * (m + 4)) m number (calls - 1) from behind = subst (λ x. RecordIs st (2 * (m + 4)) m number x from behind) left_is e1 in
-          let e3 : RecordIs st (2 * (m + 4)) m number (calls - 1) from (rest - size) = subst (λ x. RecordIs st (2 * (m + 4)) m number (calls - 1) from x) behind_is e2 in
+          let w = begun stack m bp number calls area rest size low byte one few le rest_low area_low in
           let past : (at + 3 + 2 + 3 + 2 + 2 + 2 + 3 + 2 + 3) % 65536 ≡ (at + 3 + 2 + 3 + 2 + 2 + 2 + 3 + 2 + 3) % 65536 = refl in
           let end : (at + 3 + 2 + 3 + 2 + 2 + 2 + 3 + 2 + 3 + 1 + 1 + 2 + 5 + 1 + 1 + 1) % 65536 ≡ (at + 34) % 65536 = (let e : at + 3 + 2 + 3 + 2 + 2 + 2 + 3 + 2 + 3 + 1 + 1 + 2 + 5 + 1 + 1 + 1 ≡ at + 34 = omega arith in ap (λ n. n % 65536) e) in
           within Quiet code told.output 14 20 (lit≤ tt)
@@ -140,27 +118,26 @@ module _ (finds : Finds) (Quiet : ℕ → Type 0) (code : List ℕ) (stands : St
             tt,
             (
               (lit< tt, lit≤ tt),
-              (n4, t4),
+              w.slot4,
               (
                 (lit< tt, lit≤ tt),
                 tt,
-                ((lit< tt, lit≤ tt), ((refl, named), n3, t3), ((lit< tt, lit≤ tt), (n2, t2), ((lit< tt, lit≤ tt), (n1, t1), ((lit< tt, lit≤ tt), (n0, t0), tt)))),
+                ((lit< tt, lit≤ tt), ((refl, named), w.slot3.0, w.slot3.1), ((lit< tt, lit≤ tt), w.slot2, ((lit< tt, lit≤ tt), w.slot1, ((lit< tt, lit≤ tt), w.slot0, tt)))),
               ),
             ),
           ) u (λ q u.
           done Quiet code told.output (record {
-            ax = behind;
-            cx = left;
+            ax = word_difference rest size;
+            cx = word_difference calls 1;
             dx = line;
-            bx = from;
+            bx = 2 * word_difference area rest % 65536;
             si = si;
             flags = _;
-            stack = st;
+            stack = begun_stack stack m bp number calls area rest size;
             is = to_place end u;
-            record_is = subst (λ x. RecordIs st (2 * (m + 4)) m number (calls - 1) x (rest - size)) from_is e3;
-            caller = four_above (put_word stack (m + 4) bp) m number left from behind (m + 4) (omega arith) ∙ put_at stack (m + 4) bp;
-            above = λ k lt. four_above (put_word stack (m + 4) bp) m number left from behind k (omega arith)
-                ∙ put_off stack (m + 4) bp k (λ e. omega arith);
+            record_is = w.record_is;
+            caller = w.caller;
+            above = w.above;
           })))))
 
       cases : {q : Processor} (b : Bool) → nat_lt 0 calls ≡ b → At code (at + 3) (view ax calls line bx (2 * suc (m + 4)) bp si area cells stack input told) f q

@@ -1,5 +1,5 @@
 -- Where the routines of the library stand.
-use Rattle.std.proofs.Common.{◌≡◌, ℕ, ◌+◌, ◌%◌, List, [], ◌∷◌, ◌++◌, length, drop, subst, arith}
+use Rattle.std.proofs.Common.{◌≡◌, ℕ, ◌+◌, ◌%◌, List, [], ◌∷◌, ◌++◌, length, subst, arith}
 use Rattle.cw_i86.specs.Encoding.{bytes_of}
 use Rattle.cw_i86.specs.declared.flags.Flags.{Flags}
 use Rattle.cw_i86.specs.declared.instr.Instr.{Instr}
@@ -27,195 +27,111 @@ has_back code place (i ∷ is) js h =
 pub to_place : {code : List ℕ} {at to : ℕ} {v : View} {f : Flags} {p : Processor} → at % 65536 ≡ to % 65536 → At code at v f p → At code to v f p
 to_place {code} {at} {to} {v} {f} {p} e s = record { sees = subst (λ n. Sees code (record v { place = n; overflow = f.of }) p) e s.sees; flags = s.flags }
 
+-- routines one behind another, each at its place
+abbrev Each : List ℕ → ℕ → List (List Instr) → Type 0
+Each code place [] = Unit {0}
+Each code place (is ∷ rest) = HasAll code place is × Each code (place + total is) rest
+
+each_stands : (code : List ℕ) (place : ℕ) (rs : List (List Instr)) → HasAll code place (joined rs) → Each code place rs
+each_stands code place [] h = tt
+each_stands code place (is ∷ rest) h = (has_front code place is (joined rest) h, each_stands code (place + total is) rest (has_back code place is (joined rest) h))
+
 module _ (code : List ℕ) (stands : Stands code) where
-  from_0 : HasAll code 5 (joined (drop 0 routines))
-  from_0 = stands.1
+  all : Each code 5 routines
+  all = each_stands code 5 routines stands.1
 
   pub start_stands : HasAll code 5 start_routine
-  start_stands = has_front code 5 start_routine (joined (drop 1 routines)) from_0
-
-  from_1 : HasAll code 35 (joined (drop 1 routines))
-  from_1 = has_back code 5 start_routine (joined (drop 1 routines)) from_0
+  start_stands = all.0
 
   pub overflow_stands : HasAll code 35 (stop_routine 1 12)
-  overflow_stands = has_front code 35 (stop_routine 1 12) (joined (drop 2 routines)) from_1
-
-  from_2 : HasAll code 39 (joined (drop 2 routines))
-  from_2 = has_back code 35 (stop_routine 1 12) (joined (drop 2 routines)) from_1
+  overflow_stands = all.1.0
 
   pub zero_stands : HasAll code 39 (stop_routine 2 8)
-  zero_stands = has_front code 39 (stop_routine 2 8) (joined (drop 3 routines)) from_2
-
-  from_3 : HasAll code 43 (joined (drop 3 routines))
-  from_3 = has_back code 39 (stop_routine 2 8) (joined (drop 3 routines)) from_2
+  zero_stands = all.1.1.0
 
   pub address_stands : HasAll code 43 (stop_routine 4 4)
-  address_stands = has_front code 43 (stop_routine 4 4) (joined (drop 4 routines)) from_3
-
-  from_4 : HasAll code 47 (joined (drop 4 routines))
-  from_4 = has_back code 43 (stop_routine 4 4) (joined (drop 4 routines)) from_3
+  address_stands = all.1.1.1.0
 
   pub bounds_stands : HasAll code 47 (stop_routine 7 0)
-  bounds_stands = has_front code 47 (stop_routine 7 0) (joined (drop 5 routines)) from_4
-
-  from_5 : HasAll code 51 (joined (drop 5 routines))
-  from_5 = has_back code 47 (stop_routine 7 0) (joined (drop 5 routines)) from_4
+  bounds_stands = all.1.1.1.1.0
 
   pub line_stands : HasAll code 51 line_taken
-  line_stands = has_front code 51 line_taken (joined (drop 6 routines)) from_5
-
-  from_6 : HasAll code 55 (joined (drop 6 routines))
-  from_6 = has_back code 51 line_taken (joined (drop 6 routines)) from_5
+  line_stands = all.1.1.1.1.1.0
 
   pub tell_stands : HasAll code 55 tell
-  tell_stands = has_front code 55 tell (joined (drop 7 routines)) from_6
-
-  from_7 : HasAll code 71 (joined (drop 7 routines))
-  from_7 = has_back code 55 tell (joined (drop 7 routines)) from_6
+  tell_stands = all.1.1.1.1.1.1.0
 
   pub bad_address_stands : HasAll code 71 (told_stop 4 0xEC)
-  bad_address_stands = has_front code 71 (told_stop 4 0xEC) (joined (drop 8 routines)) from_7
-
-  from_8 : HasAll code 75 (joined (drop 8 routines))
-  from_8 = has_back code 71 (told_stop 4 0xEC) (joined (drop 8 routines)) from_7
+  bad_address_stands = all.1.1.1.1.1.1.1.0
 
   pub bad_sum_stands : HasAll code 75 (told_stop 1 0xE8)
-  bad_sum_stands = has_front code 75 (told_stop 1 0xE8) (joined (drop 9 routines)) from_8
-
-  from_9 : HasAll code 79 (joined (drop 9 routines))
-  from_9 = has_back code 75 (told_stop 1 0xE8) (joined (drop 9 routines)) from_8
+  bad_sum_stands = all.1.1.1.1.1.1.1.1.0
 
   pub switch_stands : HasAll code 79 (told_stop 3 0xE4)
-  switch_stands = has_front code 79 (told_stop 3 0xE4) (joined (drop 10 routines)) from_9
-
-  from_10 : HasAll code 83 (joined (drop 10 routines))
-  from_10 = has_back code 79 (told_stop 3 0xE4) (joined (drop 10 routines)) from_9
+  switch_stands = all.1.1.1.1.1.1.1.1.1.0
 
   pub depth_stands : HasAll code 83 (told_stop 6 0xE0)
-  depth_stands = has_front code 83 (told_stop 6 0xE0) (joined (drop 11 routines)) from_10
-
-  from_11 : HasAll code 87 (joined (drop 11 routines))
-  from_11 = has_back code 83 (told_stop 6 0xE0) (joined (drop 11 routines)) from_10
+  depth_stands = all.1.1.1.1.1.1.1.1.1.1.0
 
   pub frames_stands : HasAll code 87 (told_stop 5 0xDC)
-  frames_stands = has_front code 87 (told_stop 5 0xDC) (joined (drop 12 routines)) from_11
-
-  from_12 : HasAll code 91 (joined (drop 12 routines))
-  from_12 = has_back code 87 (told_stop 5 0xDC) (joined (drop 12 routines)) from_11
+  frames_stands = all.1.1.1.1.1.1.1.1.1.1.1.0
 
   pub enter_stands : HasAll code 91 enter_routine
-  enter_stands = has_front code 91 enter_routine (joined (drop 13 routines)) from_12
-
-  from_13 : HasAll code 130 (joined (drop 13 routines))
-  from_13 = has_back code 91 enter_routine (joined (drop 13 routines)) from_12
+  enter_stands = all.1.1.1.1.1.1.1.1.1.1.1.1.0
 
   pub read_stands : HasAll code 130 read_routine
-  read_stands = has_front code 130 read_routine (joined (drop 14 routines)) from_13
-
-  from_14 : HasAll code 145 (joined (drop 14 routines))
-  from_14 = has_back code 130 read_routine (joined (drop 14 routines)) from_13
+  read_stands = all.1.1.1.1.1.1.1.1.1.1.1.1.1.0
 
   pub set_variable_stands : HasAll code 145 set_variable_routine
-  set_variable_stands = has_front code 145 set_variable_routine (joined (drop 15 routines)) from_14
-
-  from_15 : HasAll code 163 (joined (drop 15 routines))
-  from_15 = has_back code 145 set_variable_routine (joined (drop 15 routines)) from_14
+  set_variable_stands = all.1.1.1.1.1.1.1.1.1.1.1.1.1.1.0
 
   pub add_step_stands : HasAll code 163 add_step_routine
-  add_step_stands = has_front code 163 add_step_routine (joined (drop 16 routines)) from_15
-
-  from_16 : HasAll code 185 (joined (drop 16 routines))
-  from_16 = has_back code 163 add_step_routine (joined (drop 16 routines)) from_15
+  add_step_stands = all.1.1.1.1.1.1.1.1.1.1.1.1.1.1.1.0
 
   pub put_variable_stands : HasAll code 185 put_variable_routine
-  put_variable_stands = has_front code 185 put_variable_routine (joined (drop 17 routines)) from_16
-
-  from_17 : HasAll code 203 (joined (drop 17 routines))
-  from_17 = has_back code 185 put_variable_routine (joined (drop 17 routines)) from_16
+  put_variable_stands = all.1.1.1.1.1.1.1.1.1.1.1.1.1.1.1.1.0
 
   pub exhausted_stands : HasAll code 203 exhausted_routine
-  exhausted_stands = has_front code 203 exhausted_routine (joined (drop 18 routines)) from_17
-
-  from_18 : HasAll code 236 (joined (drop 18 routines))
-  from_18 = has_back code 203 exhausted_routine (joined (drop 18 routines)) from_17
+  exhausted_stands = all.1.1.1.1.1.1.1.1.1.1.1.1.1.1.1.1.1.0
 
   pub product_stands : HasAll code 236 product_routine
-  product_stands = has_front code 236 product_routine (joined (drop 19 routines)) from_18
-
-  from_19 : HasAll code 261 (joined (drop 19 routines))
-  from_19 = has_back code 236 product_routine (joined (drop 19 routines)) from_18
+  product_stands = all.1.1.1.1.1.1.1.1.1.1.1.1.1.1.1.1.1.1.0
 
   pub too_large_stands : HasAll code 261 too_large
-  too_large_stands = has_front code 261 too_large (joined (drop 20 routines)) from_19
-
-  from_20 : HasAll code 266 (joined (drop 20 routines))
-  from_20 = has_back code 261 too_large (joined (drop 20 routines)) from_19
+  too_large_stands = all.1.1.1.1.1.1.1.1.1.1.1.1.1.1.1.1.1.1.1.0
 
   pub quotient_down_stands : HasAll code 266 quotient_down_routine
-  quotient_down_stands = has_front code 266 quotient_down_routine (joined (drop 21 routines)) from_20
-
-  from_21 : HasAll code 289 (joined (drop 21 routines))
-  from_21 = has_back code 266 quotient_down_routine (joined (drop 21 routines)) from_20
+  quotient_down_stands = all.1.1.1.1.1.1.1.1.1.1.1.1.1.1.1.1.1.1.1.1.0
 
   pub quotient_up_stands : HasAll code 289 quotient_up_routine
-  quotient_up_stands = has_front code 289 quotient_up_routine (joined (drop 22 routines)) from_21
-
-  from_22 : HasAll code 316 (joined (drop 22 routines))
-  from_22 = has_back code 289 quotient_up_routine (joined (drop 22 routines)) from_21
+  quotient_up_stands = all.1.1.1.1.1.1.1.1.1.1.1.1.1.1.1.1.1.1.1.1.1.0
 
   pub quotient_stands : HasAll code 316 quotient_end
-  quotient_stands = has_front code 316 quotient_end (joined (drop 23 routines)) from_22
-
-  from_23 : HasAll code 338 (joined (drop 23 routines))
-  from_23 = has_back code 316 quotient_end (joined (drop 23 routines)) from_22
+  quotient_stands = all.1.1.1.1.1.1.1.1.1.1.1.1.1.1.1.1.1.1.1.1.1.1.0
 
   pub next_step_stands : HasAll code 338 next_step_test
-  next_step_stands = has_front code 338 next_step_test (joined (drop 24 routines)) from_23
-
-  from_24 : HasAll code 344 (joined (drop 24 routines))
-  from_24 = has_back code 338 next_step_test (joined (drop 24 routines)) from_23
+  next_step_stands = all.1.1.1.1.1.1.1.1.1.1.1.1.1.1.1.1.1.1.1.1.1.1.1.0
 
   pub stepped_stands : HasAll code 344 stepped
-  stepped_stands = has_front code 344 stepped (joined (drop 25 routines)) from_24
-
-  from_25 : HasAll code 373 (joined (drop 25 routines))
-  from_25 = has_back code 344 stepped (joined (drop 25 routines)) from_24
+  stepped_stands = all.1.1.1.1.1.1.1.1.1.1.1.1.1.1.1.1.1.1.1.1.1.1.1.1.0
 
   pub left_stands : HasAll code 373 left
-  left_stands = has_front code 373 left (joined (drop 26 routines)) from_25
-
-  from_26 : HasAll code 378 (joined (drop 26 routines))
-  from_26 = has_back code 373 left (joined (drop 26 routines)) from_25
+  left_stands = all.1.1.1.1.1.1.1.1.1.1.1.1.1.1.1.1.1.1.1.1.1.1.1.1.1.0
 
   pub stepped_any_stands : HasAll code 378 stepped_any
-  stepped_any_stands = has_front code 378 stepped_any (joined (drop 27 routines)) from_26
-
-  from_27 : HasAll code 387 (joined (drop 27 routines))
-  from_27 = has_back code 378 stepped_any (joined (drop 27 routines)) from_26
+  stepped_any_stands = all.1.1.1.1.1.1.1.1.1.1.1.1.1.1.1.1.1.1.1.1.1.1.1.1.1.1.0
 
   pub turned_stands : HasAll code 387 turned
-  turned_stands = has_front code 387 turned (joined (drop 28 routines)) from_27
-
-  from_28 : HasAll code 416 (joined (drop 28 routines))
-  from_28 = has_back code 387 turned (joined (drop 28 routines)) from_27
+  turned_stands = all.1.1.1.1.1.1.1.1.1.1.1.1.1.1.1.1.1.1.1.1.1.1.1.1.1.1.1.0
 
   pub step_address_stands : HasAll code 416 step_address_stop
-  step_address_stands = has_front code 416 step_address_stop (joined (drop 29 routines)) from_28
-
-  from_29 : HasAll code 420 (joined (drop 29 routines))
-  from_29 = has_back code 416 step_address_stop (joined (drop 29 routines)) from_28
+  step_address_stands = all.1.1.1.1.1.1.1.1.1.1.1.1.1.1.1.1.1.1.1.1.1.1.1.1.1.1.1.1.0
 
   pub step_sum_stands : HasAll code 420 step_sum_stop
-  step_sum_stands = has_front code 420 step_sum_stop (joined (drop 30 routines)) from_29
-
-  from_30 : HasAll code 422 (joined (drop 30 routines))
-  from_30 = has_back code 420 step_sum_stop (joined (drop 30 routines)) from_29
+  step_sum_stands = all.1.1.1.1.1.1.1.1.1.1.1.1.1.1.1.1.1.1.1.1.1.1.1.1.1.1.1.1.1.0
 
   pub step_line_stands : HasAll code 422 step_line
-  step_line_stands = has_front code 422 step_line (joined (drop 31 routines)) from_30
-
-  from_31 : HasAll code 430 (joined (drop 31 routines))
-  from_31 = has_back code 422 step_line (joined (drop 31 routines)) from_30
+  step_line_stands = all.1.1.1.1.1.1.1.1.1.1.1.1.1.1.1.1.1.1.1.1.1.1.1.1.1.1.1.1.1.1.0
 
   pub enter_stop_stands : HasAll code 430 enter_stop
-  enter_stop_stands = has_front code 430 enter_stop (joined (drop 32 routines)) from_31
+  enter_stop_stands = all.1.1.1.1.1.1.1.1.1.1.1.1.1.1.1.1.1.1.1.1.1.1.1.1.1.1.1.1.1.1.1.0

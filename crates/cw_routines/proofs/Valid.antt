@@ -129,10 +129,10 @@ abbrev AllInstr : List Instr → Type 0
 AllInstr [] = Unit {0}
 AllInstr (i ∷ is) = IsInstr i × AllInstr is
 
-byte_there : (before bytes behind : List ℕ) (k : ℕ) → k < length bytes → get_or (before ++ (bytes ++ behind)) (length before + k) 0 ≡ get_or bytes k 0
+pub byte_there : (before bytes behind : List ℕ) (k : ℕ) → k < length bytes → get_or (before ++ (bytes ++ behind)) (length before + k) 0 ≡ get_or bytes k 0
 byte_there before bytes behind k lt = get_or-append-add before (bytes ++ behind) k 0 ∙ get_or_append_left bytes behind 0 k lt
 
-one_there : (image before behind : List ℕ) (place : ℕ) (i : Instr) → IsInstr i → place ≡ length before → image ≡ before ++ (bytes_of i ++ behind) → Has image place i
+pub one_there : (image before behind : List ℕ) (place : ℕ) (i : Instr) → IsInstr i → place ≡ length before → image ≡ before ++ (bytes_of i ++ behind) → Has image place i
 one_there image before behind place i instr at e = record {
   is_instr = instr;
   within = omega (arith, ap length e, length-append before (bytes_of i ++ behind), length-append (bytes_of i) behind);

@@ -16,11 +16,11 @@ use Rattle.cw_unit.specs.Work.{Work}
 use Rattle.cw_unit.specs.Configuration.{Activation, segment_of, control_at, procedure_in, procedure_at, frame_size_of, frame_top}
 use Rattle.cw_unit.specs.StackBound.{body_depth}
 use Rattle.cw_unit.specs.Step.{after, procedure_of_def, Writing, Calling, callee_of_place, callee_of_control, callee_of, Bound, bind_word, bind_control, bind_all, reversed_onto, first_operands, begun, handed, come_back, come_back_with, read_step, enter_framed, enter_procedure, enter_step}
-use Rattle.cw_safety.specs.Kinds.{Taken, TakesWord, TakesLabel, TakesSwitch, TakesProcedure, Kind, WordKind, LabelKind, SwitchKind, ProcedureKind, weight, weigh, kind_of_param, parameter_kinds, control_kinds, procedure_kind, taken_of, same_taken, all_same_taken, same_kind, same_kinds, suits_one, suits}
+use Rattle.cw_safety.specs.Kinds.{Taken, TakesWord, TakesLabel, TakesSwitch, TakesProcedure, Kind, WordKind, LabelKind, SwitchKind, ProcedureKind, weigh as weigh_kinds, kind_of_param, parameter_kinds, control_kinds, procedure_kind, taken_of, same_taken, all_same_taken, same_kind, same_kinds, suits_one, suits}
 use Rattle.cw_safety.specs.WellFormed.{WellFormed, takes_arguments, parameter_takes, procedure_of_place, controls_of, is_call}
 use Rattle.cw_safety.specs.Depth.{owner_of, depth_at, depth_of_procedure}
 use Rattle.cw_safety.proofs.Truth.{no, both}
-use Rattle.cw_safety.proofs.Typing.{onto, result, Pop, ControlFits, HasKind, HaveKinds, Fit, Typed, Holds, Safe}
+use Rattle.cw_safety.proofs.Typing.{Hand, Plain, weigh, onto, result, Pop, popped, ControlFits, HasKind, HaveKinds, Fit, Typed, Holds, Safe}
 use Rattle.cw_safety.proofs.Performing.{Good, perform-good, read_byte-good}
 use Rattle.cw_safety.proofs.Jumping.{control-fits}
 
@@ -155,27 +155,27 @@ other-operands n xs ys e =
     ap (λ m. drop m (reversed_onto xs ys)) l ∙ ap (λ zs. drop (length r) zs) (reversed-append xs [] ys) ∙ drop-append_seam r ys
 
 -- arguments are with what is below them as many words as both
-pub weigh-onto : (args rest : List Kind) → weigh (onto args rest) ≡ weigh args + weigh rest
+pub weigh-onto : (args : List Kind) (rest : List Hand) → weigh (onto args rest) ≡ weigh_kinds args + weigh rest
 weigh-onto [] rest = omega arith
-weigh-onto (k ∷ args) rest = omega (arith, weigh-onto args (k ∷ rest))
+weigh-onto (k ∷ args) rest = omega (arith, weigh-onto args (Plain k ∷ rest))
 
 module _ (p : Program) (acts : List Activation) where
-  pub kinds-length : (xs : List Operand) (ks : List Kind) → HaveKinds p acts xs ks → length xs ≡ length ks
+  pub kinds-length : (xs : List Operand) (ks : List Hand) → HaveKinds p acts xs ks → length xs ≡ length ks
   kinds-length [] [] h = refl
   kinds-length [] (k ∷ ks) h = absurd h
   kinds-length (x ∷ xs) [] h = absurd h
   kinds-length (x ∷ xs) (k ∷ ks) h = omega (arith, kinds-length xs ks h.1)
 
   -- the arguments, and the operands below them
-  parted : (args rest : List Kind) (xs : List Operand) → HaveKinds p acts xs (onto args rest) → (ys : List Operand) × (zs : List Operand) × (xs ≡ reversed_onto ys zs) × HaveKinds p acts ys args × HaveKinds p acts zs rest
+  parted : (args : List Kind) (rest : List Hand) (xs : List Operand) → HaveKinds p acts xs (onto args rest) → (ys : List Operand) × (zs : List Operand) × (xs ≡ reversed_onto ys zs) × HaveKinds p acts ys (map Plain args) × HaveKinds p acts zs rest
   parted [] rest xs h = ([], xs, refl, tt, h)
-  parted (k ∷ args) rest xs h = at (parted args (k ∷ rest) xs h)
+  parted (k ∷ args) rest xs h = at (parted args (Plain k ∷ rest) xs h)
     where
-      with_top : (ys zs : List Operand) → xs ≡ reversed_onto ys zs → HaveKinds p acts ys args → HaveKinds p acts zs (k ∷ rest) → (ys' : List Operand) × (zs' : List Operand) × (xs ≡ reversed_onto ys' zs') × HaveKinds p acts ys' (k ∷ args) × HaveKinds p acts zs' rest
+      with_top : (ys zs : List Operand) → xs ≡ reversed_onto ys zs → HaveKinds p acts ys (map Plain args) → HaveKinds p acts zs (Plain k ∷ rest) → (ys' : List Operand) × (zs' : List Operand) × (xs ≡ reversed_onto ys' zs') × HaveKinds p acts ys' (map Plain (k ∷ args)) × HaveKinds p acts zs' rest
       with_top ys [] e a b = absurd b
       with_top ys (z ∷ zs) e a b = (z ∷ ys, zs, e, (b.0, a), b.1)
 
-      at : (ys : List Operand) × (zs : List Operand) × (xs ≡ reversed_onto ys zs) × HaveKinds p acts ys args × HaveKinds p acts zs (k ∷ rest) → (ys' : List Operand) × (zs' : List Operand) × (xs ≡ reversed_onto ys' zs') × HaveKinds p acts ys' (k ∷ args) × HaveKinds p acts zs' rest
+      at : (ys : List Operand) × (zs : List Operand) × (xs ≡ reversed_onto ys zs) × HaveKinds p acts ys (map Plain args) × HaveKinds p acts zs (Plain k ∷ rest) → (ys' : List Operand) × (zs' : List Operand) × (xs ≡ reversed_onto ys' zs') × HaveKinds p acts ys' (map Plain (k ∷ args)) × HaveKinds p acts zs' rest
       at t = with_top t.0 t.1 t.2 t.3 t.4
 
   -- ---- parameters
@@ -202,7 +202,7 @@ module _ (p : Program) (acts : List Activation) where
       let b' : Bound = record b { controls = b.controls ++ c ∷ [] } in
       subst (BoundFits (bind_all f qs xs (Some b'))) (append_assoc ks (m ∷ []) cs) (rest b' (ks ++ m ∷ []) (fit-more b.controls ks c m fit h))
 
-  bound : (f : ℕ → ℕ) (qs : List Param) (xs : List Operand) (b : Bound) (ks : List Kind) → HaveKinds p acts xs (map kind_of_param qs) → Fit p acts b.controls ks → BoundFits (bind_all f qs xs (Some b)) (ks ++ control_kinds (map kind_of_param qs))
+  bound : (f : ℕ → ℕ) (qs : List Param) (xs : List Operand) (b : Bound) (ks : List Kind) → HaveKinds p acts xs (map Plain (map kind_of_param qs)) → Fit p acts b.controls ks → BoundFits (bind_all f qs xs (Some b)) (ks ++ control_kinds (map kind_of_param qs))
   bound f [] [] b ks h fit = subst (Fit p acts b.controls) (sym (append-nil ks)) fit
   bound f [] (x ∷ xs) b ks h fit = absurd h
   bound f (q ∷ qs) [] b ks h fit = absurd h
@@ -239,7 +239,7 @@ module _ (p : Program) where
   after-safe Impossible s line now next acts w i n = absurd n
 
   module _ (wf : WellFormed p) where
-    begun-safe : (s g q : ℕ) (proc : Proc) (wanted : Bool) (base : ℕ) (now k : Work) (acts : List Activation) (w : Words) (b : Option Bound) (rest : List Kind) → Holds p s now acts w → procedure_at p g q ≡ Some proc → BoundFits p acts b (control_kinds (parameter_kinds proc)) → HaveKinds p acts (drop (length proc.params) w.operands) rest → weigh (result wanted rest) ≤ depth_at p s acts → weigh (parameter_kinds proc) + weigh rest ≤ depth_at p s acts → Typed p (segment_of s acts) (owner_of acts) (depth_at p s acts) k (result wanted rest) → Safe p (begun s g q proc wanted base now k acts w b)
+    begun-safe : (s g q : ℕ) (proc : Proc) (wanted : Bool) (base : ℕ) (now k : Work) (acts : List Activation) (w : Words) (b : Option Bound) (rest : List Hand) → Holds p s now acts w → procedure_at p g q ≡ Some proc → BoundFits p acts b (control_kinds (parameter_kinds proc)) → HaveKinds p acts (drop (length proc.params) w.operands) rest → weigh (result wanted rest) ≤ depth_at p s acts → weigh_kinds (parameter_kinds proc) + weigh rest ≤ depth_at p s acts → Typed p (segment_of s acts) (owner_of acts) (depth_at p s acts) k (result wanted rest) → Safe p (begun s g q proc wanted base now k acts w b)
     begun-safe s g q proc wanted base now k acts w None rest i e b h d m t = absurd b
     begun-safe s g q proc wanted base now k acts w (Some b') rest i e b h d m t =
         let u = unit_of-procedure (slice_get p.units g) q proc e in
@@ -256,24 +256,24 @@ module _ (p : Program) where
           ),
         )
 
-    enter_framed-safe : (t : Bool) (s line g q : ℕ) (proc : Proc) (wanted : Bool) (now k : Work) (acts : List Activation) (w : Words) (rest : List Kind) → (i : Holds p s now acts w) → procedure_at p g q ≡ Some proc → i.3 ≡ onto (parameter_kinds proc) rest → weigh (result wanted rest) ≤ depth_at p s acts → Typed p (segment_of s acts) (owner_of acts) (depth_at p s acts) k (result wanted rest) → Safe p (enter_framed p t s line g q proc wanted now k acts w)
+    enter_framed-safe : (t : Bool) (s line g q : ℕ) (proc : Proc) (wanted : Bool) (now k : Work) (acts : List Activation) (w : Words) (rest : List Hand) → (i : Holds p s now acts w) → procedure_at p g q ≡ Some proc → i.3 ≡ onto (parameter_kinds proc) rest → weigh (result wanted rest) ≤ depth_at p s acts → Typed p (segment_of s acts) (owner_of acts) (depth_at p s acts) k (result wanted rest) → Safe p (enter_framed p t s line g q proc wanted now k acts w)
     enter_framed-safe false s line g q proc wanted now k acts w rest i e f d t = (tt, i)
     enter_framed-safe true s line g q proc wanted now k acts w rest i e f d t =
         let n : ℕ = length proc.params in
         let parts = parted p acts (parameter_kinds proc) rest w.operands (subst (HaveKinds p acts w.operands) f i.4) in
-        let m : n ≡ length parts.0 = sym (kinds-length p acts parts.0 (parameter_kinds proc) parts.3 ∙ length-map proc.params kind_of_param) in
+        let m : n ≡ length parts.0 = sym (kinds-length p acts parts.0 (map Plain (parameter_kinds proc)) parts.3 ∙ length-map (parameter_kinds proc) Plain ∙ length-map proc.params kind_of_param) in
         let firsts : first_operands n w.operands ≡ parts.0 = ap (first_operands n) parts.2 ∙ first-operands n parts.0 parts.1 m in
         let others : drop n w.operands ≡ parts.1 = ap (drop n) parts.2 ∙ other-operands n parts.0 parts.1 m in
         let item : ℕ → ℕ = λ j. item_address p g j (frame_top p acts) in
         let start : Bound = record { memory = w.memory; controls = [] } in
         begun-safe s g q proc wanted (frame_top p acts) now k acts w (bind_all item proc.params (first_operands n w.operands) (Some start)) rest i e
-        (bound p acts item proc.params (first_operands n w.operands) start [] (subst (λ xs. HaveKinds p acts xs (parameter_kinds proc)) (sym firsts) parts.3) tt)
+        (bound p acts item proc.params (first_operands n w.operands) start [] (subst (λ xs. HaveKinds p acts xs (map Plain (parameter_kinds proc))) (sym firsts) parts.3) tt)
         (subst (λ xs. HaveKinds p acts xs rest) (sym others) parts.4)
         d
         (omega (arith, i.5, ap weigh f, weigh-onto (parameter_kinds proc) rest))
         t
 
-    enter_procedure-safe : (b : Bool) (x : Option Proc) (s line g q : ℕ) (wanted : Bool) (now k : Work) (acts : List Activation) (w : Words) (args rest : List Kind) → (i : Holds p s now acts w) → procedure_at p g q ≡ x → IsTrue (takes_arguments x args) → i.3 ≡ onto args rest → weigh (result wanted rest) ≤ depth_at p s acts → Typed p (segment_of s acts) (owner_of acts) (depth_at p s acts) k (result wanted rest) → Safe p (enter_procedure p b x s line g q wanted now k acts w)
+    enter_procedure-safe : (b : Bool) (x : Option Proc) (s line g q : ℕ) (wanted : Bool) (now k : Work) (acts : List Activation) (w : Words) (args : List Kind) (rest : List Hand) → (i : Holds p s now acts w) → procedure_at p g q ≡ x → IsTrue (takes_arguments x args) → i.3 ≡ onto args rest → weigh (result wanted rest) ≤ depth_at p s acts → Typed p (segment_of s acts) (owner_of acts) (depth_at p s acts) k (result wanted rest) → Safe p (enter_procedure p b x s line g q wanted now k acts w)
     enter_procedure-safe true None s line g q wanted now k acts w args rest i e a f d t = no a
     enter_procedure-safe false None s line g q wanted now k acts w args rest i e a f d t = no a
     enter_procedure-safe false (Some proc) s line g q wanted now k acts w args rest i e a f d t = (tt, i)
@@ -284,11 +284,11 @@ module _ (p : Program) where
         t
 
     -- a call of what takes these arguments
-    calling-safe : (g q s line : ℕ) (wanted : Bool) (now k : Work) (acts : List Activation) (w : Words) (args rest : List Kind) → (i : Holds p s now acts w) → IsTrue (takes_arguments (procedure_at p g q) args) → i.3 ≡ onto args rest → weigh (result wanted rest) ≤ depth_at p s acts → Typed p (segment_of s acts) (owner_of acts) (depth_at p s acts) k (result wanted rest) → Safe p (enter_step p (Calling g q) s line wanted now k acts w)
+    calling-safe : (g q s line : ℕ) (wanted : Bool) (now k : Work) (acts : List Activation) (w : Words) (args : List Kind) (rest : List Hand) → (i : Holds p s now acts w) → IsTrue (takes_arguments (procedure_at p g q) args) → i.3 ≡ onto args rest → weigh (result wanted rest) ≤ depth_at p s acts → Typed p (segment_of s acts) (owner_of acts) (depth_at p s acts) k (result wanted rest) → Safe p (enter_step p (Calling g q) s line wanted now k acts w)
     calling-safe g q s line wanted now k acts w args rest i a f d t =
         enter_procedure-safe (nat_lt (length acts) p.limits.depth) (procedure_at p g q) s line g q wanted now k acts w args rest i refl a f d t
 
-    place-safe : (x : Option (ℕ × ℕ)) (s line : ℕ) (wanted : Bool) (now k : Work) (acts : List Activation) (w : Words) (args rest : List Kind) → (i : Holds p s now acts w) → IsTrue (takes_arguments (procedure_of_place p x) args) → i.3 ≡ onto args rest → weigh (result wanted rest) ≤ depth_at p s acts → Typed p (segment_of s acts) (owner_of acts) (depth_at p s acts) k (result wanted rest) → Safe p (enter_step p (callee_of_place x) s line wanted now k acts w)
+    place-safe : (x : Option (ℕ × ℕ)) (s line : ℕ) (wanted : Bool) (now k : Work) (acts : List Activation) (w : Words) (args : List Kind) (rest : List Hand) → (i : Holds p s now acts w) → IsTrue (takes_arguments (procedure_of_place p x) args) → i.3 ≡ onto args rest → weigh (result wanted rest) ≤ depth_at p s acts → Typed p (segment_of s acts) (owner_of acts) (depth_at p s acts) k (result wanted rest) → Safe p (enter_step p (callee_of_place x) s line wanted now k acts w)
     place-safe None s line wanted now k acts w args rest i a f d t = no a
     place-safe (Some q) s line wanted now k acts w args rest i a f d t = calling-safe q.0 q.1 s line wanted now k acts w args rest i a f d t
 
@@ -299,13 +299,13 @@ module _ (p : Program) where
         let equal : args ≡ parameter_kinds q = suits-same args (parameter_kinds q) (subst (λ us. IsTrue (suits args us)) (sym same) h) in
         subst (λ xs. IsTrue (same_kinds args xs)) equal (same-kinds args)
 
-    control-safe : (c : Control) (ts : List Taken) (s line : ℕ) (wanted : Bool) (now k : Work) (acts : List Activation) (w : Words) (args rest : List Kind) → (i : Holds p s now acts w) → ControlFits p acts c (ProcedureKind ts) → IsTrue (suits args ts) → i.3 ≡ onto args rest → weigh (result wanted rest) ≤ depth_at p s acts → Typed p (segment_of s acts) (owner_of acts) (depth_at p s acts) k (result wanted rest) → Safe p (enter_step p (callee_of_control (Some c)) s line wanted now k acts w)
+    control-safe : (c : Control) (ts : List Taken) (s line : ℕ) (wanted : Bool) (now k : Work) (acts : List Activation) (w : Words) (args : List Kind) (rest : List Hand) → (i : Holds p s now acts w) → ControlFits p acts c (ProcedureKind ts) → IsTrue (suits args ts) → i.3 ≡ onto args rest → weigh (result wanted rest) ≤ depth_at p s acts → Typed p (segment_of s acts) (owner_of acts) (depth_at p s acts) k (result wanted rest) → Safe p (enter_step p (callee_of_control (Some c)) s line wanted now k acts w)
     control-safe (LabelControl g l owner) ts s line wanted now k acts w args rest i c a f d t = absurd c
     control-safe (SwitchControl g l owner) ts s line wanted now k acts w args rest i c a f d t = absurd c
     control-safe (ProcedureControl g q) ts s line wanted now k acts w args rest i c a f d t =
         calling-safe g q s line wanted now k acts w args rest i (suited (procedure_at p g q) ts args c a) f d t
 
-    parameter-safe : (n : ℕ) (x : Option Kind) (s line : ℕ) (wanted : Bool) (now k : Work) (acts : List Activation) (w : Words) (args rest : List Kind) → (i : Holds p s now acts w) → slice_get (controls_of p (owner_of acts)) n ≡ x → IsTrue (parameter_takes x args) → i.3 ≡ onto args rest → weigh (result wanted rest) ≤ depth_at p s acts → Typed p (segment_of s acts) (owner_of acts) (depth_at p s acts) k (result wanted rest) → Safe p (enter_step p (callee_of_control (control_at acts n)) s line wanted now k acts w)
+    parameter-safe : (n : ℕ) (x : Option Kind) (s line : ℕ) (wanted : Bool) (now k : Work) (acts : List Activation) (w : Words) (args : List Kind) (rest : List Hand) → (i : Holds p s now acts w) → slice_get (controls_of p (owner_of acts)) n ≡ x → IsTrue (parameter_takes x args) → i.3 ≡ onto args rest → weigh (result wanted rest) ≤ depth_at p s acts → Typed p (segment_of s acts) (owner_of acts) (depth_at p s acts) k (result wanted rest) → Safe p (enter_step p (callee_of_control (control_at acts n)) s line wanted now k acts w)
     parameter-safe n None s line wanted now k acts w args rest i e a f d t = no a
     parameter-safe n (Some WordKind) s line wanted now k acts w args rest i e a f d t = no a
     parameter-safe n (Some LabelKind) s line wanted now k acts w args rest i e a f d t = no a
@@ -315,7 +315,7 @@ module _ (p : Program) where
         subst (λ x. Safe p (enter_step p (callee_of_control x) s line wanted now k acts w)) (sym c.1)
         (control-safe c.0 ts s line wanted now k acts w args rest i c.2 a f d t)
 
-    reading-safe : (wanted : Bool) (s line : ℕ) (now k : Work) (acts : List Activation) (w : Words) (rest : List Kind) → (i : Holds p s now acts w) → i.3 ≡ rest → weigh (result wanted rest) ≤ depth_at p s acts → Typed p (segment_of s acts) (owner_of acts) (depth_at p s acts) k (result wanted rest) → Safe p (read_step p wanted s line now k acts w)
+    reading-safe : (wanted : Bool) (s line : ℕ) (now k : Work) (acts : List Activation) (w : Words) (rest : List Hand) → (i : Holds p s now acts w) → i.3 ≡ rest → weigh (result wanted rest) ≤ depth_at p s acts → Typed p (segment_of s acts) (owner_of acts) (depth_at p s acts) k (result wanted rest) → Safe p (read_step p wanted s line now k acts w)
     reading-safe true s line now k acts w rest i f d t =
         after-safe (perform p.limits.area ReadByte w) s line now k acts w i
         (read_byte-good p acts (depth_at p s acts) (Typed p (segment_of s acts) (owner_of acts) (depth_at p s acts) k) p.limits.area w rest
@@ -324,17 +324,17 @@ module _ (p : Program) where
         t)
     reading-safe false s line now k acts w rest i f d t = (tt, (i.0, i.1, i.2, rest, subst (HaveKinds p acts w.operands) f i.4, d, t))
 
-    writing-safe : (wanted : Bool) (s line : ℕ) (now k : Work) (acts : List Activation) (w : Words) (args rest : List Kind) → (i : Holds p s now acts w) → IsTrue (not wanted && same_kinds args (WordKind ∷ [])) → i.3 ≡ onto args rest → Typed p (segment_of s acts) (owner_of acts) (depth_at p s acts) k (result wanted rest) → Safe p (enter_step p Writing s line wanted now k acts w)
+    writing-safe : (wanted : Bool) (s line : ℕ) (now k : Work) (acts : List Activation) (w : Words) (args : List Kind) (rest : List Hand) → (i : Holds p s now acts w) → IsTrue (not wanted && same_kinds args (WordKind ∷ [])) → i.3 ≡ onto args rest → Typed p (segment_of s acts) (owner_of acts) (depth_at p s acts) k (result wanted rest) → Safe p (enter_step p Writing s line wanted now k acts w)
     writing-safe true s line now k acts w args rest i a f t = no a
     writing-safe false s line now k acts w args rest i a f t =
-        let e : i.3 ≡ WordKind ∷ rest = f ∙ ap (λ xs. onto xs rest) (kinds-same args (WordKind ∷ []) a) in
+        let e : i.3 ≡ Plain WordKind ∷ rest = f ∙ ap (λ xs. onto xs rest) (kinds-same args (WordKind ∷ []) a) in
         after-safe (perform p.limits.area WriteByte w) s line now k acts w i
-        (perform-good p acts (depth_at p s acts) (Typed p (segment_of s acts) (owner_of acts) (depth_at p s acts) k) p.limits.area WriteByte w (WordKind ∷ rest)
+        (perform-good p acts (depth_at p s acts) (Typed p (segment_of s acts) (owner_of acts) (depth_at p s acts) k) p.limits.area WriteByte w (Plain WordKind ∷ rest)
         (subst (HaveKinds p acts w.operands) e i.4)
         (subst (λ xs. weigh xs ≤ depth_at p s acts) e i.5)
         t)
 
-    pub enter_step-safe : (c : Target) (s line : ℕ) (wanted : Bool) (now k : Work) (acts : List Activation) (w : Words) (args rest : List Kind) → (i : Holds p s now acts w) → IsTrue (is_call p (segment_of s acts) (owner_of acts) wanted c (Some args)) → i.3 ≡ onto args rest → weigh (result wanted rest) ≤ depth_at p s acts → Typed p (segment_of s acts) (owner_of acts) (depth_at p s acts) k (result wanted rest) → Safe p (enter_step p (callee_of p (segment_of s acts) acts c) s line wanted now k acts w)
+    pub enter_step-safe : (c : Target) (s line : ℕ) (wanted : Bool) (now k : Work) (acts : List Activation) (w : Words) (args : List Kind) (rest : List Hand) → (i : Holds p s now acts w) → IsTrue (is_call p (segment_of s acts) (owner_of acts) wanted c (Some args)) → i.3 ≡ onto args rest → weigh (result wanted rest) ≤ depth_at p s acts → Typed p (segment_of s acts) (owner_of acts) (depth_at p s acts) k (result wanted rest) → Safe p (enter_step p (callee_of p (segment_of s acts) acts c) s line wanted now k acts w)
     enter_step-safe (target.Own q) s line wanted now k acts w args rest i a f d t = calling-safe (segment_of s acts) q s line wanted now k acts w args rest i a f d t
     enter_step-safe (target.Common m) s line wanted now k acts w args rest i a f d t =
         place-safe (procedure_of_def (definition_of p (segment_of s acts) m)) s line wanted now k acts w args rest i a f d t
@@ -346,7 +346,7 @@ module _ (p : Program) where
 
   -- ---- returns
 
-  handed-kinds : (acts : List Activation) (wanted : Bool) (z : ℤ) (xs : List Operand) (ks : List Kind) → HaveKinds p acts xs ks → HaveKinds p acts (handed wanted z xs) (result wanted ks)
+  handed-kinds : (acts : List Activation) (wanted : Bool) (z : ℤ) (xs : List Operand) (ks : List Hand) → HaveKinds p acts xs ks → HaveKinds p acts (handed wanted z xs) (result wanted ks)
   handed-kinds acts true z xs ks h = (tt, h)
   handed-kinds acts false z xs ks h = h
 
@@ -355,17 +355,6 @@ module _ (p : Program) where
   come_back-safe z s now (a ∷ acts) w i h =
       let c = i.2 in (tt, (i.0, i.1, c.8, result a.wanted c.3, handed-kinds acts a.wanted z a.operands c.3 c.4, c.5, c.7))
 
-  come_back_with-kinds : (xs : List Operand) (ks : List Kind) (s : ℕ) (now : Work) (acts : List Activation) (w : Words) → Holds p s now acts w → HaveKinds p acts xs ks → Pop (λ r. Unit {0}) ks → IsTrue (is_some (owner_of acts)) → Safe p (come_back_with xs s now acts w)
-  come_back_with-kinds [] [] s now acts w i k q h = absurd q
-  come_back_with-kinds [] (m ∷ ks) s now acts w i k q h = absurd k
-  come_back_with-kinds (x ∷ xs) [] s now acts w i k q h = absurd q
-  come_back_with-kinds (Word z ∷ xs) (m ∷ ks) s now acts w i k q h = come_back-safe z s now acts w i h
-  come_back_with-kinds (Held (LabelControl a b c) ∷ xs) (WordKind ∷ ks) s now acts w i k q h = absurd k.0
-  come_back_with-kinds (Held (SwitchControl a b c) ∷ xs) (WordKind ∷ ks) s now acts w i k q h = absurd k.0
-  come_back_with-kinds (Held (ProcedureControl a b) ∷ xs) (WordKind ∷ ks) s now acts w i k q h = absurd k.0
-  come_back_with-kinds (Held c ∷ xs) (LabelKind ∷ ks) s now acts w i k q h = absurd q
-  come_back_with-kinds (Held c ∷ xs) (SwitchKind ∷ ks) s now acts w i k q h = absurd q
-  come_back_with-kinds (Held c ∷ xs) (ProcedureKind ts ∷ ks) s now acts w i k q h = absurd q
-
   pub come_back_with-safe : (s : ℕ) (now : Work) (acts : List Activation) (w : Words) (i : Holds p s now acts w) → Pop (λ r. Unit {0}) i.3 → IsTrue (is_some (owner_of acts)) → Safe p (come_back_with w.operands s now acts w)
-  come_back_with-safe s now acts w i q h = come_back_with-kinds w.operands i.3 s now acts w i i.4 q h
+  come_back_with-safe s now acts w i q h =
+      let t = popped p (λ r. Unit {0}) acts w.operands i.3 i.4 q in subst (λ xs. Safe p (come_back_with xs s now acts w)) (sym t.is) (come_back-safe t.word s now acts w i h)

@@ -11,26 +11,27 @@ use Rattle.cw_unit.specs.declared.unit.Dest.{Dest}
 use Rattle.cw_unit.specs.declared.unit.Dest.TheVariants as dest
 use Rattle.cw_unit.specs.declared.unit.Target.{Target}
 use Rattle.cw_unit.specs.declared.unit.Target.TheVariants as target
+use Rattle.cw_unit.specs.declared.unit.Arg.TheOpen as layer
 use Rattle.cw_unit.specs.Program.{Program, definition_of}
 use Rattle.cw_unit.specs.Words.{Control, LabelControl, SwitchControl, ProcedureControl, Operand, Word, Held, Words}
 use Rattle.cw_unit.specs.Work.{Work, Nothing, Jump, Enter}
 use Rattle.cw_unit.specs.Configuration.{Configuration, at, Activation, activations_of, segment_of, control_at, procedure_at, procedure_in}
 use Rattle.cw_unit.specs.StackBound.{body_need, procedures_need, unit_need, largest_need, control_need, body_depth}
-use Rattle.cw_unit.specs.Step.{Callee, Reading, Writing, Calling, Missing, callee_of_place, callee_of_control, callee_of, procedure_of_def, kept, label_of_goal, switch_of_def, switch_in, goal_at}
+use Rattle.cw_unit.specs.Step.{here, compares_in, Callee, Reading, Writing, Calling, Missing, callee_of_place, callee_of_control, callee_of, procedure_of_def, kept, label_of_goal, switch_of_def, switch_in, goal_at}
 use Rattle.cw_unit.specs.Behaviour.{configuration_after}
 use Rattle.cw_safety.specs.Kinds.{Taken, Kind, WordKind, LabelKind, SwitchKind, ProcedureKind, weigh, kind_of_param, parameter_kinds}
 use Rattle.cw_safety.specs.WellFormed.{WellFormed, is_at, sets_in_procedure, reaches_label, reaches_unit, reaches, reaches_goals, reaches_list, reaches_switch, takes_arguments, parameter_takes, procedure_of_place, controls_of, is_call, is_label, is_switch}
 use Rattle.cw_safety.specs.Depth.{owner_of, operands_held, depth_at, depth_of_unit, depth_of_procedure}
-use Rattle.cw_safety.specs.Coherent.{argument_words, stack_words, words_held, IsOwned, Names, Coherent, IsCoherent}
+use Rattle.cw_safety.specs.Coherent.{argument_words, stack_words, words_held, IsOwned, Names, LieBetween, Coherent, IsCoherent}
 use Rattle.cw_safety.proofs.Truth.{no, both, nat_same}
-use Rattle.cw_safety.proofs.Typing.{onto, Pop, ControlFits, HaveKinds, CanJump, Typed, Calls, Holds, Safe}
+use Rattle.cw_safety.proofs.Typing.{Hand, Plain, Between, AreBetween, onto, Pop, ControlFits, HaveKinds, CanJump, Typed, Calls, Holds, Safe}
 use Rattle.cw_safety.proofs.Jumping.{label-of, switch-of, control-fits, goal_at-reached, named-here, switched-here}
 use Rattle.cw_safety.proofs.Calling.{kinds-same, kinds-length, unit_of-procedure, suited}
 use Rattle.cw_safety.proofs.Stepping.{run-safe, held-weighs}
 
-pub length-onto : (args rest : List Kind) → length (onto args rest) ≡ length args + length rest
+pub length-onto : (args : List Kind) (rest : List Hand) → length (onto args rest) ≡ length args + length rest
 length-onto [] rest = omega arith
-length-onto (k ∷ args) rest = omega (arith, length-onto args (k ∷ rest))
+length-onto (k ∷ args) rest = omega (arith, length-onto args (Plain k ∷ rest))
 
 module _ (p : Program) where
   -- what a call calls takes these arguments
@@ -62,7 +63,7 @@ module _ (p : Program) where
     owned-here : (acts : List Activation) (h label owner : ℕ) → owner ≡ length acts → IsTrue (reaches p (owner_of acts) (Some (h, label))) → IsOwned p acts h label owner
     owned-here acts h label owner e r = owned acts h label owner (subst (λ n. IsTrue (reaches p (owner_of (kept n acts)) (Some (h, label)))) (sym e) (named-here p wf acts (Some (h, label)) r))
 
-    jump-owned : (d : Dest) (s : ℕ) (acts : List Activation) (ks : List Kind) → Calls p s acts → CanJump p (segment_of s acts) (owner_of acts) (depth_at p s acts) d ks → (h label owner : ℕ) → Names p s acts d h label owner → IsOwned p acts h label owner
+    jump-owned : (d : Dest) (s : ℕ) (acts : List Activation) (ks : List Hand) → Calls p s acts → CanJump p (segment_of s acts) (owner_of acts) (depth_at p s acts) d ks → (h label owner : ℕ) → Names p s acts d h label owner → IsOwned p acts h label owner
     jump-owned (dest.Goal g) s acts ks calls j h label owner n = owned-here acts h label owner n.1 (subst (λ x. IsTrue (reaches p (owner_of acts) x)) n.0 j.1)
     jump-owned (dest.Special k) s acts ks calls j h label owner n =
         let f = control-fits p s acts calls k LabelKind (label-of (slice_get (controls_of p (owner_of acts)) k) j) in
@@ -104,7 +105,7 @@ module _ (p : Program) where
     call-takes target.Read s acts wanted args calls r = tt
     call-takes target.Write s acts wanted args calls r = tt
 
-    enough : (s : ℕ) (now : Work) (acts : List Activation) (w : Words) (t : Target) (wanted : Bool) (args rest : List Kind) (h n : ℕ) (q : Proc) → (i : Holds p s now acts w) → i.3 ≡ onto args rest → IsTrue (is_call p (segment_of s acts) (owner_of acts) wanted t (Some args)) → callee_of p (segment_of s acts) acts t ≡ Calling h n → procedure_at p h n ≡ Some q → length q.params ≤ length w.operands
+    enough : (s : ℕ) (now : Work) (acts : List Activation) (w : Words) (t : Target) (wanted : Bool) (args : List Kind) (rest : List Hand) (h n : ℕ) (q : Proc) → (i : Holds p s now acts w) → i.3 ≡ onto args rest → IsTrue (is_call p (segment_of s acts) (owner_of acts) wanted t (Some args)) → callee_of p (segment_of s acts) acts t ≡ Calling h n → procedure_at p h n ≡ Some q → length q.params ≤ length w.operands
     enough s now acts w t wanted args rest h n q i f call callee found =
         let takes = subst (λ x. Takes x args) callee (call-takes t s acts wanted args i.2 call) in
         let same : args ≡ parameter_kinds q = kinds-same args (parameter_kinds q) (subst (λ x. IsTrue (takes_arguments x args)) found takes) in
@@ -116,16 +117,24 @@ module _ (p : Program) where
 
     -- ---- what each configuration keeps
 
-    nothing-held : (acts : List Activation) (xs : List Operand) (ks : List Kind) → ks ≡ [] → HaveKinds p acts xs ks → xs ≡ []
+    nothing-held : (acts : List Activation) (xs : List Operand) (ks : List Hand) → ks ≡ [] → HaveKinds p acts xs ks → xs ≡ []
     nothing-held acts [] ks e h = refl
     nothing-held acts (x ∷ xs) ks e h = absurd (subst (HaveKinds p acts (x ∷ xs)) e h)
 
-    nothing-left : (ks : List Kind) → Pop (λ r. r ≡ []) ks → length ks ≡ 1
+    nothing-left : (ks : List Hand) → Pop (λ r. r ≡ []) ks → length ks ≡ 1
     nothing-left [] h = absurd h
-    nothing-left (WordKind ∷ ks) h = ap (λ r. suc (length r)) h
-    nothing-left (LabelKind ∷ ks) h = absurd h
-    nothing-left (SwitchKind ∷ ks) h = absurd h
-    nothing-left (ProcedureKind ts ∷ ks) h = absurd h
+    nothing-left (Plain WordKind ∷ ks) h = ap (λ r. suc (length r)) h
+    nothing-left (Plain LabelKind ∷ ks) h = absurd h
+    nothing-left (Plain SwitchKind ∷ ks) h = absurd h
+    nothing-left (Plain (ProcedureKind ts) ∷ ks) h = absurd h
+    nothing-left (Between l u ∷ ks) h = ap (λ r. suc (length r)) h
+
+    lie-between : (acts : List Activation) (l1 u1 l2 u2 : ℤ) (xs : List Operand) (ks : List Hand) → HaveKinds p acts xs (Between l2 u2 ∷ Between l1 u1 ∷ ks) → LieBetween l1 u1 l2 u2 xs
+    lie-between acts l1 u1 l2 u2 [] ks h = absurd h
+    lie-between acts l1 u1 l2 u2 (Held c ∷ xs) ks h = absurd h.0
+    lie-between acts l1 u1 l2 u2 (Word y ∷ []) ks h = absurd h.1
+    lie-between acts l1 u1 l2 u2 (Word y ∷ Held c ∷ xs) ks h = absurd h.1.0
+    lie-between acts l1 u1 l2 u2 (Word y ∷ Word x ∷ xs) ks h = record { row = x; column = y; rest = xs; is = refl; row_between = h.1.0; column_between = h.0 }
 
     no-calls : (acts : List Activation) → owner_of acts ≡ None → acts ≡ []
     no-calls [] e = refl
@@ -144,6 +153,10 @@ module _ (p : Program) where
       empty = λ g line e. let j = subst (λ x. Holds p s x acts w) e i in nothing-held acts w.operands j.3 j.6.0 j.4;
       alone = λ n a line e. let j = subst (λ x. Holds p s x acts w) e i in kinds-length p acts w.operands j.3 j.4 ∙ nothing-left j.3 j.6.0;
       owners = λ d line e h label owner n. let j = subst (λ x. Holds p s x acts w) e i in jump-owned d s acts j.3 j.2 j.6 h label owner n;
+      compared = λ spot line next e compares item l1 u1 l2 u2 n d g is.
+          let j = subst (λ x. Holds p s x acts w) e i in
+          let two : AreBetween (layer.Two item l1 u1 l2 u2 n d g) true j.3 = subst (λ b. AreBetween (layer.Two item l1 u1 l2 u2 n d g) b j.3) compares (subst (λ x. AreBetween x (compares_in p (here p s acts)) j.3) is j.6.1) in
+          lie-between acts l1 u1 l2 u2 w.operands two.0 (subst (HaveKinds p acts w.operands) two.1 j.4);
       ends = λ e. let j = subst (λ x. Holds p s x acts w) e i in (no-calls acts j.6.1, nothing-held acts w.operands j.3 j.6.0 j.4);
     }
 

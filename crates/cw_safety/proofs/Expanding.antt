@@ -26,11 +26,11 @@ use Rattle.cw_unit.specs.Operation.{Rescale}
 use Rattle.cw_unit.specs.Scales.{answer_scale}
 use Rattle.cw_unit.specs.StackBound as bound
 use Rattle.cw_unit.specs.StackBound.{ArgumentNeed, operand_depth, argument_depth, condition_depth, address_depth, body_depth, argument_depths, arguments_depth}
-use Rattle.cw_safety.specs.Kinds.{Kind, WordKind, LabelKind, SwitchKind, weight, weigh, parameter_kinds}
+use Rattle.cw_safety.specs.Kinds.{Kind, WordKind, LabelKind, SwitchKind, weight, parameter_kinds}
 use Rattle.cw_safety.specs.WellFormed as formed
 use Rattle.cw_safety.specs.WellFormed.{is_call, kind_of, is_expression, is_reference, is_condition, is_spot, are_elements, is_element, is_statement, kinds_of, controls_of, procedure_of_place}
 use Rattle.cw_safety.proofs.Truth.{no, both, if-kind, and-kinds, procedure-weight, control-weight}
-use Rattle.cw_safety.proofs.Typing.{onto, result, After, spot_shape, Typed, IsLoop}
+use Rattle.cw_safety.proofs.Typing.{Hand, Plain, Between, weigh, onto, result, Pop, After, spot_shape, AreBetween, Typed, IsLoop}
 
 abbrev pub spot_depth : Spot → ℕ
 spot_depth = fold-Spot ArgumentNeed ℕ ℕ ℕ ℕ bound.argument_step bound.condition_step bound.expression_step bound.spot_step bound.ref_step
@@ -48,15 +48,15 @@ abbrev pub spot_depths : Spot-F Arg Cond Expr Spot Ref → Spot-F ArgumentNeed �
 spot_depths = map-Spot Arg Cond Expr Spot Ref ArgumentNeed ℕ ℕ ℕ ℕ argument_depth condition_depth operand_depth spot_depth address_depth
 
 -- what a number, a constant or a string puts at once
-abbrev pub pushed : Expr-F Arg Cond Expr Spot Ref → List Kind → List Kind
-pushed (layer.Num n) ks = WordKind ∷ ks
-pushed (layer.Const z) ks = WordKind ∷ ks
-pushed (layer.Text i) ks = WordKind ∷ ks
+abbrev pub pushed : Expr-F Arg Cond Expr Spot Ref → List Hand → List Hand
+pushed (layer.Num n) ks = Plain WordKind ∷ ks
+pushed (layer.Const z) ks = Plain WordKind ∷ ks
+pushed (layer.Text i) ks = Plain WordKind ∷ ks
 pushed _ ks = ks
 
 -- what a direct reference puts at once
-abbrev pub placed : Spot-F Arg Cond Expr Spot Ref → List Kind → List Kind
-placed (layer.Direct i) ks = WordKind ∷ ks
+abbrev pub placed : Spot-F Arg Cond Expr Spot Ref → List Hand → List Hand
+placed (layer.Direct i) ks = Plain WordKind ∷ ks
 placed _ ks = ks
 
 pub depth-expression : (e : Expr) → operand_depth e ≡ bound.expression_step (depths (out-Expr e))
@@ -148,10 +148,10 @@ module _ (p : Program) (g : ℕ) (o : Option (ℕ × ℕ)) where
   call-kinds wanted t (Some args) h = (args, refl, h)
 
   module _ (h : ℕ) where
-    abbrev Ty : Work → List Kind → Type 0
+    abbrev Ty : Work → List Hand → Type 0
     Ty = Typed p g o h
 
-    gives-typed : (args : List Arg) (kinds : List Kind) (line : ℕ) (k : Work) (ks : List Kind) → kinds_of (map (kind_of p g o) args) ≡ Some kinds → arguments_depth (map argument_depth args) + weigh ks ≤ h → Ty k (onto kinds ks) → Ty (give_all args line k) ks
+    gives-typed : (args : List Arg) (kinds : List Kind) (line : ℕ) (k : Work) (ks : List Hand) → kinds_of (map (kind_of p g o) args) ≡ Some kinds → arguments_depth (map argument_depth args) + weigh ks ≤ h → Ty k (onto kinds ks) → Ty (give_all args line k) ks
     gives-typed [] ms line k ks e d t = subst (λ xs. Ty k (onto xs ks)) (sym (same_Some [] ms e)) t
     gives-typed (a ∷ args) ms line k ks e d t =
         let parts = and-kinds (kind_of p g o a) (kinds_of (map (kind_of p g o) args)) ms e in
@@ -159,21 +159,21 @@ module _ (p : Program) (g : ℕ) (o : Option (ℕ × ℕ)) where
           parts.0,
           parts.2,
           omega (arith, d),
-          gives-typed args parts.1 line k (parts.0 ∷ ks) parts.3 (omega (arith, d, w)) (subst (λ xs. Ty k (onto xs ks)) (sym parts.4) t),
+          gives-typed args parts.1 line k (Plain parts.0 ∷ ks) parts.3 (omega (arith, d, w)) (subst (λ xs. Ty k (onto xs ks)) (sym parts.4) t),
         )
 
-    call-typed : (wanted : Bool) (t : Target) (args : List Arg) (line : ℕ) (k : Work) (ks : List Kind) → IsTrue (is_call p g o wanted t (kinds_of (map (kind_of p g o) args))) → arguments_depth (map argument_depth args) + weigh ks ≤ h → weigh (result wanted ks) ≤ h → Ty k (result wanted ks) → Ty (give_all args line (Enter t line wanted k)) ks
+    call-typed : (wanted : Bool) (t : Target) (args : List Arg) (line : ℕ) (k : Work) (ks : List Hand) → IsTrue (is_call p g o wanted t (kinds_of (map (kind_of p g o) args))) → arguments_depth (map argument_depth args) + weigh ks ≤ h → weigh (result wanted ks) ≤ h → Ty k (result wanted ks) → Ty (give_all args line (Enter t line wanted k)) ks
     call-typed wanted t args line k ks c d r n =
         let found = call-kinds wanted t (kinds_of (map (kind_of p g o) args)) c in
         gives-typed args found.0 line (Enter t line wanted k) ks found.1 d (found.0, ks, refl, found.2, r, n)
 
     -- ---- expressions
 
-    two-typed : (a b : Expr) (ks : List Kind) {T : Type 0} → IsTrue (is_expression p g o a && is_expression p g o b) → bound.two_depth (operand_depth a) (operand_depth b) + weigh ks ≤ h → T → IsTrue (is_expression p g o a) × (operand_depth a + weigh ks ≤ h) × (IsTrue (is_expression p g o b) × (operand_depth b + weigh (WordKind ∷ ks) ≤ h) × T)
+    two-typed : (a b : Expr) (ks : List Hand) {T : Type 0} → IsTrue (is_expression p g o a && is_expression p g o b) → bound.two_depth (operand_depth a) (operand_depth b) + weigh ks ≤ h → T → IsTrue (is_expression p g o a) × (operand_depth a + weigh ks ≤ h) × (IsTrue (is_expression p g o b) × (operand_depth b + weigh (Plain WordKind ∷ ks) ≤ h) × T)
     two-typed a b ks e d t =
         let parts = both (is_expression p g o a) (is_expression p g o b) e in (parts.0, omega (arith, d), (parts.1, omega (arith, d), t))
 
-    pub expression-typed : (u : SourceUnit) (l : Expr-F Arg Cond Expr Spot Ref) (f line : ℕ) (k : Work) (ks : List Kind) → IsTrue (formed.expression_step p g o (kinds l)) → bound.expression_step (depths l) + weigh ks ≤ h → Ty k (WordKind ∷ ks) → Ty (expression_work u l f line k) (pushed l ks)
+    pub expression-typed : (u : SourceUnit) (l : Expr-F Arg Cond Expr Spot Ref) (f line : ℕ) (k : Work) (ks : List Hand) → IsTrue (formed.expression_step p g o (kinds l)) → bound.expression_step (depths l) + weigh ks ≤ h → Ty k (Plain WordKind ∷ ks) → Ty (expression_work u l f line k) (pushed l ks)
     expression-typed u (layer.Num n) f line k ks e d t = t
     expression-typed u (layer.Const z) f line k ks e d t = t
     expression-typed u (layer.Text i) f line k ks e d t = t
@@ -194,7 +194,7 @@ module _ (p : Program) (g : ℕ) (o : Option (ℕ × ℕ)) where
         let sides = both (is_expression p g o a) (is_expression p g o b) parts.1 in
         (parts.0, omega (arith, d), (sides.0, omega (arith, d), t), (sides.1, omega (arith, d), t))
 
-    pub condition-typed : (u : SourceUnit) (l : Cond-F Arg Cond Expr Spot Ref) (line : ℕ) (pass fail : Work) (ks : List Kind) → IsTrue (formed.condition_step (cond_kinds l)) → bound.condition_step (cond_depths l) + weigh ks ≤ h → Ty pass ks → Ty fail ks → Ty (condition_work u l line pass fail) ks
+    pub condition-typed : (u : SourceUnit) (l : Cond-F Arg Cond Expr Spot Ref) (line : ℕ) (pass fail : Work) (ks : List Hand) → IsTrue (formed.condition_step (cond_kinds l)) → bound.condition_step (cond_depths l) + weigh ks ≤ h → Ty pass ks → Ty fail ks → Ty (condition_work u l line pass fail) ks
     condition-typed u (layer.Cmp op a b) line pass fail ks e d t n = two-typed a b ks e d (t, n)
     condition-typed u (layer.And a b) line pass fail ks e d t n =
         let parts = both (is_condition p g o a) (is_condition p g o b) e in
@@ -204,24 +204,34 @@ module _ (p : Program) (g : ℕ) (o : Option (ℕ × ℕ)) where
         (parts.0, omega (arith, d), t, (parts.1, omega (arith, d), t, n))
 
     -- the address is formed from the indexes that were put
-    index-typed : (c : Bool) (a : Expr) (l u : ℤ) (line : ℕ) (k : Work) (ks : List Kind) → IsTrue (is_expression p g o a) → operand_depth a + weigh ks ≤ h → Ty k (WordKind ∷ ks) → Ty (index_work c a l u line k) ks
+    abbrev indexed : (compared : Bool) → (lower upper : ℤ) → Hand
+    indexed true l u = Between l u
+    indexed false l u = Plain WordKind
+
+    index-typed : (c : Bool) (a : Expr) (l u : ℤ) (line : ℕ) (k : Work) (ks : List Hand) → IsTrue (is_expression p g o a) → operand_depth a + weigh ks ≤ h → Ty k (indexed c l u ∷ ks) → Ty (index_work c a l u line k) ks
     index-typed true a l u line k ks e d t = (e, d, t)
     index-typed false a l u line k ks e d t = (e, d, t)
 
-    pub spot-typed : (c : Bool) (s : Spot) (l : Spot-F Arg Cond Expr Spot Ref) (line : ℕ) (k : Work) (ks : List Kind) → IsTrue (formed.spot_step (spot_kinds l)) → bound.spot_step (spot_depths l) + weigh ks ≤ h → ((js : List Kind) → After h (spot_shape l) (Ty k) js → Ty (FormAt s line k) js) → Ty k (WordKind ∷ ks) → Ty (spot_work c s l line k) (placed l ks)
+    -- an index alone
+    alone-typed : (c : Bool) (a : Expr) (l u : ℤ) (line : ℕ) (k n : Work) (ks : List Hand) → IsTrue (is_expression p g o a) → operand_depth a + weigh ks ≤ h
+        → ((js : List Hand) → Pop (λ r. Ty n (Plain WordKind ∷ r)) js → Ty k js) → Ty n (Plain WordKind ∷ ks) → Ty (index_work c a l u line k) ks
+    alone-typed true a l u line k n ks e d form t = index-typed true a l u line k ks e d (form (Between l u ∷ ks) t)
+    alone-typed false a l u line k n ks e d form t = index-typed false a l u line k ks e d (form (Plain WordKind ∷ ks) t)
+
+    pub spot-typed : (c : Bool) (s : Spot) (l : Spot-F Arg Cond Expr Spot Ref) (line : ℕ) (k : Work) (ks : List Hand) → IsTrue (formed.spot_step (spot_kinds l)) → bound.spot_step (spot_depths l) + weigh ks ≤ h
+        → ((js : List Hand) → After h (spot_shape l) (Ty k) js → AreBetween l c js → Ty (FormAt s line k) js) → Ty k (Plain WordKind ∷ ks) → Ty (spot_work c s l line k) (placed l ks)
     spot-typed c s (layer.Direct i) line k ks e d form t = t
-    spot-typed c s (layer.Through i) line k ks e d form t = form ks (d, t)
-    spot-typed c s (layer.One i l u a) line k ks e d form t = index-typed c a l u line (FormAt s line k) ks e d (form (WordKind ∷ ks) t)
-    spot-typed c s (layer.Two i l1 u1 l2 u2 n a b) line k ks e d form t =
-        let parts = two-typed a b ks e d (form (WordKind ∷ WordKind ∷ ks) t) in
-        index-typed c a l1 u1 line (index_work c b l2 u2 line (FormAt s line k)) ks parts.0 parts.1
-        (index-typed c b l2 u2 line (FormAt s line k) (WordKind ∷ ks) parts.2.0 parts.2.1 parts.2.2)
-    spot-typed c s (layer.ParamArray i a) line k ks e d form t = (e, d, form (WordKind ∷ ks) t)
-    spot-typed c s (layer.Word i t' n a) line k ks e d form t =
-        index-typed c a (pos 0) (pos n -ℤ pos 1) line (FormAt s line k) ks e d (form (WordKind ∷ ks) t)
-    spot-typed c s (layer.Elem i t' w n q a) line k ks e d form t =
-        index-typed c a (pos 0) (pos n -ℤ pos 1) line (FormAt s line k) ks e d (form (WordKind ∷ ks) t)
-    spot-typed c s (layer.Bare a) line k ks e d form t = (e, d, form (WordKind ∷ ks) t)
+    spot-typed c s (layer.Through i) line k ks e d form t = form ks (d, t) tt
+    spot-typed c s (layer.One i l u a) line k ks e d form t = alone-typed c a l u line (FormAt s line k) k ks e d (λ js q. form js q tt) t
+    spot-typed true s (layer.Two i l1 u1 l2 u2 n a b) line k ks e d form t =
+        let now = FormAt s line k in
+        let parts = two-typed a b ks e d (form (Between l2 u2 ∷ Between l1 u1 ∷ ks) t (ks, refl)) in
+        index-typed true a l1 u1 line (index_work true b l2 u2 line now) ks parts.0 parts.1 (index-typed true b l2 u2 line now (Between l1 u1 ∷ ks) parts.2.0 parts.2.1 parts.2.2)
+    spot-typed false s (layer.Two i l1 u1 l2 u2 n a b) line k ks e d form t = two-typed a b ks e d (form (Plain WordKind ∷ Plain WordKind ∷ ks) t tt)
+    spot-typed c s (layer.ParamArray i a) line k ks e d form t = (e, d, form (Plain WordKind ∷ ks) t tt)
+    spot-typed c s (layer.Word i t' n a) line k ks e d form t = alone-typed c a (pos 0) (pos n -ℤ pos 1) line (FormAt s line k) k ks e d (λ js q. form js q tt) t
+    spot-typed c s (layer.Elem i t' w n q a) line k ks e d form t = alone-typed c a (pos 0) (pos n -ℤ pos 1) line (FormAt s line k) k ks e d (λ js q. form js q tt) t
+    spot-typed c s (layer.Bare a) line k ks e d form t = (e, d, form (Plain WordKind ∷ ks) t tt)
 
     -- ---- statements
 

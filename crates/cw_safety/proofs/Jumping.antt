@@ -8,7 +8,7 @@ use Rattle.cw_unit.specs.declared.unit.Goal.{Goal}
 use Rattle.cw_unit.specs.declared.unit.Dest.{Dest}
 use Rattle.cw_unit.specs.declared.unit.Dest.TheVariants as dest
 use Rattle.cw_unit.specs.Program.{Program, definition_of}
-use Rattle.cw_unit.specs.Words.{Control, LabelControl, SwitchControl, ProcedureControl, Operand, Word, Held, Words}
+use Rattle.cw_unit.specs.Words.{Control, LabelControl, SwitchControl, ProcedureControl, Operand, Words}
 use Rattle.cw_unit.specs.Work.{Work, Nothing, Leave}
 use Rattle.cw_unit.specs.LabelContinuation.{label_continuation}
 use Rattle.cw_unit.specs.Configuration.{Activation, segment_of, control_at, procedure_in, procedure_at}
@@ -18,7 +18,7 @@ use Rattle.cw_safety.specs.Kinds.{Kind, WordKind, LabelKind, SwitchKind, Procedu
 use Rattle.cw_safety.specs.WellFormed.{WellFormed, sets, sets_in_procedure, is_at, reaches_label, reaches_unit, reaches, reaches_goals, reaches_list, reaches_switch, controls_in, controls_of, is_label, is_switch}
 use Rattle.cw_safety.specs.Depth.{owner_of, depth_at, depth_of_unit, depth_of_procedure}
 use Rattle.cw_safety.proofs.Truth.{no, both, nat_same}
-use Rattle.cw_safety.proofs.Typing.{Pop, ControlFits, HaveKinds, Fit, CanJump, Calls, Holds, Safe}
+use Rattle.cw_safety.proofs.Typing.{Hand, Plain, Between, Pop, popped, ControlFits, HaveKinds, Fit, CanJump, Calls, Holds, Safe}
 use Rattle.cw_safety.proofs.Labels.{Reached, continues}
 
 -- ---- owners
@@ -44,12 +44,13 @@ switch-of (Some SwitchKind) h = refl
 switch-of (Some (ProcedureKind ts)) h = no h
 
 -- a word that is alone is taken
-alone-taken : (ks : List Kind) → Pop (λ r. r ≡ []) ks → Pop (λ r. Unit {0}) ks
+alone-taken : (ks : List Hand) → Pop (λ r. r ≡ []) ks → Pop (λ r. Unit {0}) ks
 alone-taken [] h = absurd h
-alone-taken (WordKind ∷ ks) h = tt
-alone-taken (LabelKind ∷ ks) h = absurd h
-alone-taken (SwitchKind ∷ ks) h = absurd h
-alone-taken (ProcedureKind ts ∷ ks) h = absurd h
+alone-taken (Plain WordKind ∷ ks) h = tt
+alone-taken (Plain LabelKind ∷ ks) h = absurd h
+alone-taken (Plain SwitchKind ∷ ks) h = absurd h
+alone-taken (Plain (ProcedureKind ts) ∷ ks) h = absurd h
+alone-taken (Between l u ∷ ks) h = tt
 
 module _ (p : Program) where
   pub calls-drop : (n s : ℕ) (acts : List Activation) → Calls p s acts → Calls p s (drop n acts)
@@ -159,19 +160,12 @@ module _ (p : Program) where
     jump_to_goal-safe None h owner s line now acts w i r = (tt, i)
     jump_to_goal-safe (Some l) h owner s line now acts w i r = jump_to-safe (label_of_goal p h l) owner s now acts w i (r l refl)
 
-    jump_by_list-safe : (x : Option (List Goal)) (xs : List Operand) (ks : List Kind) (h owner s line : ℕ) (now : Work) (acts : List Activation) (w : Words) → Holds p s now acts w → HaveKinds p acts xs ks → Pop (λ r. Unit {0}) ks → IsTrue (reaches_list p (owner_of (kept owner acts)) h x) → Safe p (jump_by_list p x xs h owner s line now acts w)
+    jump_by_list-safe : (x : Option (List Goal)) (xs : List Operand) (ks : List Hand) (h owner s line : ℕ) (now : Work) (acts : List Activation) (w : Words) → Holds p s now acts w → HaveKinds p acts xs ks → Pop (λ r. Unit {0}) ks → IsTrue (reaches_list p (owner_of (kept owner acts)) h x) → Safe p (jump_by_list p x xs h owner s line now acts w)
     jump_by_list-safe None xs ks h owner s line now acts w i k q r = no r
-    jump_by_list-safe (Some gs) [] [] h owner s line now acts w i k q r = absurd q
-    jump_by_list-safe (Some gs) [] (m ∷ ks) h owner s line now acts w i k q r = absurd k
-    jump_by_list-safe (Some gs) (x ∷ xs) [] h owner s line now acts w i k q r = absurd q
-    jump_by_list-safe (Some gs) (Word z ∷ xs) (m ∷ ks) h owner s line now acts w i k q r =
-        jump_to_goal-safe (goal_at gs z) h owner s line now acts w i (λ l e. goal_at-reached (owner_of (kept owner acts)) h gs z l r e)
-    jump_by_list-safe (Some gs) (Held (LabelControl a b c) ∷ xs) (WordKind ∷ ks) h owner s line now acts w i k q r = absurd k.0
-    jump_by_list-safe (Some gs) (Held (SwitchControl a b c) ∷ xs) (WordKind ∷ ks) h owner s line now acts w i k q r = absurd k.0
-    jump_by_list-safe (Some gs) (Held (ProcedureControl a b) ∷ xs) (WordKind ∷ ks) h owner s line now acts w i k q r = absurd k.0
-    jump_by_list-safe (Some gs) (Held c ∷ xs) (LabelKind ∷ ks) h owner s line now acts w i k q r = absurd q
-    jump_by_list-safe (Some gs) (Held c ∷ xs) (SwitchKind ∷ ks) h owner s line now acts w i k q r = absurd q
-    jump_by_list-safe (Some gs) (Held c ∷ xs) (ProcedureKind ts ∷ ks) h owner s line now acts w i k q r = absurd q
+    jump_by_list-safe (Some gs) xs ks h owner s line now acts w i k q r =
+        let t = popped p (λ r. Unit {0}) acts xs ks k q in
+        subst (λ ys. Safe p (jump_by_list p (Some gs) ys h owner s line now acts w)) (sym t.is)
+        (jump_to_goal-safe (goal_at gs t.word) h owner s line now acts w i (λ l e. goal_at-reached (owner_of (kept owner acts)) h gs t.word l r e))
 
     jump_by_switch-safe : (x : Option (ℕ × ℕ)) (owner s line : ℕ) (now : Work) (acts : List Activation) (w : Words) (i : Holds p s now acts w) → Pop (λ r. Unit {0}) i.3 → IsTrue (reaches_switch p (owner_of (kept owner acts)) x) → Safe p (jump_by_switch p x owner s line now acts w)
     jump_by_switch-safe None owner s line now acts w i q r = no r

@@ -24,12 +24,12 @@ use Rattle.cw_unit.specs.Behaviour.{first_body, initial_configuration, configura
 use Rattle.cw_unit.specs.StackBound as bound
 use Rattle.cw_unit.specs.StackBound.{body_depth}
 use Rattle.cw_unit.specs.Step.{after, label_of_goal, switch_of_def, procedure_of_def, with_label_owner, with_switch_owner, as_procedure, held, pick, choose_with, address_step, addressing_of, put_constant, in_unit, here, compares_in, stuck, give_step, element_step, turn_step, next_body, advance, step, steps}
-use Rattle.cw_safety.specs.Kinds.{Kind, WordKind, LabelKind, SwitchKind, ProcedureKind, weigh, procedure_kind}
+use Rattle.cw_safety.specs.Kinds.{Kind, WordKind, LabelKind, SwitchKind, ProcedureKind, procedure_kind}
 use Rattle.cw_safety.specs.WellFormed as formed
 use Rattle.cw_safety.specs.WellFormed.{WellFormed, reaches, reaches_switch, is_expression, is_reference, is_element, are_elements, is_statement, controls_of, procedure_of_place}
 use Rattle.cw_safety.specs.Depth.{owner_of, depth_at, depth_of_unit, depth_in, operands_held}
 use Rattle.cw_safety.proofs.Truth.{no, both, if-kind}
-use Rattle.cw_safety.proofs.Typing.{Pop, After, spot_shape, ControlFits, HaveKinds, Typed, IsLoop, Calls, Holds, Safe}
+use Rattle.cw_safety.proofs.Typing.{Hand, Plain, Between, weigh, Pop, popped, After, spot_shape, AreBetween, ControlFits, HaveKinds, Typed, IsLoop, Calls, Holds, Safe}
 use Rattle.cw_safety.proofs.Performing.{Good, perform-good, form-good, put_checked-good, add_step-good}
 use Rattle.cw_safety.proofs.Expanding.{pushed, arg_kinds, spot_kinds, spot_depths, depths, arg_depths, depth-expression, depth-argument, depth-condition, depth-spot, depth-reference, depth-statement, formed-expression, formed-argument, formed-condition, formed-spot, formed-reference, formed-statement, expression-typed, condition-typed, spot-typed, statement-typed, element-typed}
 use Rattle.cw_safety.proofs.Jumping.{kept-all, control-fits, jump_step-safe}
@@ -37,7 +37,7 @@ use Rattle.cw_safety.proofs.Calling.{unit_of-procedure, Next, after-safe, enter_
 
 module _ (p : Program) where
   -- the place of the work
-  abbrev Ty : (segment : ℕ) → List Activation → Work → List Kind → Type 0
+  abbrev Ty : (segment : ℕ) → List Activation → Work → List Hand → Type 0
   Ty s acts = Typed p (segment_of s acts) (owner_of acts) (depth_at p s acts)
 
   in_unit-safe : (s : ℕ) (acts : List Activation) (f : SourceUnit → Configuration) (other : Configuration) (u : SourceUnit) → slice_get p.units s ≡ Some u → Calls p s acts → ((v : SourceUnit) → Safe p (f v)) → Safe p (in_unit p (here p s acts) f other)
@@ -47,7 +47,7 @@ module _ (p : Program) where
 
   -- ---- words that are put at once
 
-  constant-kinds : (l : Expr-F Arg Cond Expr Spot Ref) (s f : ℕ) (acts : List Activation) (w : Words) (ks : List Kind) → HaveKinds p acts w.operands ks → HaveKinds p acts (put_constant p l s f acts w).operands (pushed l ks)
+  constant-kinds : (l : Expr-F Arg Cond Expr Spot Ref) (s f : ℕ) (acts : List Activation) (w : Words) (ks : List Hand) → HaveKinds p acts w.operands ks → HaveKinds p acts (put_constant p l s f acts w).operands (pushed l ks)
   constant-kinds (layer.Num n) s f acts w ks h = (tt, h)
   constant-kinds (layer.Const z) s f acts w ks h = (tt, h)
   constant-kinds (layer.Text i) s f acts w ks h = (tt, h)
@@ -64,7 +64,7 @@ module _ (p : Program) where
   constant-kinds (layer.Over a b) s f acts w ks h = h
   constant-kinds (layer.Choice c a b) s f acts w ks h = h
 
-  constant-within : (l : Expr-F Arg Cond Expr Spot Ref) (ks : List Kind) (h : ℕ) → weigh ks ≤ h → bound.expression_step (depths l) + weigh ks ≤ h → weigh (pushed l ks) ≤ h
+  constant-within : (l : Expr-F Arg Cond Expr Spot Ref) (ks : List Hand) (h : ℕ) → weigh ks ≤ h → bound.expression_step (depths l) + weigh ks ≤ h → weigh (pushed l ks) ≤ h
   constant-within (layer.Num n) ks h b d = d
   constant-within (layer.Const z) ks h b d = d
   constant-within (layer.Text i) ks h b d = d
@@ -83,8 +83,8 @@ module _ (p : Program) where
 
   -- ---- addresses
 
-  address_step-safe : (c : Bool) (spot : Spot) (l : Spot-F Arg Cond Expr Spot Ref) (s line : ℕ) (k : Work) (acts : List Activation) (w : Words) (now : Work) (i : Holds p s now acts w) → IsTrue (formed.spot_step (spot_kinds p (segment_of s acts) (owner_of acts) l)) → bound.spot_step (spot_depths l) + weigh i.3 ≤ depth_at p s acts → ((js : List Kind) → After (depth_at p s acts) (spot_shape l) (Ty s acts k) js → Ty s acts (FormAt spot line k) js) → Ty s acts k (WordKind ∷ i.3) → Safe p (address_step p c spot l s line k acts w)
-  address_step-safe c spot (layer.Direct j) s line k acts w now i e d form t = (tt, (i.0, i.1, i.2, WordKind ∷ i.3, (tt, i.4), d, t))
+  address_step-safe : (c : Bool) (spot : Spot) (l : Spot-F Arg Cond Expr Spot Ref) (s line : ℕ) (k : Work) (acts : List Activation) (w : Words) (now : Work) (i : Holds p s now acts w) → IsTrue (formed.spot_step (spot_kinds p (segment_of s acts) (owner_of acts) l)) → bound.spot_step (spot_depths l) + weigh i.3 ≤ depth_at p s acts → ((js : List Hand) → After (depth_at p s acts) (spot_shape l) (Ty s acts k) js → AreBetween l c js → Ty s acts (FormAt spot line k) js) → Ty s acts k (Plain WordKind ∷ i.3) → Safe p (address_step p c spot l s line k acts w)
+  address_step-safe c spot (layer.Direct j) s line k acts w now i e d form t = (tt, (i.0, i.1, i.2, Plain WordKind ∷ i.3, (tt, i.4), d, t))
   address_step-safe c spot (layer.Through j) s line k acts w now i e d form t =
       (tt, (i.0, i.1, i.2, i.3, i.4, i.5, spot-typed p (segment_of s acts) (owner_of acts) (depth_at p s acts) c spot (layer.Through j) line k i.3 e d form t))
   address_step-safe c spot (layer.One j l u a) s line k acts w now i e d form t =
@@ -100,7 +100,7 @@ module _ (p : Program) where
   address_step-safe c spot (layer.Bare a) s line k acts w now i e d form t =
       (tt, (i.0, i.1, i.2, i.3, i.4, i.5, spot-typed p (segment_of s acts) (owner_of acts) (depth_at p s acts) c spot (layer.Bare a) line k i.3 e d form t))
 
-  form_at-good : (l : Spot-F Arg Cond Expr Spot Ref) (s : ℕ) (k : Work) (acts : List Activation) (w : Words) (ks : List Kind) → HaveKinds p acts w.operands ks → weigh ks ≤ depth_at p s acts → After (depth_at p s acts) (spot_shape l) (Ty s acts k) ks → Next p s k acts (perform p.limits.area (Form (addressing_of p l s acts w)) w)
+  form_at-good : (l : Spot-F Arg Cond Expr Spot Ref) (s : ℕ) (k : Work) (acts : List Activation) (w : Words) (ks : List Hand) → HaveKinds p acts w.operands ks → weigh ks ≤ depth_at p s acts → After (depth_at p s acts) (spot_shape l) (Ty s acts k) ks → Next p s k acts (perform p.limits.area (Form (addressing_of p l s acts w)) w)
   form_at-good (layer.Direct j) s k acts w ks h b t = absurd t
   form_at-good (layer.Through j) s k acts w ks h b t =
       form-good p acts (depth_at p s acts) (Ty s acts k) p.limits.area (addressing_of p (layer.Through j) s acts w) w ks h b t
@@ -119,10 +119,10 @@ module _ (p : Program) where
 
   -- ---- arguments
 
-  held-good : (acts : List Activation) (h : ℕ) (P : List Kind → Type 0) (c : Control) (m : Kind) (w : Words) (ks : List Kind) → HaveKinds p acts w.operands ks → ControlFits p acts c m → weigh (m ∷ ks) ≤ h → P (m ∷ ks) → Good p acts h P (held (Some c) w)
-  held-good acts h P c m w ks k f d t = (m ∷ ks, (f, k), d, t)
+  held-good : (acts : List Activation) (h : ℕ) (P : List Hand → Type 0) (c : Control) (m : Kind) (w : Words) (ks : List Hand) → HaveKinds p acts w.operands ks → ControlFits p acts c m → weigh (Plain m ∷ ks) ≤ h → P (Plain m ∷ ks) → Good p acts h P (held (Some c) w)
+  held-good acts h P c m w ks k f d t = (Plain m ∷ ks, (f, k), d, t)
 
-  label-good : (acts : List Activation) (h : ℕ) (P : List Kind → Type 0) (x : Option (ℕ × ℕ)) (w : Words) (ks : List Kind) → HaveKinds p acts w.operands ks → IsTrue (reaches p (owner_of acts) x) → 2 + weigh ks ≤ h → P (LabelKind ∷ ks) → Good p acts h P (held (with_label_owner (length acts) x) w)
+  label-good : (acts : List Activation) (h : ℕ) (P : List Hand → Type 0) (x : Option (ℕ × ℕ)) (w : Words) (ks : List Hand) → HaveKinds p acts w.operands ks → IsTrue (reaches p (owner_of acts) x) → 2 + weigh ks ≤ h → P (Plain LabelKind ∷ ks) → Good p acts h P (held (with_label_owner (length acts) x) w)
   label-good acts h P None w ks k r d t = no r
   label-good acts h P (Some l) w ks k r d t =
       held-good acts h P (LabelControl l.0 l.1 (length acts)) LabelKind w ks k
@@ -130,7 +130,7 @@ module _ (p : Program) where
       d
       t
 
-  switch-good : (acts : List Activation) (h : ℕ) (P : List Kind → Type 0) (x : Option (ℕ × ℕ)) (w : Words) (ks : List Kind) → HaveKinds p acts w.operands ks → IsTrue (reaches_switch p (owner_of acts) x) → 2 + weigh ks ≤ h → P (SwitchKind ∷ ks) → Good p acts h P (held (with_switch_owner (length acts) x) w)
+  switch-good : (acts : List Activation) (h : ℕ) (P : List Hand → Type 0) (x : Option (ℕ × ℕ)) (w : Words) (ks : List Hand) → HaveKinds p acts w.operands ks → IsTrue (reaches_switch p (owner_of acts) x) → 2 + weigh ks ≤ h → P (Plain SwitchKind ∷ ks) → Good p acts h P (held (with_switch_owner (length acts) x) w)
   switch-good acts h P None w ks k r d t = no r
   switch-good acts h P (Some l) w ks k r d t =
       held-good acts h P (SwitchControl l.0 l.1 (length acts)) SwitchKind w ks k
@@ -138,7 +138,7 @@ module _ (p : Program) where
       d
       t
 
-  weight-two : (acts : List Activation) (c : Control) (m : Kind) (ks : List Kind) → ControlFits p acts c m → weigh (m ∷ ks) ≡ 2 + weigh ks
+  weight-two : (acts : List Activation) (c : Control) (m : Kind) (ks : List Hand) → ControlFits p acts c m → weigh (Plain m ∷ ks) ≡ 2 + weigh ks
   weight-two acts (LabelControl g l owner) WordKind ks f = absurd f
   weight-two acts (SwitchControl g l owner) WordKind ks f = absurd f
   weight-two acts (ProcedureControl g q) WordKind ks f = absurd f
@@ -146,7 +146,7 @@ module _ (p : Program) where
   weight-two acts c SwitchKind ks f = refl
   weight-two acts c (ProcedureKind ts) ks f = refl
 
-  control-good : (acts : List Activation) (h : ℕ) (P : List Kind → Type 0) (c : Control) (m : Kind) (w : Words) (ks : List Kind) → HaveKinds p acts w.operands ks → ControlFits p acts c m → 2 + weigh ks ≤ h → P (m ∷ ks) → Good p acts h P (held (Some c) w)
+  control-good : (acts : List Activation) (h : ℕ) (P : List Hand → Type 0) (c : Control) (m : Kind) (w : Words) (ks : List Hand) → HaveKinds p acts w.operands ks → ControlFits p acts c m → 2 + weigh ks ≤ h → P (Plain m ∷ ks) → Good p acts h P (held (Some c) w)
   control-good acts h P c m w ks k f d t = held-good acts h P c m w ks k f (omega (arith, d, weight-two acts c m ks f)) t
 
   procedure-fits : (acts : List Activation) (g q : ℕ) (x : Option Proc) (m : Kind) → procedure_at p g q ≡ x → procedure_kind x ≡ Some m → ControlFits p acts (ProcedureControl g q) m
@@ -156,42 +156,42 @@ module _ (p : Program) where
   procedure-fits acts g q (Some proc) LabelKind e k = absurd (cc)
   procedure-fits acts g q (Some proc) SwitchKind e k = absurd (cc)
 
-  place-good : (acts : List Activation) (h : ℕ) (P : List Kind → Type 0) (x : Option (ℕ × ℕ)) (m : Kind) (w : Words) (ks : List Kind) → HaveKinds p acts w.operands ks → procedure_kind (procedure_of_place p x) ≡ Some m → 2 + weigh ks ≤ h → P (m ∷ ks) → Good p acts h P (held (as_procedure x) w)
+  place-good : (acts : List Activation) (h : ℕ) (P : List Hand → Type 0) (x : Option (ℕ × ℕ)) (m : Kind) (w : Words) (ks : List Hand) → HaveKinds p acts w.operands ks → procedure_kind (procedure_of_place p x) ≡ Some m → 2 + weigh ks ≤ h → P (Plain m ∷ ks) → Good p acts h P (held (as_procedure x) w)
   place-good acts h P None m w ks k e d t = absurd (none-some m e)
   place-good acts h P (Some q) m w ks k e d t =
       control-good acts h P (ProcedureControl q.0 q.1) m w ks k (procedure-fits acts q.0 q.1 (procedure_at p q.0 q.1) m refl e) d t
 
-  give_step-safe : (l : Arg-F Arg Cond Expr Spot Ref) (s line : ℕ) (now k : Work) (acts : List Activation) (w : Words) (m : Kind) (i : Holds p s now acts w) → formed.argument_step p (segment_of s acts) (owner_of acts) (arg_kinds p (segment_of s acts) (owner_of acts) l) ≡ Some m → (bound.argument_step (arg_depths l)).most + weigh i.3 ≤ depth_at p s acts → Ty s acts k (m ∷ i.3) → Safe p (give_step p l s line now k acts w)
+  give_step-safe : (l : Arg-F Arg Cond Expr Spot Ref) (s line : ℕ) (now k : Work) (acts : List Activation) (w : Words) (m : Kind) (i : Holds p s now acts w) → formed.argument_step p (segment_of s acts) (owner_of acts) (arg_kinds p (segment_of s acts) (owner_of acts) l) ≡ Some m → (bound.argument_step (arg_depths l)).most + weigh i.3 ≤ depth_at p s acts → Ty s acts k (Plain m ∷ i.3) → Safe p (give_step p l s line now k acts w)
   give_step-safe (layer.Value e f) s line now k acts w m i q d t =
       let parts = if-kind (is_expression p (segment_of s acts) (owner_of acts) e) WordKind m q in
-      (tt, (i.0, i.1, i.2, i.3, i.4, i.5, (parts.0, d, subst (λ x. Ty s acts k (x ∷ i.3)) (sym parts.1) t)))
+      (tt, (i.0, i.1, i.2, i.3, i.4, i.5, (parts.0, d, subst (λ x. Ty s acts k (Plain x ∷ i.3)) (sym parts.1) t)))
   give_step-safe (layer.Place r) s line now k acts w m i q d t =
       let parts = if-kind (is_reference p (segment_of s acts) (owner_of acts) r) WordKind m q in
-      (tt, (i.0, i.1, i.2, i.3, i.4, i.5, (parts.0, d, subst (λ x. Ty s acts k (x ∷ i.3)) (sym parts.1) t)))
+      (tt, (i.0, i.1, i.2, i.3, i.4, i.5, (parts.0, d, subst (λ x. Ty s acts k (Plain x ∷ i.3)) (sym parts.1) t)))
   give_step-safe (layer.Array j l) s line now k acts w m i q d t =
       let z : ℤ = pos (address_at p s acts j) -ℤ l in
       after-safe p (put_if (fits_word z) AddressRange z w) s line now k acts w i
       (put_checked-good p acts (depth_at p s acts) (Ty s acts k) (fits_word z) AddressRange z w i.3 i.4 d
-      (subst (λ x. Ty s acts k (x ∷ i.3)) (sym (same_Some WordKind m q)) t))
+      (subst (λ x. Ty s acts k (Plain x ∷ i.3)) (sym (same_Some WordKind m q)) t))
   give_step-safe (layer.Same j) s line now k acts w m i q d t =
-      (tt, (i.0, i.1, i.2, WordKind ∷ i.3, (tt, i.4), d, subst (λ x. Ty s acts k (x ∷ i.3)) (sym (same_Some WordKind m q)) t))
+      (tt, (i.0, i.1, i.2, Plain WordKind ∷ i.3, (tt, i.4), d, subst (λ x. Ty s acts k (Plain x ∷ i.3)) (sym (same_Some WordKind m q)) t))
   give_step-safe (layer.Base j) s line now k acts w m i q d t =
-      (tt, (i.0, i.1, i.2, WordKind ∷ i.3, (tt, i.4), d, subst (λ x. Ty s acts k (x ∷ i.3)) (sym (same_Some WordKind m q)) t))
+      (tt, (i.0, i.1, i.2, Plain WordKind ∷ i.3, (tt, i.4), d, subst (λ x. Ty s acts k (Plain x ∷ i.3)) (sym (same_Some WordKind m q)) t))
   give_step-safe (layer.Goal g) s line now k acts w m i q d t =
       let x : Option (ℕ × ℕ) = label_of_goal p (segment_of s acts) g in
       let parts = if-kind (reaches p (owner_of acts) x) LabelKind m q in
       after-safe p (held (with_label_owner (length acts) x) w) s line now k acts w i
-      (label-good acts (depth_at p s acts) (Ty s acts k) x w i.3 i.4 parts.0 d (subst (λ y. Ty s acts k (y ∷ i.3)) (sym parts.1) t))
+      (label-good acts (depth_at p s acts) (Ty s acts k) x w i.3 i.4 parts.0 d (subst (λ y. Ty s acts k (Plain y ∷ i.3)) (sym parts.1) t))
   give_step-safe (layer.Switch n) s line now k acts w m i q d t =
       let x : Option (ℕ × ℕ) = Some (segment_of s acts, n) in
       let parts = if-kind (reaches_switch p (owner_of acts) x) SwitchKind m q in
       after-safe p (held (with_switch_owner (length acts) x) w) s line now k acts w i
-      (switch-good acts (depth_at p s acts) (Ty s acts k) x w i.3 i.4 parts.0 d (subst (λ y. Ty s acts k (y ∷ i.3)) (sym parts.1) t))
+      (switch-good acts (depth_at p s acts) (Ty s acts k) x w i.3 i.4 parts.0 d (subst (λ y. Ty s acts k (Plain y ∷ i.3)) (sym parts.1) t))
   give_step-safe (layer.CommonSwitch n) s line now k acts w m i q d t =
       let x : Option (ℕ × ℕ) = switch_of_def (definition_of p (segment_of s acts) n) in
       let parts = if-kind (reaches_switch p (owner_of acts) x) SwitchKind m q in
       after-safe p (held (with_switch_owner (length acts) x) w) s line now k acts w i
-      (switch-good acts (depth_at p s acts) (Ty s acts k) x w i.3 i.4 parts.0 d (subst (λ y. Ty s acts k (y ∷ i.3)) (sym parts.1) t))
+      (switch-good acts (depth_at p s acts) (Ty s acts k) x w i.3 i.4 parts.0 d (subst (λ y. Ty s acts k (Plain y ∷ i.3)) (sym parts.1) t))
   give_step-safe (layer.Proc n) s line now k acts w m i q d t =
       after-safe p (held (Some (ProcedureControl (segment_of s acts) n)) w) s line now k acts w i
       (place-good acts (depth_at p s acts) (Ty s acts k) (Some (segment_of s acts, n)) m w i.3 i.4 q d t)
@@ -205,30 +205,16 @@ module _ (p : Program) where
 
   -- ---- choices and loops
 
-  picked : (b : Bool) (s : ℕ) (acts : List Activation) (pass fail : Work) (ks : List Kind) → Ty s acts pass ks → Ty s acts fail ks → Ty s acts (pick b pass fail) ks
+  picked : (b : Bool) (s : ℕ) (acts : List Activation) (pass fail : Work) (ks : List Hand) → Ty s acts pass ks → Ty s acts fail ks → Ty s acts (pick b pass fail) ks
   picked true s acts pass fail ks t n = t
   picked false s acts pass fail ks t n = n
 
-  choose_with-safe : (f : ℤ → ℤ → Bool) (xs : List Operand) (ks : List Kind) (s : ℕ) (now pass fail : Work) (acts : List Activation) (w : Words) → Holds p s now acts w → HaveKinds p acts xs ks → weigh ks ≤ depth_at p s acts → Pop (Pop (λ r. Ty s acts pass r × Ty s acts fail r)) ks → Safe p (choose_with f xs s now pass fail acts w)
-  choose_with-safe f (Word y ∷ Word x ∷ xs) (WordKind ∷ WordKind ∷ ks) s now pass fail acts w i k b q =
-      (tt, (i.0, i.1, i.2, ks, k.1.1, omega (arith, b), picked (f x y) s acts pass fail ks q.0 q.1))
-  choose_with-safe f [] [] s now pass fail acts w i k b q = absurd q
-  choose_with-safe f [] (m ∷ ks) s now pass fail acts w i k b q = absurd k
-  choose_with-safe f (x ∷ xs) [] s now pass fail acts w i k b q = absurd q
-  choose_with-safe f (x ∷ xs) (LabelKind ∷ ks) s now pass fail acts w i k b q = absurd q
-  choose_with-safe f (x ∷ xs) (SwitchKind ∷ ks) s now pass fail acts w i k b q = absurd q
-  choose_with-safe f (x ∷ xs) (ProcedureKind ts ∷ ks) s now pass fail acts w i k b q = absurd q
-  choose_with-safe f (Held (LabelControl g l owner) ∷ xs) (WordKind ∷ ks) s now pass fail acts w i k b q = absurd k.0
-  choose_with-safe f (Held (SwitchControl g l owner) ∷ xs) (WordKind ∷ ks) s now pass fail acts w i k b q = absurd k.0
-  choose_with-safe f (Held (ProcedureControl g l) ∷ xs) (WordKind ∷ ks) s now pass fail acts w i k b q = absurd k.0
-  choose_with-safe f (Word y ∷ xs) (WordKind ∷ []) s now pass fail acts w i k b q = absurd q
-  choose_with-safe f (Word y ∷ xs) (WordKind ∷ LabelKind ∷ ks) s now pass fail acts w i k b q = absurd q
-  choose_with-safe f (Word y ∷ xs) (WordKind ∷ SwitchKind ∷ ks) s now pass fail acts w i k b q = absurd q
-  choose_with-safe f (Word y ∷ xs) (WordKind ∷ ProcedureKind ts ∷ ks) s now pass fail acts w i k b q = absurd q
-  choose_with-safe f (Word y ∷ []) (WordKind ∷ WordKind ∷ ks) s now pass fail acts w i k b q = absurd k.1
-  choose_with-safe f (Word y ∷ Held (LabelControl g l owner) ∷ xs) (WordKind ∷ WordKind ∷ ks) s now pass fail acts w i k b q = absurd k.1.0
-  choose_with-safe f (Word y ∷ Held (SwitchControl g l owner) ∷ xs) (WordKind ∷ WordKind ∷ ks) s now pass fail acts w i k b q = absurd k.1.0
-  choose_with-safe f (Word y ∷ Held (ProcedureControl g l) ∷ xs) (WordKind ∷ WordKind ∷ ks) s now pass fail acts w i k b q = absurd k.1.0
+  choose_with-safe : (f : ℤ → ℤ → Bool) (xs : List Operand) (ks : List Hand) (s : ℕ) (now pass fail : Work) (acts : List Activation) (w : Words) → Holds p s now acts w → HaveKinds p acts xs ks → weigh ks ≤ depth_at p s acts → Pop (Pop (λ r. Ty s acts pass r × Ty s acts fail r)) ks → Safe p (choose_with f xs s now pass fail acts w)
+  choose_with-safe f xs ks s now pass fail acts w i k b q =
+      let y = popped p (Pop (λ r. Ty s acts pass r × Ty s acts fail r)) acts xs ks k q in
+      let x = popped p (λ r. Ty s acts pass r × Ty s acts fail r) acts y.operands y.below y.kinds y.holds in
+      subst (λ ys. Safe p (choose_with f ys s now pass fail acts w)) (sym (y.is ∙ ap (λ ys. Word y.word ∷ ys) x.is))
+      (tt, (i.0, i.1, i.2, x.below, x.kinds, omega (arith, b, y.weighs, x.weighs), picked (f x.word y.word) s acts pass fail x.below x.holds.0 x.holds.1))
 
   element-fits : (g : ℕ) (o : Option (ℕ × ℕ)) (h : ℕ) (es : List Felem) (n : ℕ) (e : Felem) → IsTrue (are_elements p g o es) → bound.elements_depth es ≤ h → slice_get es n ≡ Some e → IsTrue (is_element p g o e) × (bound.element_depth e ≤ h)
   element-fits g o h [] n e a d q = absurd (none-some e q)
@@ -274,7 +260,7 @@ module _ (p : Program) where
     ),
   )
 
-  next-typed : (x : Option Felem) (s n : ℕ) (c : Loop) (k : Work) (acts : List Activation) (ks : List Kind) → ks ≡ [] → IsLoop p (segment_of s acts) (owner_of acts) (depth_at p s acts) c → Ty s acts k [] → Ty s acts (next_element x n c k) ks
+  next-typed : (x : Option Felem) (s n : ℕ) (c : Loop) (k : Work) (acts : List Activation) (ks : List Hand) → ks ≡ [] → IsLoop p (segment_of s acts) (owner_of acts) (depth_at p s acts) c → Ty s acts k [] → Ty s acts (next_element x n c k) ks
   next-typed None s n c k acts ks q l t = subst (Ty s acts k) (sym q) t
   next-typed (Some (element.One e)) s n c k acts ks q l t = (q, l, t)
   next-typed (Some (element.While e d)) s n c k acts ks q l t = (q, l, t)
@@ -327,10 +313,10 @@ module _ (p : Program) where
         let spot : Spot = (out-Ref r).at in
         let a = subst IsTrue (formed-reference p g o r ∙ formed-spot p g o spot) i.6.0 in
         let d = subst (λ n. n + weigh i.3 ≤ depth_at p s acts) (depth-reference r ∙ depth-spot spot) i.6.1 in
-        address_step-safe (compares_in p (here p s acts)) spot (out-Spot spot) s line k acts w (Address r line k) i a d (λ js h. h) i.6.2
+        address_step-safe (compares_in p (here p s acts)) spot (out-Spot spot) s line k acts w (Address r line k) i a d (λ js h between. (h, between)) i.6.2
     advance-safe s (FormAt spot line k) acts w i =
         after-safe p (perform p.limits.area (Form (addressing_of p (out-Spot spot) s acts w)) w) s line (FormAt spot line k) k acts w i
-        (form_at-good (out-Spot spot) s k acts w i.3 i.4 i.5 i.6)
+        (form_at-good (out-Spot spot) s k acts w i.3 i.4 i.5 i.6.0)
     advance-safe s (Do op line k) acts w i =
         after-safe p (perform p.limits.area op w) s line (Do op line k) k acts w i
         (perform-good p acts (depth_at p s acts) (Ty s acts k) p.limits.area op w i.3 i.4 i.5 i.6)
@@ -398,15 +384,17 @@ module _ (p : Program) where
 
   -- ---- the operands that are held
 
-  pub held-weighs : (acts : List Activation) (xs : List Operand) (ks : List Kind) → HaveKinds p acts xs ks → operands_held xs ≡ weigh ks
+  pub held-weighs : (acts : List Activation) (xs : List Operand) (ks : List Hand) → HaveKinds p acts xs ks → operands_held xs ≡ weigh ks
   held-weighs acts [] [] h = refl
   held-weighs acts [] (k ∷ ks) h = absurd h
   held-weighs acts (x ∷ xs) [] h = absurd h
-  held-weighs acts (Word z ∷ xs) (WordKind ∷ ks) h = ap (λ n. 1 + n) (held-weighs acts xs ks h.1)
-  held-weighs acts (Word z ∷ xs) (LabelKind ∷ ks) h = absurd h.0
-  held-weighs acts (Word z ∷ xs) (SwitchKind ∷ ks) h = absurd h.0
-  held-weighs acts (Word z ∷ xs) (ProcedureKind ts ∷ ks) h = absurd h.0
-  held-weighs acts (Held c ∷ xs) (k ∷ ks) h = ap (λ n. 2 + n) (held-weighs acts xs ks h.1) ∙ sym (weight-two acts c k ks h.0)
+  held-weighs acts (Word z ∷ xs) (Plain WordKind ∷ ks) h = ap (λ n. 1 + n) (held-weighs acts xs ks h.1)
+  held-weighs acts (Word z ∷ xs) (Plain LabelKind ∷ ks) h = absurd h.0
+  held-weighs acts (Word z ∷ xs) (Plain SwitchKind ∷ ks) h = absurd h.0
+  held-weighs acts (Word z ∷ xs) (Plain (ProcedureKind ts) ∷ ks) h = absurd h.0
+  held-weighs acts (Word z ∷ xs) (Between l u ∷ ks) h = ap (λ n. 1 + n) (held-weighs acts xs ks h.1)
+  held-weighs acts (Held c ∷ xs) (Plain k ∷ ks) h = ap (λ n. 2 + n) (held-weighs acts xs ks h.1) ∙ sym (weight-two acts c k ks h.0)
+  held-weighs acts (Held c ∷ xs) (Between l u ∷ ks) h = absurd h.0
 
   held-within : (c : Configuration) → Safe p c → operands_held (words_of c).operands ≤ depth_in p c
   held-within (at s k acts w e) h = omega (arith, h.1.5, held-weighs acts w.operands h.1.3 h.1.4)

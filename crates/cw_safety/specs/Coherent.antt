@@ -1,5 +1,5 @@
 -- What holds of each configuration of a run of well-formed units: what its next step finds, and how many words its calls keep.
-use Rattle.std.specs.Prelude.{◌≡◌, ℕ, ◌+◌, ◌≤◌, ℤ, List, [], ◌∷◌, length, Bool, Option, Some, None, slice_get}
+use Rattle.std.specs.Prelude.{◌≡◌, ℕ, ◌+◌, ◌≤◌, ℤ, int_le, List, [], ◌∷◌, length, Bool, true, IsTrue, ◌&&◌, Option, Some, None, slice_get}
 use Rattle.cw_unit.specs.declared.unit.Unit.{Unit as SourceUnit}
 use Rattle.cw_unit.specs.declared.unit.Proc.{Proc}
 use Rattle.cw_unit.specs.declared.unit.Label.{Label}
@@ -8,11 +8,13 @@ use Rattle.cw_unit.specs.declared.unit.Dest.{Dest}
 use Rattle.cw_unit.specs.declared.unit.Dest.TheVariants as dest
 use Rattle.cw_unit.specs.declared.unit.Expr.{Expr}
 use Rattle.cw_unit.specs.declared.unit.Target.{Target}
+use Rattle.cw_unit.specs.declared.unit.Spot.{Spot, out-Spot}
+use Rattle.cw_unit.specs.declared.unit.Arg.TheOpen as layer
 use Rattle.cw_unit.specs.Program.{Program, definition_of}
-use Rattle.cw_unit.specs.Words.{LabelControl, SwitchControl, Operand, Words}
-use Rattle.cw_unit.specs.Work.{Work, Nothing, Jump, Enter}
+use Rattle.cw_unit.specs.Words.{LabelControl, SwitchControl, Operand, Word, Words}
+use Rattle.cw_unit.specs.Work.{Work, Nothing, FormAt, Jump, Enter}
 use Rattle.cw_unit.specs.Configuration.{Configuration, at, Activation, segment_of, control_at, procedure_at}
-use Rattle.cw_unit.specs.Step.{Calling, callee_of, kept, label_of_goal, switch_of_def, switch_in, goal_at}
+use Rattle.cw_unit.specs.Step.{Calling, callee_of, kept, label_of_goal, switch_of_def, switch_in, goal_at, here, compares_in}
 use Rattle.cw_safety.specs.Kinds.{weigh, parameter_kinds}
 use Rattle.cw_safety.specs.Depth.{operands_held, owner_of}
 
@@ -20,6 +22,15 @@ use Rattle.cw_safety.specs.Depth.{operands_held, owner_of}
 abbrev pub argument_words : Option Proc → ℕ
 argument_words None = 0
 argument_words (Some q) = weigh (parameter_kinds q)
+
+-- two indexes, the second one last, that lie between bounds
+pub record LieBetween (lower upper second last : ℤ) (operands : List Operand) : Type 0 where
+  pub row : ℤ
+  pub column : ℤ
+  pub rest : List Operand
+  pub is : operands ≡ Word column ∷ Word row ∷ rest
+  pub row_between : IsTrue (int_le lower row && int_le row upper)
+  pub column_between : IsTrue (int_le second column && int_le column last)
 
 module _ (p : Program) where
   -- the words of a control stack: the operands, and for each call eight words of its record, its arguments and the operands below them
@@ -67,6 +78,9 @@ module _ (p : Program) where
     pub alone : (n : ℕ) (e : Expr) (line : ℕ) → k ≡ Jump (dest.Switch n e) line → length w.operands ≡ 1
     -- each label that a jump may go to has its owner at work
     pub owners : (d : Dest) (line : ℕ) → k ≡ Jump d line → (h label owner : ℕ) → Names s acts d h label owner → IsOwned acts h label owner
+    -- where a unit compares its indexes, an address of two indexes is formed of such as lie between their bounds
+    pub compared : (spot : Spot) (line : ℕ) (next : Work) → k ≡ FormAt spot line next → compares_in p (here p s acts) ≡ true
+        → (i : ℕ) (l1 u1 l2 u2 : ℤ) (n : ℕ) (e g : Expr) → out-Spot spot ≡ layer.Two i l1 u1 l2 u2 n e g → LieBetween l1 u1 l2 u2 w.operands
     -- a segment's body ends with no call, and nothing in hand
     pub ends : k ≡ Nothing → (acts ≡ []) × (w.operands ≡ [])
 

@@ -27,7 +27,8 @@ pub fn operands_within_depth()
 {}
 
 /// In each configuration that such a run reaches, a call finds its arguments, labels have their owners at work, a jump to a label and the
-/// end of a body find nothing in hand, and a jump through a switch of the unit its index alone.
+/// end of a body find nothing in hand, and a jump through a switch of the unit its index alone; two indexes that were compared with their
+/// bounds lie between them where their address is formed.
 pub fn coherent()
     ensures { (p : Program) (input : List ℕ) (m : ℕ) → WellFormed p → IsCoherent p (configuration_after p input m) }
 {}

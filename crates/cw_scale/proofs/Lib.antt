@@ -1,4 +1,5 @@
 mod Chains
-mod Terms
+mod Layers
 mod Passing
 pub mod Telling
+pub mod Turns

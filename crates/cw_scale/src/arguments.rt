@@ -5,7 +5,7 @@ ghost use Rattle.cw_scale.specs.Arguments.{takes_none, answers_alone, is_array, 
 ghost use Rattle.cw_scale.specs.Arguments.{kind_fits, takes_value, takes_name, takes_plain, is_passed_if, takes_procedure, takes};
 ghost use Rattle.cw_scale.specs.TypeRules.{all_taken, expression};
 
-use crate::kinds::{fraction_of, kind_of, names_word, signature_of};
+use crate::kinds::{fraction_of, is_word_item_if, kind_of, signature_of};
 use crate::scales::{Shape, expression_shape};
 use cw_facts::fact::{Kind, Signature};
 use cw_scope::judge::{dimensions, is_label, is_switch};
@@ -86,7 +86,7 @@ fn takes_these(params: &[RawPs], these: &[RawIps]) -> bool
 fn name_is_value(named: &Named, name: &RawName) -> bool
     ensures { result ≡ name_is_value named.now name.now }
 {
-    names_word(named, name) || answers_alone(named, name)
+    is_word_item_if(kind_of(named, name)) || answers_alone(named, name)
 }
 
 fn kind_fits(param: &RawIps, kind: &Kind) -> bool
@@ -108,7 +108,7 @@ fn takes_name(param: &RawIps, bare: &Option<RawName>, named: &Named) -> bool
         None => false,
         Some(name) => match kind_of(named, name) {
             None => false,
-            Some(kind) => kind_fits(param, &kind),
+            Some(kind) => kind_fits(param, kind),
         },
     }
 }
@@ -149,7 +149,7 @@ fn names_passed(named: &Named, name: &RawName) -> bool
 {
     match kind_of(named, name) {
         None => false,
-        Some(kind) => is_passed(&kind),
+        Some(kind) => is_passed(kind),
     }
 }
 

@@ -1,14 +1,14 @@
 //! The rules of types in expressions.
 ghost use Rattle.std.specs.Prelude.{◌≡◌, ◌≤◌, ◌<◌, ◌==◌, max, map};
 ghost use Rattle.cw_scale.specs.Kinds.{signature_of};
-ghost use Rattle.cw_scale.specs.TypeRules.{can_divide, factor_faults, scale_for, expression, conjunction, comparison, condition, sum, term};
-ghost use Rattle.cw_scale.specs.TypeRules.{differ, union, mask, prim, primary, reference, argument_faults, arguments_faults, call_faults};
+ghost use Rattle.cw_scale.specs.TypeRules.{can_divide, factor_faults, scale_for, chain_faults, expression, conjunction, comparison, condition, sum};
+ghost use Rattle.cw_scale.specs.TypeRules.{term, differ, union, mask, prim, primary, reference, argument_faults, arguments_faults, call_faults};
 
 use crate::arguments::all_taken;
 use crate::fault::{Fault, Rule, keep, keep_unless};
 use crate::kinds::{fraction_of, signature_of};
 use crate::scales::{
-    differ_shape, fits_at, mask_shape, prim_shape, primary_shape, sum_shape, union_shape,
+    Shape, differ_shape, fits_at, mask_shape, prim_shape, primary_shape, sum_shape, union_shape,
 };
 use crate::types::{judge_each_bits, judge_type};
 use cw_amount::amount::octal_word;
@@ -42,6 +42,40 @@ fn scale_for(alone: bool, asked: u8, operand: u8) -> u8
 {
     if alone { asked } else { operand }
 }
+
+// ---- the scale of an operand of word logic: its own shape decides only beside others
+
+fn union_scale(alone: bool, asked: u8, e: &RawUnion, named: &Named) -> u8
+    ensures { result ≡ scale_for alone asked (union named.now e.now).shape.operand }
+{
+    if alone {
+        asked
+    } else {
+        union_shape(e, named).operand
+    }
+}
+
+fn mask_scale(alone: bool, asked: u8, e: &RawMask, named: &Named) -> u8
+    ensures { result ≡ scale_for alone asked (mask named.now e.now).shape.operand }
+{
+    if alone {
+        asked
+    } else {
+        mask_shape(e, named).operand
+    }
+}
+
+fn prim_scale(alone: bool, asked: u8, e: &RawPrim, named: &Named) -> u8
+    ensures { result ≡ scale_for alone asked (prim named.now e.now).shape.operand }
+{
+    if alone {
+        asked
+    } else {
+        prim_shape(e, named).operand
+    }
+}
+
+// ---- expressions
 
 /// Judges an expression that is evaluated at a scale.
 #[cycle(judged)]
@@ -101,26 +135,39 @@ fn judge_sum(e: &RawSum, named: &Named, scale: u8, first: &mut Option<Fault>)
 fn judge_term(e: &RawTerm, named: &Named, scale: u8, first: &mut Option<Fault>)
     ensures { first.new ≡ (term named.now e.now).faults scale first.old }
 {
-    let operands = e.operands.as_slice();
-    let signs = e.operators.as_slice();
-    if operands.is_empty() {
-        return;
+    match e.operands.as_slice() {
+        [] => {}
+        [operand] => judge_differ(operand, named, scale, first),
+        [head, others @ ..] => {
+            let shape = differ_shape(head, named);
+            judge_differ(head, named, shape.operand, first);
+            judge_factors(&shape, others, e.operators.as_slice(), named, scale, first);
+        }
     }
-    let head = &operands[0];
-    let shape = differ_shape(head, named);
-    let at = scale_for(operands.len() == 1, scale, shape.operand);
-    judge_differ(head, named, at, first);
-    let mut natural = shape.natural;
-    let mut before = shape.operand;
-    let mut i = 1;
-    while i < operands.len() && i <= signs.len() {
+}
+
+// Judges what stands behind the head of a term, each operand with the operator before it.
+#[cycle(judged)]
+fn judge_factors(
+    head: &Shape,
+    operands: &[RawDiffer],
+    signs: &[RawFactorSign],
+    named: &Named,
+    scale: u8,
+    first: &mut Option<Fault>,
+)
+    ensures { first.new ≡ chain_faults scale head.now.operand head.now.natural (map (differ named.now) operands.now) signs.now first.old }
+{
+    let mut before = head.operand;
+    let mut natural = head.natural;
+    let mut i = 0;
+    while i < operands.len() && i < signs.len() {
         let operand = &operands[i];
-        let sign = &signs[i - 1];
-        let next = differ_shape(operand, named);
-        judge_differ(operand, named, next.operand, first);
-        natural = natural.max(next.natural);
+        let shape = differ_shape(operand, named);
+        judge_differ(operand, named, shape.operand, first);
+        natural = natural.max(shape.natural);
         let asked = scale_for(i + 1 == operands.len(), scale, natural);
-        judge_factor(sign, asked, before, next.operand, first);
+        judge_factor(&signs[i], asked, before, shape.operand, first);
         before = natural;
         i += 1;
     }
@@ -133,13 +180,8 @@ fn judge_differ(e: &RawDiffer, named: &Named, scale: u8, first: &mut Option<Faul
     let operands = e.operands.as_slice();
     let alone = operands.len() == 1;
     for operand in operands {
-        let shape = union_shape(operand, named);
-        judge_union(
-            operand,
-            named,
-            scale_for(alone, scale, shape.operand),
-            first,
-        );
+        let at = union_scale(alone, scale, operand, named);
+        judge_union(operand, named, at, first);
     }
 }
 
@@ -150,13 +192,8 @@ fn judge_union(e: &RawUnion, named: &Named, scale: u8, first: &mut Option<Fault>
     let operands = e.operands.as_slice();
     let alone = operands.len() == 1;
     for operand in operands {
-        let shape = mask_shape(operand, named);
-        judge_mask(
-            operand,
-            named,
-            scale_for(alone, scale, shape.operand),
-            first,
-        );
+        let at = mask_scale(alone, scale, operand, named);
+        judge_mask(operand, named, at, first);
     }
 }
 
@@ -167,13 +204,8 @@ fn judge_mask(e: &RawMask, named: &Named, scale: u8, first: &mut Option<Fault>)
     let operands = e.operands.as_slice();
     let alone = operands.len() == 1;
     for operand in operands {
-        let shape = prim_shape(operand, named);
-        judge_prim(
-            operand,
-            named,
-            scale_for(alone, scale, shape.operand),
-            first,
-        );
+        let at = prim_scale(alone, scale, operand, named);
+        judge_prim(operand, named, at, first);
     }
 }
 
@@ -181,10 +213,14 @@ fn judge_mask(e: &RawMask, named: &Named, scale: u8, first: &mut Option<Fault>)
 fn judge_prim(e: &RawPrim, named: &Named, scale: u8, first: &mut Option<Fault>)
     ensures { first.new ≡ (prim named.now e.now).faults scale first.old }
 {
-    judge_each_bits(e.bits.as_slice(), first);
-    let shape = primary_shape(e.primary.get(), named);
-    let at = scale_for(e.bits.as_slice().len() == 0, scale, shape.operand);
-    judge_primary(e.primary.get(), named, at, first);
+    match e.bits.as_slice() {
+        [] => judge_primary(&e.primary, named, scale, first),
+        bits => {
+            judge_each_bits(bits, first);
+            let shape = primary_shape(&e.primary, named);
+            judge_primary(&e.primary, named, shape.operand, first);
+        }
+    }
 }
 
 #[cycle(judged)]
@@ -206,7 +242,7 @@ fn judge_primary(e: &RawPrimary, named: &Named, scale: u8, first: &mut Option<Fa
             judge_expression(e.get(), named, fraction_of(t), first);
         }
         RawPrimary::Bracket(_, e) => judge_expression(e.get(), named, scale, first),
-        RawPrimary::Ref(r) => judge_reference(r.get(), named, first),
+        RawPrimary::Ref(r) => judge_reference(r, named, first),
         RawPrimary::Call(name, arguments) => {
             judge_call(name, arguments.as_slice(), named, first);
         }

@@ -12,12 +12,12 @@ use cw_tree::items::RawElem;
 use cw_tree::leaf::{RawName, RawSint, RawType};
 
 /// What a name names.
-pub fn kind_of(named: &Named, name: &RawName) -> Option<Kind>
-    ensures { result ≡ kind_of named.now name.now }
+pub fn kind_of<'a>(named: &'a Named, name: &RawName) -> Option<&'a Kind>
+    ensures { option_copied result ≡ kind_of named.now name.now }
 {
     match named.uses.find(name.at.token) {
         Some(token) => match named.declarations.find(*token) {
-            Some(declaration) => Some(declaration.kind),
+            Some(declaration) => Some(&declaration.kind),
             None => None,
         },
         None => None,
@@ -95,14 +95,21 @@ fn kind_fraction(kind: &Kind) -> u8
     }
 }
 
+/// The bits after the point of what a name stands for, by its kind.
+pub fn fraction_of_kind(kind: Option<&Kind>) -> u8
+    ensures { result ≡ fraction_of_kind (option_copied kind.entry) }
+{
+    match kind {
+        None => 0,
+        Some(kind) => kind_fraction(kind),
+    }
+}
+
 /// The bits after the point of what a name stands for.
 pub fn name_fraction(named: &Named, name: &RawName) -> u8
     ensures { result ≡ fraction_of_kind (kind_of named.now name.now) }
 {
-    match kind_of(named, name) {
-        None => 0,
-        Some(kind) => kind_fraction(&kind),
-    }
+    fraction_of_kind(kind_of(named, name))
 }
 
 fn is_word_item(kind: &Kind) -> bool
@@ -114,22 +121,22 @@ fn is_word_item(kind: &Kind) -> bool
     }
 }
 
-/// Whether a name by itself is a reference of a whole word.
-pub fn names_word(named: &Named, name: &RawName) -> bool
-    ensures { result ≡ is_word_item_if (kind_of named.now name.now) }
+/// Whether a name of a kind is by itself a reference of a whole word.
+pub fn is_word_item_if(kind: Option<&Kind>) -> bool
+    ensures { result ≡ is_word_item_if (option_copied kind.entry) }
 {
-    match kind_of(named, name) {
+    match kind {
         None => false,
-        Some(kind) => is_word_item(&kind),
+        Some(kind) => is_word_item(kind),
     }
 }
 
-/// Whether a name with an index is one.
-pub fn names_whole(named: &Named, name: &RawName) -> bool
-    ensures { result ≡ is_whole_if (kind_of named.now name.now) }
+/// Whether a name of a kind is one with an index.
+pub fn is_whole_if(kind: Option<&Kind>) -> bool
+    ensures { result ≡ is_whole_if (option_copied kind.entry) }
 {
-    match kind_of(named, name) {
+    match kind {
         None => false,
-        Some(kind) => !is_part(&kind),
+        Some(kind) => !is_part(kind),
     }
 }

@@ -1,9 +1,13 @@
 //! The scales of expressions.
 ghost use Rattle.std.specs.Prelude.{◌≡◌, ◌≤◌, ◌<◌, ◌==◌, max, length, map};
+ghost use Rattle.cw_scale.specs.Kinds.{kind_of, fraction_of_kind};
+ghost use Rattle.cw_scale.specs.Arguments.{is_whole_if};
 ghost use Rattle.cw_scale.specs.TypeRules.{plain, number_shape, name_shape, place_shape, merged, logic_merged, fits_at, best_within};
 ghost use Rattle.cw_scale.specs.TypeRules.{number_operand, expression, sum, term, differ, union, mask, prim, primary, reference};
 
-use crate::kinds::{fraction_of, name_fraction, names_whole, names_word};
+use crate::kinds::{
+    fraction_of, fraction_of_kind, is_whole_if, is_word_item_if, kind_of, name_fraction,
+};
 use cw_scope::resolve::Named;
 use cw_tree::expression::{
     RawDiffer, RawExpr, RawMask, RawPrim, RawPrimary, RawRef, RawSum, RawTerm, RawUnion,
@@ -202,7 +206,7 @@ pub(crate) fn mask_shape(e: &RawMask, named: &Named) -> Shape
 pub(crate) fn prim_shape(e: &RawPrim, named: &Named) -> Shape
     ensures { result ≡ (prim named.now e.now).shape }
 {
-    let shape = primary_shape(e.primary.get(), named);
+    let shape = primary_shape(&e.primary, named);
     logic_merged(e.bits.as_slice().len() == 0, &shape)
 }
 
@@ -221,24 +225,29 @@ pub(crate) fn primary_shape(e: &RawPrimary, named: &Named) -> Shape
             let shape = expression_shape(e.get(), named);
             plain(shape.natural)
         }
-        RawPrimary::Ref(r) => reference_shape(r.get(), named),
+        RawPrimary::Ref(r) => reference_shape(r, named),
         RawPrimary::Call(name, _) => plain(name_fraction(named, name)),
     }
 }
 
+fn indexed_shape(name: &RawName, named: &Named) -> Shape
+    ensures { let kind = kind_of named.now name.now in result ≡ place_shape (fraction_of_kind kind) (is_whole_if kind) }
+{
+    let kind = kind_of(named, name);
+    place_shape(fraction_of_kind(kind), is_whole_if(kind))
+}
+
+/// The shape of a reference.
 pub fn reference_shape(r: &RawRef, named: &Named) -> Shape
     ensures { result ≡ (reference named.now r.now).shape }
 {
     match r {
         RawRef::Name(name) => {
-            name_shape(name, name_fraction(named, name), names_word(named, name))
+            let kind = kind_of(named, name);
+            name_shape(name, fraction_of_kind(kind), is_word_item_if(kind))
         }
-        RawRef::One(name, _) => {
-            place_shape(name_fraction(named, name), names_whole(named, name))
-        }
-        RawRef::Two(name, _, _) => {
-            place_shape(name_fraction(named, name), names_whole(named, name))
-        }
+        RawRef::One(name, _) => indexed_shape(name, named),
+        RawRef::Two(name, _, _) => indexed_shape(name, named),
         RawRef::Bare(..) => place_shape(0, true),
     }
 }

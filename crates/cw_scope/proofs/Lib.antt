@@ -3,3 +3,4 @@ mod Keeping
 mod Looking
 mod Defining
 pub mod Telling
+mod Outermost

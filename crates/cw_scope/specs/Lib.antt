@@ -8,4 +8,5 @@ pub mod NameRules
 pub mod Definitions
 pub mod Names
 pub mod Text
+pub mod Gathered
 pub mod Outcome

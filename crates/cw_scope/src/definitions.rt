@@ -1,5 +1,5 @@
 //! Definitions of what the communicators list.
-ghost use Rattle.std.specs.Prelude.{◌≡◌, map};
+ghost use Rattle.std.specs.Prelude.{◌≡◌, map, option_copied};
 ghost use Rattle.cw_table.specs.Rows.{item_at};
 ghost use Rattle.cw_scope.specs.Definitions.{takes_nothing, takes_integer, is_integer_value, answers_integer, answers_nothing, fits_built_in, fits_built_in_if, is_own_procedure};
 ghost use Rattle.cw_scope.specs.Definitions.{rule_unless, broken_rule, same_specified, definition_faults, listed_faults, each_own, each_listed, defined};
@@ -118,11 +118,11 @@ fn same_specified(signatures: &Table<Signature>, a: u32, b: u32) -> bool
 
 fn judge_definition(
     signatures: &Table<Signature>,
-    listed: &Option<Declaration>,
+    listed: Option<&Declaration>,
     declaration: &Declaration,
     first: &mut Option<Fault>,
 )
-    ensures { first.new ≡ definition_faults signatures.now listed.now declaration.now first.old }
+    ensures { first.new ≡ definition_faults signatures.now (option_copied listed.entry) declaration.now first.old }
 {
     match listed {
         None => {}
@@ -147,7 +147,7 @@ fn judge_own(
     match fact {
         Fact::Declares(declaration) => {
             let listed = communicators.find(&declaration.name.name);
-            judge_definition(signatures, &listed, declaration, first);
+            judge_definition(signatures, listed, declaration, first);
         }
         _ => {}
     }

@@ -1,5 +1,5 @@
 //! Names are judged by the facts of a text.
-ghost use Rattle.std.specs.Prelude.{◌≡◌, ◌++◌, ◌∷◌, [], None, ◌==◌, map, slice_get, drop, length, OnOk, IfOk};
+ghost use Rattle.std.specs.Prelude.{◌≡◌, ◌++◌, ◌∷◌, [], None, ◌==◌, map, slice_get, drop, length, OnOk, IfOk, option_copied};
 ghost use Rattle.cw_scope.specs.Scope.{declared_in, declaration_of};
 ghost use Rattle.cw_scope.specs.Faults.{wrong, unless};
 ghost use Rattle.cw_scope.specs.NameRules.{within, is_reference, is_part, answers, is_procedure, is_label, is_switch, is_own_label, is_own_switch, is_data};
@@ -148,8 +148,8 @@ fn fits(form: &Form, kind: &Kind) -> bool
 // ---- the environment
 
 // From this block inwards.
-fn declaration_from(blocks: &[Names], name: &Name, from: usize) -> Option<Declaration>
-    ensures { result ≡ declaration_of (drop from blocks.now) name.now }
+fn declaration_from<'a>(blocks: &'a [Names], name: &Name, from: usize) -> Option<&'a Declaration>
+    ensures { option_copied result ≡ declaration_of (drop from blocks.now) name.now }
 {
     if from >= blocks.len() {
         return None;
@@ -160,8 +160,8 @@ fn declaration_from(blocks: &[Names], name: &Name, from: usize) -> Option<Declar
     }
 }
 
-fn declaration_of(blocks: &[Names], name: &Name) -> Option<Declaration>
-    ensures { result ≡ declaration_of blocks.now name.now }
+fn declaration_of<'a>(blocks: &'a [Names], name: &Name) -> Option<&'a Declaration>
+    ensures { option_copied result ≡ declaration_of blocks.now name.now }
 {
     declaration_from(blocks, name, 0)
 }
@@ -201,12 +201,12 @@ fn fault_unless(findings: &mut Findings, holds: bool, rule: Rule, name: &RawName
 }
 
 fn judge_use(
-    found: &Option<Declaration>,
+    found: Option<&Declaration>,
     usage: &Use,
     findings: &mut Findings,
 ) -> Result<(), NoMemory>
-    ensures first { OnOk result (findings.new.first ≡ use_faults found.now usage.now findings.old.first) }
-    ensures resolved { OnOk result (findings.new.resolved ≡ findings.old.resolved ++ resolutions found.now usage.now) }
+    ensures first { OnOk result (findings.new.first ≡ use_faults (option_copied found.entry) usage.now findings.old.first) }
+    ensures resolved { OnOk result (findings.new.resolved ≡ findings.old.resolved ++ resolutions (option_copied found.entry) usage.now) }
 {
     match found {
         None => {
@@ -228,8 +228,8 @@ fn judge_use(
     }
 }
 
-fn judge_repeat(first: &Option<Declaration>, declaration: &Declaration, findings: &mut Findings)
-    ensures first { findings.new.first ≡ repeat_faults first.now declaration.now findings.old.first }
+fn judge_repeat(first: Option<&Declaration>, declaration: &Declaration, findings: &mut Findings)
+    ensures first { findings.new.first ≡ repeat_faults (option_copied first.entry) declaration.now findings.old.first }
     ensures resolved { findings.new.resolved ≡ findings.old.resolved }
 {
     match first {
@@ -241,8 +241,8 @@ fn judge_repeat(first: &Option<Declaration>, declaration: &Declaration, findings
     }
 }
 
-fn first_in_block(blocks: &[Names], name: &Name) -> Option<Declaration>
-    ensures { result ≡ declared_in (own_block blocks.now) name.now }
+fn first_in_block<'a>(blocks: &'a [Names], name: &Name) -> Option<&'a Declaration>
+    ensures { option_copied result ≡ declared_in (own_block blocks.now) name.now }
 {
     if blocks.is_empty() {
         return None;
@@ -256,7 +256,7 @@ fn judge_declaration(blocks: &[Names], declaration: &Declaration, findings: &mut
     ensures resolved { findings.new.resolved ≡ findings.old.resolved }
 {
     let first = first_in_block(blocks, &declaration.name.name);
-    judge_repeat(&first, declaration, findings);
+    judge_repeat(first, declaration, findings);
 }
 
 // ---- blocks
@@ -308,7 +308,7 @@ fn judge_fact(
         }
         Fact::Uses(usage) => {
             let found = declaration_of(blocks.as_slice(), &usage.name.name);
-            judge_use(&found, usage, findings)
+            judge_use(found, usage, findings)
         }
         Fact::Block(_, inner) => judge_block(inner.as_slice(), alloc, blocks, findings),
         _ => Ok(()),

@@ -11,4 +11,5 @@ pub mod key;
 pub mod laws;
 pub mod names;
 pub mod resolve;
+mod resolving;
 pub mod same;

@@ -1,5 +1,5 @@
 //! The names of one block.
-ghost use Rattle.std.specs.Prelude.{◌≡◌, ◌++◌, ◌∷◌, [], OnOk, IfOk};
+ghost use Rattle.std.specs.Prelude.{◌≡◌, ◌++◌, ◌∷◌, [], OnOk, IfOk, option_copied};
 ghost use Rattle.cw_scope.specs.Scope.{declared_in};
 ghost use Rattle.cw_scope.specs.Names.{NotesFirst};
 
@@ -53,12 +53,12 @@ impl Names {
     }
 
     /// The first declaration of a name.
-    pub fn find(&self, name: &Name) -> Option<Declaration>
-        ensures { result ≡ declared_in self.now name.now }
+    pub fn find(&self, name: &Name) -> Option<&Declaration>
+        ensures { option_copied result ≡ declared_in self.now name.now }
     {
         let key = Key { name: *name };
         match self.first.get(&key) {
-            Some(at) => self.all.as_slice().get(*at).copied(),
+            Some(at) => self.all.as_slice().get(*at),
             None => None,
         }
     }

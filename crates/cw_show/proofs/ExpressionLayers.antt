@@ -94,10 +94,10 @@ comparison_added x l r o0 o1 o2 o3 el er e1 e2 e3 =
     ∙ sym (added_in_order o0 (sum_tokens (out-RawCmp x).left) (op ∷ sum_tokens (out-RawCmp x).right))
     ∙ ap (with_tokens o0) (sym (cmp-layer x))
 
-pub prim_added : (x : RawPrim) (bits : List RawBits) (p : RawPrimary) (o0 o1 o2 : List ℕ) → bits ≡ (out-RawPrim x).bits → p ≡ (out-RawPrim x).primary
-    → o1 ≡ with_tokens o0 (joined (map bits_tokens bits)) → o2 ≡ with_tokens o1 (primary_tokens p) → o2 ≡ with_tokens o0 (prim_tokens x)
-prim_added x bits p o0 o1 o2 eb ep e1 e2 =
-    e2 ∙ ap₂ (λ o y. with_tokens o (primary_tokens y)) (e1 ∙ ap (λ y. with_tokens o0 (joined (map bits_tokens y))) eb) ep
+pub prim_added : (x : RawPrim) (bits : List RawBits) (o0 o1 o2 : List ℕ) → bits ≡ (out-RawPrim x).bits
+    → o1 ≡ with_tokens o0 (joined (map bits_tokens bits)) → o2 ≡ with_tokens o1 (primary_tokens (out-RawPrim x).primary) → o2 ≡ with_tokens o0 (prim_tokens x)
+prim_added x bits o0 o1 o2 eb e1 e2 =
+    e2 ∙ ap (λ o. with_tokens o (primary_tokens (out-RawPrim x).primary)) (e1 ∙ ap (λ y. with_tokens o0 (joined (map bits_tokens y))) eb)
     ∙ sym (added_in_order o0 (joined (map bits_tokens (out-RawPrim x).bits)) (primary_tokens (out-RawPrim x).primary))
     ∙ ap (with_tokens o0) (sym (prim-layer x))
 

@@ -209,7 +209,7 @@ fn put_prim(out: &mut Vec<u8>, prim: &RawPrim) -> Result<(), NoMemory>
     ensures { OnOk result (out.new.items ≡ with_tokens out.old.items (prim_tokens prim.now)) }
 {
     put_all_bits(out, prim.bits.as_slice())?;
-    put_primary(out, prim.primary.get())
+    put_primary(out, &prim.primary)
 }
 
 #[cycle(expression)]
@@ -230,7 +230,7 @@ fn put_primary(out: &mut Vec<u8>, primary: &RawPrimary) -> Result<(), NoMemory>
             put_bracketed(out, value.get())
         }
         RawPrimary::Bracket(_, value) => put_bracketed(out, value.get()),
-        RawPrimary::Ref(place) => put_ref(out, place.get()),
+        RawPrimary::Ref(place) => put_ref(out, place),
         RawPrimary::Call(name, arguments) => {
             put_name(out, &name.name)?;
             put_arguments(out, arguments.as_slice())

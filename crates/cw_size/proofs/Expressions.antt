@@ -16,14 +16,15 @@ use Rattle.cw_unit.specs.declared.unit.Arg.TheOpen as layer
 use Rattle.cw_unit.specs.declared.unit.Arg.TheOpen.{Arg-F, Cond-F, Spot-F, Ref-F}
 use Rattle.cw_unit.specs.Scales.{answer_scale}
 use Rattle.cw_gen_expr.specs.Pieces.{Piece, plain, followed_by, sequence, with_end}
-use Rattle.cw_gen_expr.specs.ReferenceExpressions.{Scope, ConditionPiece, Reference, saved, two_values, control_place, item_order, item_span, table_span, table_orders, bounds_orders, load_orders, rescale_orders, logic_order, narrow, number_order, known_or, named_or, comparator_for, pick_mark, call_order, label_order, value_of, condition_piece, argument_piece, reference_of, expression_piece}
+use Rattle.cw_gen_expr.specs.ReferenceExpressions.{Scope, ConditionPiece, Reference, saved, two_values, control_place, item_order, item_span, row_order, table_span, table_orders, bounds_orders, load_orders, rescale_orders, logic_order, narrow, number_order, known_or, named_or, comparator_for, pick_mark, call_order, label_order, value_of, condition_piece, argument_piece, reference_of, expression_piece}
+use Rattle.cw_gen_expr.specs.KnownValues.{all_inside}
 use Rattle.cw_gen_expr.proofs.Layers.{value_layer, value-made, spot-made, reference-made, condition-made, argument-made, total, expression_size, expression-size, expression_size_layer, argument_size, argument-size, argument_size_layer, spot-size, spot_size_layer, reference_size, reference-size, condition_size, condition-size, condition_size_layer}
 use Rattle.cw_gen_expr.proofs.Layers as made
 use Rattle.cw_gen_unit.specs.ReferenceStatements.{parted_piece}
 use Rattle.cw_tokens.specs.LeastTokens.{separated, part, expression_tokens, argument_tokens, condition_tokens, reference_tokens}
 use Rattle.cw_tmpl.specs.Sizes.{listed_size, listed_sizes}
 use Rattle.cw_size.proofs.Short.{word_short, one_short, sizes-append, first_short, Short, plainly, both_short, ended_short, eased}
-use Rattle.cw_size.proofs.OrderSizes.{item-first, item-load, saved-item, saved-table, bounds-short, take-short, load-part-short, element-short, of-two-short, entry-short, rescale-short, rescale-whole, rescale-same, logic-short, product-short, call-short, label-short, hand-short}
+use Rattle.cw_size.proofs.OrderSizes.{item-first, item-load, saved-item, saved-table, bounds-short, take-short, load-part-short, element-short, row-short, entry-short, rescale-short, rescale-whole, rescale-same, logic-short, product-short, call-short, label-short, hand-short}
 use Rattle.cw_size.proofs.TokenLayers.{expression_layer, expression-tokens, argument_layer, argument-tokens, condition_layer, condition-tokens, spot_layer, spot-tokens, reference-tokens, separated-within}
 
 pub parted_short : {m k n : ℕ} {i j : ℕ} (c : ConditionPiece) (between : ℕ → List Order) (a b : Piece) → ((when : Bool) (mark : ℕ) → Short (c when mark) 0 m) → ((end : ℕ) → listed_sizes (between end) ≤ 3) → Short a i k → Short b j n → Short (parted_piece c between a b) (i + j) (m + k + n + 3)
@@ -133,11 +134,12 @@ module _ (s : Scope) where
         (let z : 32 * expression_tokens e + 25 + 40 + spared field ≤ 32 * (3 + expression_tokens e) + 9 = omega (arith, left) in z)
     indexed_short (layer.Two i l1 u1 l2 u2 m e g) field le =
         let span = item_span s.layout i in
-        let o = order.ElementOfTwo l1 l2 m span s.line in
+        let inside = all_inside s.unit.bounds span l1 u1 l2 u2 m in
+        let o = row_order inside l1 l2 m span s.line in
         let left = two-spared field in
         indexed (9 + (0 + 9)) (32 * expression_tokens e + 25 + (1 + (32 * expression_tokens g + 25))) 76 (spared field) (32 * (4 + (part field + (expression_tokens e + expression_tokens g)))) (order.Save ∷ item_order s.layout i 0 ∷ o ∷ [])
         (both_short (bounded e l1 u1 (let z : expression_size e < n = omega (arith, le) in z)) (both_short saved_short (bounded g l2 u2 (let z : expression_size g < n = omega (arith, le) in z))))
-        (saved-item s.layout i o 67 (of-two-short l1 l2 m span s.line))
+        (saved-item s.layout i o 67 (row-short inside l1 l2 m span s.line))
         (let z : 32 * expression_tokens e + 25 + (1 + (32 * expression_tokens g + 25)) + 76 + spared field ≤ 32 * (4 + (part field + (expression_tokens e + expression_tokens g))) + (9 + (0 + 9)) = omega (arith, left) in z)
     indexed_short (layer.ParamArray i e) field le =
         let o = order.Element (pos 0) 0 s.line in

@@ -22,7 +22,7 @@ use Rattle.cw_unit.specs.declared.unit.Target.{Target}
 use Rattle.cw_unit.specs.declared.unit.Target.TheVariants as target
 use Rattle.cw_unit.specs.declared.unit.Goal.{Goal}
 use Rattle.cw_unit.specs.declared.unit.Goal.TheVariants as goal
-use Rattle.cw_gen_expr.specs.ReferenceExpressions.{Scope, argument_words, placed_by, placed_in, item_order, table_orders, bounds_orders, store_orders, rescale_orders, logic_order, number_order, call_order, control_place, label_order}
+use Rattle.cw_gen_expr.specs.ReferenceExpressions.{Scope, argument_words, placed_by, placed_in, item_order, row_order, table_orders, bounds_orders, store_orders, rescale_orders, logic_order, number_order, call_order, control_place, label_order}
 use Rattle.cw_gen_expr.specs.ReferenceEntries.{bound_by, bound_in, bound_order, parameter_orders, bind_orders}
 use Rattle.cw_gen_expr.specs.UnitTables.{label_mark}
 use Rattle.cw_gen_unit.specs.declared.simple.Simple.{Simple}
@@ -31,7 +31,7 @@ use Rattle.cw_gen_unit.specs.declared.simple.SimpleStep.{SimpleStep}
 use Rattle.cw_gen_unit.specs.ReferenceStatements.{after_statement_call, from_procedure, own_order, goal_order, keep_orders, number_orders, set_orders, bump_orders, value_orders, limit_orders, past_orders, turn_orders, simple_orders, simple_beginning}
 use Rattle.cw_tmpl.proofs.Lengths.{frame_few, argument_few}
 use Rattle.cw_tmpl.specs.Templates.{loop_ways_size}
-use Rattle.cw_tmpl.specs.Sizes.{shift_size, lowest_size, part_size, times_size, width_size, bound_size, word_size, listed_size, sizes_behind, listed_sizes}
+use Rattle.cw_tmpl.specs.Sizes.{shift_size, lowest_size, part_size, times_size, width_size, bound_size, word_size, top_lower_size, times_entry_size, listed_size, sizes_behind, listed_sizes}
 use Rattle.cw_word.specs.Word.{unsigned}
 use Rattle.cw_order.specs.declared.order.Comparator.TheVariants as comparator
 use Rattle.cw_size.proofs.Short.{word_short, one_short, all-behind, sizes-append, first_short}
@@ -173,13 +173,33 @@ lower-short (negsuc n) = omega arith
 pub element-short : (lower : ℤ) (span line : ℕ) → listed_size (order.Element lower span line) ≤ 31
 element-short lower span line = let h = lower-short lower in let z : bound_size lower + 21 ≤ 31 = omega (arith, h) in z
 
-pub of-two-short : (lower second : ℤ) (width span line : ℕ) → listed_size (order.ElementOfTwo lower second width span line) ≤ 67
-of-two-short lower second width span line =
+of-two-short : (lower second : ℤ) (width line : ℕ) → listed_size (order.ElementOfTwo lower second width line) ≤ 67
+of-two-short lower second width line =
     let h = lower-short lower in
     let k = lower-short second in
     let t = times-short width in
     let z : bound_size second + bound_size lower + times_size width + 33 ≤ 67 = omega (arith, h, k, t) in
     z
+
+top-lower-short : (lower : ℤ) → top_lower_size lower ≤ 3
+top-lower-short (pos zero) = omega arith
+top-lower-short (pos (suc n)) = omega arith
+top-lower-short (negsuc n) = omega arith
+
+inside-short : (lower second : ℤ) (width span : ℕ) → listed_size (order.ElementInside lower second width span) ≤ 67
+inside-short lower second width span =
+    let h = top-lower-short lower in
+    let k = top-lower-short second in
+    let z : top_lower_size second + top_lower_size lower + times_entry_size width + 10 ≤ 67 = omega (arith, h, k, picked (width == 1)) in
+    z
+  where
+    picked : (b : Bool) → (if b then 0 else 5) ≤ 5
+    picked true = omega arith
+    picked false = omega arith
+
+pub row-short : (inside : Bool) (lower second : ℤ) (width span line : ℕ) → listed_size (row_order inside lower second width span line) ≤ 67
+row-short true lower second width span line = inside-short lower second width span
+row-short false lower second width span line = of-two-short lower second width line
 
 width-short : (width : ℕ) → width_size width ≤ 14
 width-short width = picked (width == 1)

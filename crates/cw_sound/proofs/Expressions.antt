@@ -2,6 +2,7 @@ pub mod Truth
 pub mod Judging
 pub mod Several
 pub mod Schema
+pub mod Passes
 pub mod Standing
 pub mod Lists
 pub mod Parts

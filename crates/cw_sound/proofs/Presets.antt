@@ -1,4 +1,3 @@
-pub mod Carried
 pub mod Tokens
 pub mod Small
 pub mod Layers

@@ -1,4 +1,6 @@
 pub mod Layers
+pub mod Passes
+pub mod Procedures
 pub mod Folds
 pub mod Keeping
 pub mod Parts

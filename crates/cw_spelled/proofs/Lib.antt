@@ -1,2 +1,3 @@
 mod Items
+pub mod Carried
 mod Expanded

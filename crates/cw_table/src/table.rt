@@ -85,6 +85,22 @@ impl<T> Table<T> {
 }
 
 impl<T: Drop> Table<T> {
+    /// No rows, with room for so many.
+    pub fn with_room(alloc: Global, count: usize) -> Result<Table<T>, NoMemory>
+        ensures { IfOk result (λ t. t ≡ []) }
+    {
+        let Ok(places) = IndexMap::with_capacity(alloc, count) else {
+            return Err(NoMemory);
+        };
+        match Vec::with_capacity(alloc, count) {
+            Ok(rows) => Ok(Table {
+                rows: List::of(rows),
+                places,
+            }),
+            Err(_) => Err(NoMemory),
+        }
+    }
+
     /// These rows and one more.
     pub fn with(self, token: u32, item: T) -> Result<Table<T>, NoMemory>
         ensures { IfOk result (λ t. t ≡ self ++ record { token = token; item = item } ∷ []) }

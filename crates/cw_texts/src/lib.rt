@@ -4,4 +4,4 @@
 pub mod laws;
 mod texts;
 
-pub use texts::{compile_text, read_text, read_units};
+pub use texts::{TEXT_LIMIT, compile_text, read_text, read_units};

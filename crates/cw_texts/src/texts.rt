@@ -18,7 +18,7 @@ use cw_unit::unit::Unit;
 use std::alloc::Global;
 
 /// The most bytes of a source text.
-const TEXT_LIMIT: usize = 1_048_576;
+pub const TEXT_LIMIT: usize = 1_048_576;
 
 /// Reads a text, the first file of the call; or the status where it is not read.
 pub fn read_text<F: Store>(alloc: Global, files: &mut F, name: &str) -> Result<Vec<u8>, Status>

@@ -13,7 +13,8 @@ use Rattle.cw_tmpl.specs.Mnemonics.{jump_if_no_overflow}
 use Rattle.cw_tmpl.specs.Names.{call_place}
 use Rattle.cw_tmpl.specs.Pieces.{blanks}
 use Rattle.cw_tmpl.specs.Blocks.{block_at, orders_left, left_at}
-use Rattle.cw_tmpl.specs.Templates.{Forms, all_near, entry_pieces, block_pieces, block_size, call_stop, checked, is_close, reaches, is_short, check_of}
+use Rattle.cw_tmpl.specs.Templates.{entry_pieces, block_pieces, block_size, call_stop, checked, is_close}
+use Rattle.cw_tmpl.specs.ShortForms.{Forms, all_near, reaches, is_short, check_of}
 use Rattle.cw_tmpl.specs.Backward.{call_for, call_after, calls_from}
 use Rattle.cw_tmpl.specs.ReferenceCode.{templates, longest_places, entry_size, reach_of, order_places, names_of, StandsAt, GoesBack}
 use Rattle.cw_tmpl.proofs.Lengths.{appended_long}

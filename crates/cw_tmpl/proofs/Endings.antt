@@ -14,7 +14,8 @@ use Rattle.cw_tmpl.specs.Library.{overflow_entry}
 use Rattle.cw_tmpl.specs.Mnemonics.{ax, bx, add, subtract, negate, move}
 use Rattle.cw_tmpl.specs.Pieces.{blanks}
 use Rattle.cw_tmpl.specs.Names.{Names, no_names, mark_place, call_place}
-use Rattle.cw_tmpl.specs.Templates.{checked, checked_by, ended_back, times_if, rescale_if, product_down, times_before, rescale, rescale_before, product, product_start, product_before, quotient, quotient_before, is_checked, template_by, branch_by, with_operand, product_with, counted, word_compared, pieces_size, jump_of, check_of, saved, block_pieces, block_size}
+use Rattle.cw_tmpl.specs.Templates.{checked, checked_by, ended_back, times_if, rescale_if, product_down, times_before, rescale, rescale_before, product, product_start, product_before, quotient, quotient_before, is_checked, template_by, branch_by, with_operand, product_with, counted, word_compared, pieces_size, block_pieces, block_size}
+use Rattle.cw_tmpl.specs.ShortForms.{jump_of, check_of, saved}
 use Rattle.cw_tmpl.proofs.Growing.{blanks-append}
 
 -- a comparison, and the jump behind it

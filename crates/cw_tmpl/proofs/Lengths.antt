@@ -13,12 +13,12 @@ use Rattle.cw_word.specs.BitField.{field_mask}
 use Rattle.cw_tmpl.specs.declared.pieces.Coded.TheVariants as coded
 use Rattle.cw_tmpl.specs.declared.pieces.Target.TheVariants as target
 use Rattle.cw_order.specs.declared.order.Order.TheVariants as order
-use Rattle.cw_tmpl.specs.Mnemonics.{memory, field, first_argument, argument, slot, base_slot, compare_number, jump_to, ax, bx, cx, bp, si, at_bx, set_word, move, load, store, operate, change, shift_up, shift_down, shift_down_signed, shift_up_once, shift_down_once, shift_down_signed_once}
+use Rattle.cw_tmpl.specs.Mnemonics.{memory, field, first_argument, argument, slot, base_slot, compare_number, jump_to, ax, bx, cx, bp, si, at_bx, set_word, move, load, store, operate, change, shift_up, shift_down, shift_down_signed, shift_up_once, shift_down_once, shift_down_signed_once, add, multiply}
 use Rattle.cw_tmpl.specs.Pieces.{blanks}
 use Rattle.cw_tmpl.specs.Names.{no_names, own}
 use Rattle.cw_tmpl.specs.Library.{overflow_entry, address_entry}
-use Rattle.cw_tmpl.specs.Templates.{field_size, frame_size, times_if, rescale_if, product_start, product_down, times, less_bound, plus_word, times_width, based, element, in_row, element_of_two, entry, shifted, shifted_up, shifted_down, shifted_down_signed, lowest_if, part_taken, store_part, template, argument_load_size, back_jump, operands_dropped}
-use Rattle.cw_tmpl.specs.Sizes.{times_size, width_size, bound_size, word_size, shift_size, lowest_size, part_size}
+use Rattle.cw_tmpl.specs.Templates.{field_size, frame_size, times_if, rescale_if, product_start, product_down, times, less_bound, plus_word, times_width, based, element, in_row, element_of_two, top_from_lower, times_entry, element_inside, entry, shifted, shifted_up, shifted_down, shifted_down_signed, lowest_if, part_taken, store_part, template, argument_load_size, back_jump, operands_dropped}
+use Rattle.cw_tmpl.specs.Sizes.{times_size, width_size, bound_size, word_size, shift_size, lowest_size, part_size, top_lower_size, times_entry_size}
 use Rattle.cw_tmpl.proofs.Growing.{blanks-append}
 
 -- an instruction with a word behind BX, by its bytes with one at BX
@@ -196,6 +196,24 @@ element_of_two_long line lower second n =
     let last : List Coded = in_row line ++ based line in
     let row : List Coded = less_bound line lower ++ (T ++ last) in
     omega (arith, appended_long (less_bound line second) (coded.Whole (move cx ax) ∷ coded.Whole (i86.Pop ax) ∷ row), appended_long (less_bound line lower) (T ++ last), appended_long T last, bound_long line second, bound_long line lower, times_long (n == 32768) address_entry line n)
+
+pub top_lower_long : (l : ℤ) → length (blanks (top_from_lower l)) ≡ top_lower_size l
+top_lower_long (pos zero) = refl
+top_lower_long (pos (suc n)) = refl
+top_lower_long (negsuc n) = refl
+
+times_entry_long : (width : ℕ) → length (blanks (times_entry width)) ≡ times_entry_size width
+times_entry_long width = cases (width == 1)
+  where
+    cases : (one : Bool) → length (blanks (if one then [] else coded.Whole (set_word bx width) ∷ coded.Whole (multiply bx) ∷ [])) ≡ (if one then 0 else 5)
+    cases true = refl
+    cases false = refl
+
+pub element_inside_long : (lower second : ℤ) (n : ℕ) → length (blanks (element_inside lower second n)) ≡ top_lower_size second + top_lower_size lower + times_entry_size n + 10
+element_inside_long lower second n =
+    let last : List Coded = coded.Whole (add ax cx) ∷ coded.Whole (add ax si) ∷ [] in
+    let row : List Coded = top_from_lower lower ++ (times_entry n ++ last) in
+    omega (arith, appended_long (top_from_lower second) (coded.Whole (move cx ax) ∷ coded.Whole (i86.Pop ax) ∷ row), appended_long (top_from_lower lower) (times_entry n ++ last), appended_long (times_entry n) last, top_lower_long second, top_lower_long lower, times_entry_long n)
 
 pub entry_long : (line width word : ℕ) → length (blanks (entry line width word)) ≡ width_size width + word_size word + 21
 entry_long line width word =

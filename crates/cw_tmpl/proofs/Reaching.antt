@@ -7,7 +7,8 @@ use Rattle.cw_order.specs.declared.order.Order.{Order}
 use Rattle.cw_order.specs.declared.order.Orders.{Orders}
 use Rattle.cw_tmpl.specs.declared.blocks.Block.{Block}
 use Rattle.cw_tmpl.specs.Blocks.{block_at, orders_left, left_at}
-use Rattle.cw_tmpl.specs.Templates.{Forms, all_near, block_size, distance, short_distance, is_close, reaches, is_short, jump_of, check_of}
+use Rattle.cw_tmpl.specs.Templates.{block_size, distance, short_distance, is_close}
+use Rattle.cw_tmpl.specs.ShortForms.{Forms, all_near, reaches, is_short, jump_of, check_of}
 use Rattle.cw_tmpl.specs.ReferenceCode.{places_from, places_by, longest_places, entry_size, reach_of, order_places, mark_starts}
 use Rattle.cw_tmpl.proofs.Endings.{shorter_by}
 use Rattle.cw_tmpl.proofs.Sizes.{size_to, size_by, size_next, places_are, own_place, jump_arrives}

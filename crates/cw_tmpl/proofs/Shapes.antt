@@ -403,22 +403,22 @@ row_made_shape : (rows : Bounds) (c : Column) (os : List Order) (columns : Bound
     → slice_get os (length (column_orders c)) ≡ Some (order.InBounds columns.lower columns.upper columns.line) → slice_get os (length (column_orders c) + 1) ≡ Some order.Save
     → slice_get os (length (column_orders c) + 2) ≡ puts → slice_get os (length (column_orders c) + 3) ≡ forms
     → row_made rows c columns (item_of puts forms) ≡ Some r → IsRow (order.InBounds rows.lower rows.upper rows.line ∷ order.Save ∷ os) r
-row_made_shape rows c os columns (Some (order.Home f n)) (Some (order.ElementOfTwo l1 l2 width span line)) r there e0 e1 e2 e3 is =
+row_made_shape rows c os columns (Some (order.Home f n)) (Some (order.ElementInside l1 l2 width span)) r there e0 e1 e2 e3 is =
     cases (same_bound rows.lower l1) (same_bound columns.lower l2) refl refl (row_within R) refl is
   where
     k : ℕ
     k = length (column_orders c)
 
     R : Row
-    R = record { rows = rows; column = c; columns = columns; family = f; first = n; width = width; span = span; line = line }
+    R = record { rows = rows; column = c; columns = columns; family = f; first = n; width = width; span = span }
 
     next : (i j : ℕ) (o : Order) → j ≡ suc i → slice_get os i ≡ Some o → drop i os ≡ o ∷ drop j os
     next i j o one e = front_is os i o e ∙ ap (λ m. o ∷ drop m os) (sym one)
 
-    listed : (l m : ℤ) → rows.lower ≡ l → columns.lower ≡ m → slice_get os (k + 3) ≡ Some (order.ElementOfTwo l m width span line) → BeginsWith (orders_to_row R) (row_order R) (order.InBounds rows.lower rows.upper rows.line ∷ order.Save ∷ os)
+    listed : (l m : ℤ) → rows.lower ≡ l → columns.lower ≡ m → slice_get os (k + 3) ≡ Some (order.ElementInside l m width span) → BeginsWith (orders_to_row R) (row_order R) (order.InBounds rows.lower rows.upper rows.line ∷ order.Save ∷ os)
     listed l m el em at =
         let o = row_order R in
-        let same : order.ElementOfTwo l m width span line ≡ o = ap₂ (λ x y. order.ElementOfTwo x y width span line) (sym el) (sym em) in
+        let same : order.ElementInside l m width span ≡ o = ap₂ (λ x y. order.ElementInside x y width span) (sym el) (sym em) in
         let long : length (column_orders c ++ orders_in_row R) ≡ k + 3 = length-append (column_orders c) (orders_in_row R) in
         let behind : drop k os ≡ orders_in_row R ++ o ∷ drop (k + 4) os =
         next k (k + 1) (order.InBounds columns.lower columns.upper columns.line) (omega arith) e0

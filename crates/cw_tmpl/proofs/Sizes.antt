@@ -38,12 +38,13 @@ use Rattle.cw_tmpl.specs.Names.{Names, no_names, mark_place, switch_size}
 use Rattle.cw_tmpl.specs.Blocks.{address_orders, bounds_orders, element_orders, orders_to_form, form_order, operand_orders, order_of, count_order, element_at, element_fetched, fetched_or, joined, compared_or, both_or, fetched_behind, block_alone, block_of, block_at, orders_left, left_at, column_orders, orders_in_row, orders_to_row, row_order}
 use Rattle.cw_tmpl.proofs.Shapes.{IsBlock, shape}
 use Rattle.cw_tmpl.specs.Library.{address_entry}
-use Rattle.cw_tmpl.specs.Templates.{rescale, rescale_before, product, product_before, quotient, quotient_before, is_checked, frame_size, Forms, is_short, template, template_by, mark_words, goal_words, landing_pieces, switch_pieces, address_pieces, load_place, store_place, pieces_size, operated, block_pieces, block_size, order_size, distance, entry_pieces, shifted_up, shifted_down_signed, part_taken, operate_place, change_place, index_added, index_loaded, from_lower, indexes_between, index_below, address_tested, index_tested, element_tested, element_address, with_operand, product_with, checked, branch, call_stop, top_from_lower, top_below, formed, loop_ways_size, doubled_size, word_compared, counted, jump_of, saved, branch_by, element, column_loaded, column_below, row_summed, column_tested}
-use Rattle.cw_tmpl.specs.Sizes.{listed_size, size_behind, sizes_behind, listed_sizes, index_size, lower_size, element_size, used_size, shift_size, part_size, size_in_list, owed, number_size, bounds_size, top_lower_size, formed_size, times_size, column_size, row_size}
+use Rattle.cw_tmpl.specs.Templates.{rescale, rescale_before, product, product_before, quotient, quotient_before, is_checked, frame_size, template, template_by, mark_words, goal_words, landing_pieces, switch_pieces, address_pieces, load_place, store_place, pieces_size, operated, block_pieces, block_size, order_size, distance, entry_pieces, shifted_up, shifted_down_signed, part_taken, operate_place, change_place, index_added, index_loaded, from_lower, indexes_between, index_below, address_tested, index_tested, element_tested, element_address, with_operand, product_with, checked, branch, call_stop, top_from_lower, top_below, formed, loop_ways_size, doubled_size, word_compared, counted, branch_by, element, column_loaded, column_below, row_summed, column_tested}
+use Rattle.cw_tmpl.specs.ShortForms.{Forms, is_short, jump_of, saved}
+use Rattle.cw_tmpl.specs.Sizes.{listed_size, size_behind, sizes_behind, listed_sizes, index_size, lower_size, element_size, used_size, shift_size, part_size, size_in_list, owed, number_size, bounds_size, top_lower_size, formed_size, times_entry_size, column_size, row_size}
 use Rattle.cw_tmpl.specs.ReferenceCode.{templates, landings, switches, places_from, places_by, entry_size, reach_of, order_places, landings_place, switches_place, names_of, mark_starts, pieces_of, switch_sizes, StandsAt}
 use Rattle.cw_tmpl.proofs.Growing.{blanks-append}
 use Rattle.cw_tmpl.proofs.Endings.{compared_long, checked_same, ended_same, shorter_by}
-use Rattle.cw_tmpl.proofs.Lengths.{frame_few, field_loaded, field_stored, field_operated, field_changed, field_compared, first_long, rescale_long, product_scaled_long, product_down_long, appended_long, appended_one, shifted_long, part_long, store_part_long, element_long, element_of_two_long, entry_long, bind_long, bind_frame_long, special_out_long, call_special_long, go_special_long, go_switch_special_long}
+use Rattle.cw_tmpl.proofs.Lengths.{frame_few, field_loaded, field_stored, field_operated, field_changed, field_compared, first_long, rescale_long, product_scaled_long, product_down_long, appended_long, appended_one, shifted_long, part_long, store_part_long, element_long, element_of_two_long, element_inside_long, top_lower_long, entry_long, bind_long, bind_frame_long, special_out_long, call_special_long, go_special_long, go_switch_special_long}
 
 -- the words of a table
 pub size_of_marks : (names : Names) (ms : List ℕ) → length (blanks (mark_words names ms)) ≡ 2 * length ms
@@ -333,7 +334,8 @@ listed (order.CallSpecial k line) = call_special_long k line
 listed (order.GoSpecial k) = go_special_long k
 listed (order.GoSwitchSpecial k line) = go_switch_special_long k line
 listed (order.Element lower span line) = element_long line lower
-listed (order.ElementOfTwo lower second width span line) = element_of_two_long line lower second width
+listed (order.ElementOfTwo lower second width line) = element_of_two_long line lower second width
+listed (order.ElementInside lower second width span) = element_inside_long lower second width
 listed (order.Entry width word span line) = entry_long line width word
 listed _ = refl
 
@@ -640,11 +642,6 @@ operate_fits (simple.Contents (cell.Frame n)) u rest = word u (used_last order.L
     word (uses.Compare c m) e size = omega (arith, e, size, few)
 
 -- an index that is compared with bounds, and the address that is formed of it
-top_lower_long : (l : ℤ) → length (blanks (top_from_lower l)) ≡ top_lower_size l
-top_lower_long (pos zero) = refl
-top_lower_long (pos (suc n)) = refl
-top_lower_long (negsuc n) = refl
-
 pub formed_long : (f n : ℕ) (w : Form) → length (blanks (formed f n w)) ≡ formed_size w
 formed_long f n (form.Element span line) = refl
 formed_long f n (form.Entry width word span line) = cases (width == 1)
@@ -682,7 +679,7 @@ pub row_long : (r : Row) → block_size false (block.Row r) order.Save ≡ row_s
 row_long r =
     let first : List Coded = top_below r.rows.line (indexes_between (r.rows.upper -ℤ r.rows.lower)) in
     let test : List Coded = column_below r.columns.line (indexes_between (r.columns.upper -ℤ r.columns.lower)) in
-    let base : List Coded = formed r.family r.first (form.Entry r.width 0 r.span r.line) in
+    let base : List Coded = formed r.family r.first (form.Entry r.width 0 r.span r.columns.line) in
     let sum : List Coded = coded.Whole (add ax si) ∷ [] in
     omega (
       arith,
@@ -695,34 +692,27 @@ row_long r =
       top_lower_long r.rows.lower,
       column_long r.column,
       lower_long r.columns.lower,
-      formed_long r.family r.first (form.Entry r.width 0 r.span r.line),
+      formed_long r.family r.first (form.Entry r.width 0 r.span r.columns.line),
     )
 
 row_fits : (r : Row) (rest : List Order) → row_size r + listed_sizes rest ≤ listed_sizes (orders_to_row r ++ row_order r ∷ rest)
 row_fits r rest = cases r.column
   where
-    width : formed_size (form.Entry r.width 0 r.span r.line) ≤ 9
-    width = one (r.width == 1)
+    times : formed_size (form.Entry r.width 0 r.span r.columns.line) ≡ times_entry_size r.width + 4
+    times = one (r.width == 1)
       where
-        one : (i : Bool) → (if i then 4 else 9) ≤ 9
-        one true = omega arith
-        one false = omega arith
-
-    times : 12 ≤ times_size r.width
-    times = top (r.width == 32768)
-      where
-        top : (i : Bool) → 12 ≤ (if i then 14 else 12)
-        top true = omega arith
-        top false = omega arith
+        one : (i : Bool) → (if i then 4 else 9) ≡ (if i then 0 else 5) + 4
+        one true = refl
+        one false = refl
 
     same : sizes_behind (Some (order.Home r.family r.first)) (Some (row_order r)) rest ≡ listed_sizes rest
     same = behind_other (Some (order.Home r.family r.first)) (row_order r) tt (λ x. refl) refl rest
 
-    cases : (c : Column) → top_lower_size r.rows.lower + column_size c + lower_size r.columns.lower + formed_size (form.Entry r.width 0 r.span r.line) + 23 + listed_sizes rest
+    cases : (c : Column) → top_lower_size r.rows.lower + column_size c + lower_size r.columns.lower + formed_size (form.Entry r.width 0 r.span r.columns.line) + 23 + listed_sizes rest
         ≤ listed_sizes ((order.InBounds r.rows.lower r.rows.upper r.rows.line ∷ order.Save ∷ (column_orders c ++ orders_in_row r)) ++ row_order r ∷ rest)
-    cases (column.Number w) = omega (arith, same, width, times, bounds_some r.rows.lower, bounds_some r.columns.lower, short_lower r.columns.lower, number_some w)
-    cases (column.Contents (cell.Word f n)) = omega (arith, same, width, times, bounds_some r.rows.lower, bounds_some r.columns.lower, short_lower r.columns.lower)
-    cases (column.Contents (cell.Frame n)) = omega (arith, same, width, times, bounds_some r.rows.lower, bounds_some r.columns.lower, short_lower r.columns.lower, frame_few n)
+    cases (column.Number w) = omega (arith, same, times, bounds_some r.rows.lower, bounds_some r.columns.lower, short_lower r.columns.lower, number_some w)
+    cases (column.Contents (cell.Word f n)) = omega (arith, same, times, bounds_some r.rows.lower, bounds_some r.columns.lower, short_lower r.columns.lower)
+    cases (column.Contents (cell.Frame n)) = omega (arith, same, times, bounds_some r.rows.lower, bounds_some r.columns.lower, short_lower r.columns.lower, frame_few n)
 
 -- a block, and the orders behind it
 abbrev FromBlock : Block → Order → List Order → Type 0

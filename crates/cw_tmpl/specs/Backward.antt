@@ -5,7 +5,8 @@ use Rattle.std.specs.Prelude.{ℕ, zero, suc, ◌+◌, ◌==◌, ◌&&◌, if◌
 use Rattle.cw_order.specs.declared.order.Order.{Order}
 use Rattle.cw_tmpl.specs.declared.reach.Call.{Call}
 use Rattle.cw_tmpl.specs.Blocks.{block_at, orders_left}
-use Rattle.cw_tmpl.specs.Templates.{is_close, check_of}
+use Rattle.cw_tmpl.specs.Templates.{is_close}
+use Rattle.cw_tmpl.specs.ShortForms.{check_of}
 
 -- The CALL for the check of a block whose first order has this number, where the last block with a CALL of its own is given: it is named by the number
 -- of the order behind the first one of its block, which tells where that ends; 0 where there is none that serves.

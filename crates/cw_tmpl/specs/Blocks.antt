@@ -68,7 +68,7 @@ orders_to_row r = order.InBounds r.rows.lower r.rows.upper r.rows.line ∷ order
 
 -- and that order
 abbrev pub row_order : Row → Order
-row_order r = order.ElementOfTwo r.rows.lower r.columns.lower r.width r.span r.line
+row_order r = order.ElementInside r.rows.lower r.columns.lower r.width r.span
 
 -- those that put a simple operand
 abbrev pub operand_orders : Simple → List Order
@@ -390,8 +390,8 @@ same_bound a b = int_le a b && int_le b a
 
 -- an item of two dimensions, of which two orders make the address of an element
 abbrev pub item_of : (puts forms : Option Order) → Option Item
-item_of (Some (order.Home f n)) (Some (order.ElementOfTwo l1 l2 width span line)) =
-    Some (record { family = f; first = n; lower = l1; second = l2; width = width; span = span; line = line })
+item_of (Some (order.Home f n)) (Some (order.ElementInside l1 l2 width span)) =
+    Some (record { family = f; first = n; lower = l1; second = l2; width = width; span = span })
 item_of _ _ = None
 
 -- it begins at the lower bounds
@@ -399,7 +399,7 @@ abbrev pub row_made : (rows : Bounds) → Column → (columns : Bounds) → Opti
 row_made rows c columns None = None
 row_made rows c columns (Some i) =
     row_if (same_bound rows.lower i.lower && same_bound columns.lower i.second)
-    (record { rows = rows; column = c; columns = columns; family = i.family; first = i.first; width = i.width; span = i.span; line = i.line })
+    (record { rows = rows; column = c; columns = columns; family = i.family; first = i.first; width = i.width; span = i.span })
 
 -- behind the comparison of the second index
 abbrev pub row_formed : (rows : Bounds) → Column → (columns : Option Bounds) → (saves puts forms : Option Order) → Option Row

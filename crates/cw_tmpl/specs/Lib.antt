@@ -4,6 +4,7 @@ pub mod Library
 pub mod Names
 pub mod Blocks
 pub mod Templates
+pub mod ShortForms
 pub mod Sizes
 pub mod Backward
 pub mod Named

@@ -13,7 +13,8 @@ use Rattle.cw_tmpl.specs.Library.{overflow_entry}
 use Rattle.cw_tmpl.specs.Names.{Reach, Names, mark_place, call_place, way_to_label, landing_size, switch_size}
 use Rattle.cw_tmpl.specs.Names.{has_landing, landing_bytes, switch_bytes, place_of_one}
 use Rattle.cw_tmpl.specs.Backward.{calls_from}
-use Rattle.cw_tmpl.specs.Templates.{Forms, all_near, call_stop, is_close, is_short, block_pieces, block_size, entry_pieces, landing_pieces, switch_pieces}
+use Rattle.cw_tmpl.specs.Templates.{call_stop, is_close, block_pieces, block_size, entry_pieces, landing_pieces, switch_pieces}
+use Rattle.cw_tmpl.specs.ShortForms.{Forms, all_near, is_short}
 use Rattle.cw_tmpl.specs.Named.{is_named_label, is_named_switch}
 
 -- the code of a list from a place, the first order of which has this number, and where so many of the first orders are left of the block before

@@ -76,6 +76,9 @@ abbrev pub top_lower_size : ℤ → ℕ
 top_lower_size (pos zero) = 0
 top_lower_size lower = 3
 
+abbrev pub times_entry_size : (width : ℕ) → ℕ
+times_entry_size width = if width == 1 then 0 else 5
+
 abbrev pub formed_size : Form → ℕ
 formed_size (form.Element span line) = 4
 formed_size (form.Entry width word span line) = if width == 1 then 4 else 9
@@ -87,7 +90,7 @@ column_size (column.Contents (cell.Word f n)) = 4
 column_size (column.Contents (cell.Frame n)) = frame_size n + 5
 
 abbrev pub row_size : Row → ℕ
-row_size r = top_lower_size r.rows.lower + column_size r.column + lower_size r.columns.lower + formed_size (form.Entry r.width 0 r.span r.line) + 23
+row_size r = top_lower_size r.rows.lower + column_size r.column + lower_size r.columns.lower + formed_size (form.Entry r.width 0 r.span r.columns.line) + 23
 
 -- behind the address of an element, an order that uses it
 abbrev pub used_size : Use → ℕ
@@ -124,7 +127,8 @@ listed_size order.Less = 5
 listed_size order.Drop = 0
 listed_size (order.IndexLess lower line) = 12
 listed_size (order.Element lower span line) = bound_size lower + 21
-listed_size (order.ElementOfTwo lower second width span line) = bound_size second + bound_size lower + times_size width + 33
+listed_size (order.ElementOfTwo lower second width line) = bound_size second + bound_size lower + times_size width + 33
+listed_size (order.ElementInside lower second width span) = top_lower_size second + top_lower_size lower + times_entry_size width + 10
 listed_size (order.Entry width word span line) = width_size width + word_size word + 21
 listed_size (order.InArea line) = 9
 listed_size (order.InBounds lower upper line) = bounds_size lower

@@ -222,6 +222,22 @@ element_of_two line lower second width =
     ++ (less_bound line second
     ++ (coded.Whole (move cx ax) ∷ coded.Whole (i86.Pop ax) ∷ (less_bound line lower ++ (times address_entry line width ++ (in_row line ++ based line)))))
 
+-- the top operand less a lower bound
+abbrev pub top_from_lower : (lower : ℤ) → List Coded
+top_from_lower (pos zero) = []
+top_from_lower lower = coded.Whole (with_number 5 (unsigned lower)) ∷ []
+
+-- AX, which counts entries or rows, times their words
+abbrev pub times_entry : (width : ℕ) → List Coded
+times_entry width = if width == 1 then [] else coded.Whole (set_word bx width) ∷ coded.Whole (multiply bx) ∷ []
+
+-- an element of two dimensions where all numbers fit, and which is in the data area
+abbrev pub element_inside : (lower second : ℤ) → (width : ℕ) → List Coded
+element_inside lower second width =
+    base_kept
+    ++ (top_from_lower second
+    ++ (coded.Whole (move cx ax) ∷ coded.Whole (i86.Pop ax) ∷ (top_from_lower lower ++ (times_entry width ++ coded.Whole (add ax cx) ∷ coded.Whole (add ax si) ∷ []))))
+
 abbrev pub entry : (line width word : ℕ) → List Coded
 entry line width word = base_kept ++ (times_width line width ++ (plus_word line word ++ based line))
 
@@ -514,7 +530,8 @@ template names place (order.Take t b) = taken t b
 template names place order.Less = take_two ++ (coded.Whole (subtract ax bx) ∷ [])
 template names place (order.IndexLess lower line) = with_word address_entry line (unsigned lower) (subtract ax bx)
 template names place (order.Element lower span line) = element line lower
-template names place (order.ElementOfTwo lower second width span line) = element_of_two line lower second width
+template names place (order.ElementOfTwo lower second width line) = element_of_two line lower second width
+template names place (order.ElementInside lower second width span) = element_inside lower second width
 template names place (order.Entry width word span line) = entry line width word
 template names place (order.InArea line) = in_area line
 template names place (order.InBounds lower upper line) = in_bounds line lower upper
@@ -671,15 +688,6 @@ abbrev pub counted : (down : Bool) → Instr
 counted true = decrease ax
 counted false = increase ax
 
--- the top operand less a lower bound
-abbrev pub top_from_lower : (lower : ℤ) → List Coded
-top_from_lower (pos zero) = []
-top_from_lower lower = coded.Whole (with_number 5 (unsigned lower)) ∷ []
-
--- AX, which counts entries, times their words
-abbrev pub times_entry : (width : ℕ) → List Coded
-times_entry width = if width == 1 then [] else coded.Whole (set_word bx width) ∷ coded.Whole (multiply bx) ∷ []
-
 -- the address that is formed of an index in AX, which counts from the first word or entry
 abbrev pub formed : (family first : ℕ) → Form → List Coded
 formed family first (form.Element span line) = coded.Sum ax (target.Word family first) ∷ []
@@ -702,7 +710,7 @@ column_below line count = coded.Whole (operate_number 7 si count) ∷ coded.Whol
 
 -- behind the comparisons of both indexes: the first word of the row, as that of an entry, and the place in the row added
 abbrev pub row_summed : Row → List Coded
-row_summed r = formed r.family r.first (form.Entry r.width 0 r.span r.line) ++ coded.Whole (add ax si) ∷ []
+row_summed r = formed r.family r.first (form.Entry r.width 0 r.span r.columns.line) ++ coded.Whole (add ax si) ∷ []
 
 -- the second index is compared with its bounds
 abbrev pub column_tested : Row → List Coded
@@ -762,68 +770,6 @@ block_pieces names place number short (block.FetchBoth n m) o =
     ∷ coded.Whole (i86.Push ax) ∷ coded.Whole (load ax (field (2 * m % 65536))) ∷ []
 block_pieces names place number short (block.CompareWord n w c mark) o = word_compared n w
     ++ branch_by short c (place + pieces_size (word_compared n w)) (mark_place names mark)
-
--- the mark of a block's jump that can be short
-abbrev pub jump_of : Block → Order → Option ℕ
-jump_of block.Single (order.Jump m) = Some m
-jump_of block.Single (order.JumpIf c m) = Some m
-jump_of block.Single (order.LoopWay (m ∷ [])) = Some m
-jump_of (block.Operate s (uses.Compare c m)) o = Some m
-jump_of (block.CompareWord n w c m) o = Some m
-jump_of b o = None
-
--- the line of the check with which a block ends that can jump back
-abbrev pub check_of : Block → Order → Option ℕ
-check_of block.Single (order.Add line) = Some line
-check_of block.Single (order.Sub line) = Some line
-check_of block.Single (order.Neg line) = Some line
-check_of block.Single (order.Rescale from to line) = if nat_le from to then Some line else None
-check_of block.Single (order.Mul s line) = if is_checked s then Some line else None
-check_of block.Single (order.Div s line) = Some line
-check_of (block.Operate s (uses.Add line)) o = Some line
-check_of (block.Operate s (uses.Subtract line)) o = Some line
-check_of (block.Operate s (uses.Multiply line)) o = Some line
-check_of (block.Count down line) o = Some line
-check_of b o = None
-
--- the bytes that the short form saves
-abbrev pub saved : Block → Order → ℕ
-saved block.Single (order.Add line) = 5
-saved block.Single (order.Sub line) = 5
-saved block.Single (order.Neg line) = 5
-saved block.Single (order.Rescale from to line) = if nat_le from to then 5 else 0
-saved block.Single (order.Mul s line) = if is_checked s then 5 else 0
-saved block.Single (order.Div s line) = 5
-saved block.Single (order.Jump m) = 1
-saved block.Single (order.JumpIf c m) = 3
-saved block.Single (order.LoopWay (m ∷ [])) = 3
-saved (block.Operate s (uses.Add line)) o = 5
-saved (block.Operate s (uses.Subtract line)) o = 5
-saved (block.Operate s (uses.Multiply line)) o = 5
-saved (block.Operate s (uses.Compare c m)) o = 3
-saved (block.Count down line) o = 5
-saved (block.CompareWord n w c m) o = 3
-saved b o = 0
-
--- Which blocks have the short form, by the number of the block's first order. Without any, the code is the longest one.
-abbrev pub Forms : Type 0
-Forms = (number : ℕ) → Block → Order → Bool
-
-abbrev pub all_near : Forms
-all_near number b o = false
-
--- Two places of the longest code are at least as far apart as those of the same orders in the code with short jumps. So a jump is short where it
--- ends close to its mark in the longest code, and none makes another one reach less far. A check jumps back where there is a CALL for it.
-abbrev pub has_call : Reach → (number : ℕ) → (check : Option ℕ) → Bool
-has_call r number None = false
-has_call r number (Some line) = nat_lt 0 (slice_index r.calls number)
-
-abbrev pub reaches : Reach → (number : ℕ) → (jump check : Option ℕ) → Bool
-reaches r number None check = has_call r number check
-reaches r number (Some m) check = is_close (slice_index r.longest (number + 1)) (slice_index r.longest (slice_index r.marks m))
-
-abbrev pub is_short : Reach → Forms
-is_short r number b o = reaches r number (jump_of b o) (check_of b o)
 
 -- the bytes of a block's code, which are as many wherever it stands and whatever it names
 abbrev pub block_size : (short : Bool) → Block → Order → ℕ

@@ -12,7 +12,8 @@ ghost use Rattle.cw_tmpl.specs.Pieces.{blanks, relocations, relocation_of, Filli
 ghost use Rattle.cw_tmpl.specs.Blanks.{FillsBlank, Rise};
 ghost use Rattle.cw_tmpl.specs.Library.{library_bytes};
 ghost use Rattle.cw_tmpl.specs.Blocks.{block_at, left_at};
-ghost use Rattle.cw_tmpl.specs.Templates.{distance, short_distance, is_close, jump_of, check_of, saved, is_short};
+ghost use Rattle.cw_tmpl.specs.Templates.{distance, short_distance, is_close};
+ghost use Rattle.cw_tmpl.specs.ShortForms.{jump_of, check_of, saved, is_short};
 ghost use Rattle.cw_tmpl.specs.Templates.{block_pieces, block_size, order_size, entry_pieces, segment_word};
 ghost use Rattle.cw_tmpl.specs.Sizes.{listed_size, listed_sizes};
 ghost use Rattle.cw_tmpl.specs.ReferenceCode.{templates, entry_size, places_by, reach_of, order_places, mark_starts};

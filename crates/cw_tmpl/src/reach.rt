@@ -1,7 +1,8 @@
 //! Which jumps are short, and which checks jump back.
 ghost use Rattle.std.specs.Prelude.{◌≡◌, ◌<◌, slice_index};
 ghost use Rattle.cw_tmpl.specs.Backward.{call_for, call_after};
-ghost use Rattle.cw_tmpl.specs.Templates.{is_close, jump_of, is_checked, check_of, has_call, is_short};
+ghost use Rattle.cw_tmpl.specs.Templates.{is_close, is_checked};
+ghost use Rattle.cw_tmpl.specs.ShortForms.{jump_of, check_of, has_call, is_short};
 
 use crate::blocks::{Block, Use};
 use cw_order::Order;

@@ -26,10 +26,9 @@ pub struct Row {
     pub first: u16,
     pub width: u16,
     pub span: u16,
-    pub line: u16,
 }
 
-/// An item of two dimensions, which begins with a word of a storage family, and the line where an element of it is addressed.
+/// An item of two dimensions, which begins with a word of a storage family.
 #[derive(Clone, Copy)]
 pub struct Item {
     pub family: u16,
@@ -38,7 +37,6 @@ pub struct Item {
     pub second: i16,
     pub width: u16,
     pub span: u16,
-    pub line: u16,
 }
 
 /// How many orders put a second index.
@@ -139,12 +137,11 @@ fn item_at(orders: &[Order], puts: usize, forms: usize) -> Option<Item>
         (
             Some(Order::Home { family, offset }),
             Some(
-                Order::ElementOfTwo {
+                Order::ElementInside {
                     lower,
                     second,
                     width,
                     span,
-                    line,
                 },
             ),
         ) => Some(Item {
@@ -154,7 +151,6 @@ fn item_at(orders: &[Order], puts: usize, forms: usize) -> Option<Item>
             second: *second,
             width: *width,
             span: *span,
-            line: *line,
         }),
         _ => None,
     }
@@ -174,7 +170,6 @@ fn row_of(rows: Bounds, column: Column, columns: Bounds, item: Item) -> Option<R
             first: item.first,
             width: item.width,
             span: item.span,
-            line: item.line,
         },
     )
 }

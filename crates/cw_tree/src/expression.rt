@@ -94,7 +94,7 @@ pub struct RawBits {
 #[derive(Drop)]
 pub struct RawPrim {
     pub bits: List<RawBits>,
-    pub primary: Boxed<RawPrimary>,
+    pub primary: RawPrimary,
 }
 
 /// A primary without BITS.
@@ -113,7 +113,7 @@ pub enum RawPrimary {
     /// `( expr )`, where the bracket is needed.
     Bracket(Position, Boxed<RawExpr>),
     /// A reference, or the name of a procedure without arguments.
-    Ref(Boxed<RawRef>),
+    Ref(RawRef),
     /// `name ( expr , .. )`, with one argument at least.
     Call(RawName, List<RawExpr>),
 }

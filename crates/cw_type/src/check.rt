@@ -3,9 +3,9 @@ ghost use Rattle.std.specs.Prelude.{◌≡◌, Some, None, IfOk};
 ghost use Rattle.cw_judge.specs.Judged.{first_type_fault};
 ghost use Rattle.cw_type.specs.Outcome.{TellsFault, Judges};
 
+use cw_items::text::StoredText;
 use cw_judge::text::judge_text;
 use cw_scale::fault::{Fault, Rule};
-use cw_scope::resolve::Named;
 use std::alloc::Global;
 
 /// The first fault of the types of a text.
@@ -47,10 +47,10 @@ fn type_fault(fault: &Fault) -> TypeFault
 }
 
 /// Refuses a text whose types break a rule, with the first fault.
-pub fn check_types(alloc: Global, named: &Named) -> Result<(), TypeFault>
-    ensures { Judges named.now result }
+pub fn check_types(alloc: Global, text: &StoredText) -> Result<(), TypeFault>
+    ensures { Judges text.now result }
 {
-    match judge_text(alloc, named) {
+    match judge_text(alloc, text) {
         Ok(first) => match first {
             None => Ok(()),
             Some(fault) => Err(type_fault(&fault)),

@@ -2,3 +2,5 @@
 #![tactic(auto)]
 
 pub mod check;
+
+pub use cw_items::text::StoredText;

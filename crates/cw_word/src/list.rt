@@ -1,5 +1,5 @@
 //! Vectors that contracts see as lists, also inside a type that leads back to itself.
-ghost use Rattle.std.specs.Prelude.{◌≡◌, [], ◌∷◌, ◌++◌, OnOk, OnErr};
+ghost use Rattle.std.specs.Prelude.{◌≡◌, [], ◌∷◌, ◌++◌, IfOk, OnOk, OnErr};
 
 use std::alloc::{AllocError, Global};
 use std::marker::Model;
@@ -59,6 +59,19 @@ impl<T> List<T> {
 }
 
 impl<T: Drop> List<T> {
+    /// A list of one item, with room for no more until it grows. On an error the item is dropped.
+    pub fn first(alloc: Global, item: T) -> Result<List<T>, NoMemory>
+        ensures { IfOk result (λ list. list ≡ item ∷ []) }
+    {
+        match Vec::with_capacity(alloc, 1) {
+            Ok(mut items) => {
+                items.push_reserved(item);
+                Ok(List { items })
+            }
+            Err(_) => Err(NoMemory),
+        }
+    }
+
     /// Appends an item, with the allocator that the list keeps. On an error the list is unchanged and the item is dropped.
     pub fn push(&mut self, item: T) -> Result<(), NoMemory>
         ensures ok { OnOk result (self.new ≡ self.old ++ item ∷ []) }

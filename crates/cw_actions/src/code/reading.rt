@@ -12,12 +12,9 @@ ghost use Rattle.cw_actions.specs.Coding.{AnswersSources};
 use cw_files::{Segment, Segments, read_bytes};
 use cw_io::Store;
 use cw_say::Status;
-use cw_texts::compile_text;
+use cw_texts::{TEXT_LIMIT, compile_text};
 use cw_word::List;
 use std::alloc::Global;
-
-/// The most bytes of a source text.
-const TEXT_LIMIT: usize = 1_048_576;
 
 /// A text, and what it was compiled to.
 #[derive(Drop)]

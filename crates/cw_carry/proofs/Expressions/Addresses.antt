@@ -23,13 +23,14 @@ use Rattle.cw_order.specs.declared.order.Order.TheVariants as order
 use Rattle.cw_order.specs.Loading.{loaded_after}
 use Rattle.cw_order.specs.OrderCosts.{weight_of}
 use Rattle.cw_gen_expr.specs.Pieces.{plain, followed_by}
-use Rattle.cw_gen_expr.specs.ReferenceExpressions.{at_line, saved, item_order, item_span, table_orders, table_span, form_orders, rescale_orders, narrow, bounds_orders, expression_piece}
+use Rattle.cw_gen_expr.specs.ReferenceExpressions.{at_line, saved, item_order, item_span, table_orders, table_span, row_order, form_orders, rescale_orders, narrow, bounds_orders, expression_piece}
+use Rattle.cw_gen_expr.specs.KnownValues.{all_inside}
 use Rattle.cw_gen_expr.specs.BuiltExpressions.{whole, built_value, built_reference, is_spot}
 use Rattle.cw_gen_expr.proofs.Layers.{indexed_layer, built_spot_layer, spot-built, reference-built, reference_size, reference-size, spot-size, spot_size_layer, expression_size}
 use Rattle.cw_carry.proofs.Expressions.Standing.{Stands, Made, saved_made, one_made}
 use Rattle.cw_carry.proofs.Expressions.Effects.{IsPossible, is_silent, all_silent, total_weight, through_all, loaded_through, TellsLine, OnLine}
 use Rattle.cw_carry.proofs.Expressions.Carried.{Ready, OperationFits, operation_orders, gives_word, takes_index}
-use Rattle.cw_carry.proofs.Expressions.Operations.{operation-runs, form-runs, behind_item}
+use Rattle.cw_carry.proofs.Expressions.Operations.{FormsOf, operation-runs, form-runs, behind_item}
 use Rattle.cw_carry.proofs.Expressions.Stepping.{Compiled, source, target, IsSane, work_size, silent}
 use Rattle.cw_carry.proofs.Expressions.Moments.{both, item_silent, item_light, item_loads, item_tells, IsLight, silent_and, Moment, here_in, layout, scope, has_words, code, marks, At, Leads_to, Close, at_close, close_to, past_save, Steps, next, run, Facts, becomes, done_by}
 
@@ -151,25 +152,30 @@ module _ (y : Layout) (line : ℕ) where
       (item_and true i (o ∷ []) light.quiet (let z : total_weight (o ∷ []) ≤ 150 = omega (arith, le) in z) (omega arith) light.at light.turns)
       (let z : weight_of (item_order y i 0) + total_weight (o ∷ []) ≤ 150 = omega (arith, w.1, le) in z) (omega arith)
 
-  form_light : (x : Spot-F Arg Cond Expr Spot Ref) → IsLight line (takes_index x) true (form_orders y line x)
-  form_light (layer.Direct i) = item_and true i [] refl (omega arith) (omega arith) tt refl
-  form_light (layer.Through i) = item_and true i (order.Load ∷ order.InArea line ∷ []) refl (omega arith) (omega arith) (tt, (refl, tt)) refl
-  form_light (layer.One i k h e) =
+  row_light : (b : Bool) (lower second : ℤ) (width span : ℕ) → IsLight line true true (row_order b lower second width span line ∷ []) × (total_weight (row_order b lower second width span line ∷ []) ≤ 40)
+  row_light true lower second width span = (single line true true (order.ElementInside lower second width span) refl (omega arith) (omega arith) tt refl, omega arith)
+  row_light false lower second width span = (single line true true (order.ElementOfTwo lower second width line) refl (omega arith) (omega arith) refl refl, omega arith)
+
+  form_light : (compared : Bool) (x : Spot-F Arg Cond Expr Spot Ref) → IsLight line (takes_index x) true (form_orders y compared line x)
+  form_light compared (layer.Direct i) = item_and true i [] refl (omega arith) (omega arith) tt refl
+  form_light compared (layer.Through i) = item_and true i (order.Load ∷ order.InArea line ∷ []) refl (omega arith) (omega arith) (tt, (refl, tt)) refl
+  form_light compared (layer.One i k h e) =
       let o = order.Element k (item_span y i) line in
       based false i o (single line true true o refl (omega arith) (omega arith) refl refl) (omega arith)
-  form_light (layer.Two i k1 h1 k2 h2 n e f) =
-      let o = order.ElementOfTwo k1 k2 n (item_span y i) line in
-      based false i o (single line true true o refl (omega arith) (omega arith) refl refl) (omega arith)
-  form_light (layer.ParamArray i e) =
+  form_light compared (layer.Two i k1 h1 k2 h2 n e f) =
+      let b = all_inside compared (item_span y i) k1 h1 k2 h2 n in
+      let light = row_light b k1 k2 n (item_span y i) in
+      based false i (row_order b k1 k2 n (item_span y i) line) light.0 light.1
+  form_light compared (layer.ParamArray i e) =
       let o = order.Element (pos 0) 0 line in
       based true i o (single line true true o refl (omega arith) (omega arith) refl refl) (omega arith)
-  form_light (layer.Word i tb m e) =
+  form_light compared (layer.Word i tb m e) =
       let o = order.Element (pos 0) (table_span y tb i) line in
       based tb i o (single line true true o refl (omega arith) (omega arith) refl refl) (omega arith)
-  form_light (layer.Elem i tb n m k e) =
+  form_light compared (layer.Elem i tb n m k e) =
       let o = order.Entry n k (table_span y tb i) line in
       based tb i o (single line true true o refl (omega arith) (omega arith) refl refl) (omega arith)
-  form_light (layer.Bare e) = record { quiet = refl; light = omega arith; some = omega arith; short = omega arith; at = (refl, tt); turns = refl }
+  form_light compared (layer.Bare e) = record { quiet = refl; light = omega arith; some = omega arith; short = omega arith; at = (refl, tt); turns = refl }
 
 -- ---- an address that was formed is one of the area
 
@@ -243,11 +249,11 @@ index_is false e l u line k = refl
 
 module _ (c : Compiled) (t : Moment c) where
   -- by the orders behind the indexes
-  pub address_formed : (spot : Spot) (line : ℕ) (k : Work) (q n : ℕ) (w : Words) → IsTrue (is_spot t.unit (has_words c t) spot) → Stands (code c t) q (form_orders (layout c t) line (out-Spot spot)) n → Leads_to c t n true true k → Facts c t (FormAt spot line k) w → Steps c t (FormAt spot line k) q (takes_index (out-Spot spot)) w
-  address_formed spot line k q n w b stands carried facts =
+  pub address_formed : (spot : Spot) (line : ℕ) (k : Work) (q n : ℕ) (w : Words) → IsTrue (is_spot t.unit (has_words c t) spot) → Stands (code c t) q (form_orders (layout c t) t.unit.bounds line (out-Spot spot)) n → Leads_to c t n true true k → Facts c t (FormAt spot line k) w → FormsOf t.unit.bounds (out-Spot spot) w.operands → Steps c t (FormAt spot line k) q (takes_index (out-Spot spot)) w
+  address_formed spot line k q n w b stands carried facts found =
       let f = addressing_of (source c) (out-Spot spot) t.segment t.acts w in
-      done_by c t (FormAt spot line k) k line q n (takes_index (out-Spot spot)) true (form_orders (layout c t) line (out-Spot spot)) w true (form_address c.limits.area f w) stands (form_light (layout c t) line (out-Spot spot)) facts refl
-      (λ ok. form-runs (target c) (here_in c t) t.calls_below (source c) t.segment t.acts (layout c t) (has_words c t) t.in_words t.stand line t.unit (out-Spot spot) w.operands w.memory w.input w.output (sym (spot-built t.unit (has_words c t) spot) ∙ b))
+      done_by c t (FormAt spot line k) k line q n (takes_index (out-Spot spot)) true (form_orders (layout c t) t.unit.bounds line (out-Spot spot)) w true (form_address c.limits.area f w) stands (form_light (layout c t) line t.unit.bounds (out-Spot spot)) facts refl
+      (λ ok. form-runs (target c) (here_in c t) t.calls_below (source c) t.segment t.acts (layout c t) (has_words c t) t.in_words t.stand t.unit.bounds line t.unit (out-Spot spot) w.operands w.memory w.input w.output found (sym (spot-built t.unit (has_words c t) spot) ∙ b))
       (λ v e. formed c.limits.area f w.operands w.memory w.input w.output v e)
       carried
 
@@ -259,9 +265,9 @@ module _ (c : Compiled) (t : Moment c) where
     size_is = reference-size a ∙ spot-size (out-Ref a).at ∙ ap spot_size_layer is
 
     -- what stands behind the indexes
-    form_at : (q n : ℕ) → Stands (code c t) q (form_orders (layout c t) line x) n → Leads_to c t n true true k → At c t q (takes_index x) false (FormAt (out-Ref a).at line k)
+    form_at : (q n : ℕ) → Stands (code c t) q (form_orders (layout c t) t.unit.bounds line x) n → Leads_to c t n true true k → At c t q (takes_index x) false (FormAt (out-Ref a).at line k)
     form_at q n stands carried =
-        (n, spot-built t.unit (has_words c t) (out-Ref a).at ∙ ap (built_spot_layer t.unit (has_words c t)) is ∙ built, subst (λ z. Stands (code c t) q (form_orders (layout c t) line z) n) (sym is) stands, sym (ap takes_index is), carried)
+        (n, spot-built t.unit (has_words c t) (out-Ref a).at ∙ ap (built_spot_layer t.unit (has_words c t)) is ∙ built, subst (λ z. Stands (code c t) q (form_orders (layout c t) t.unit.bounds line z) n) (sym is) stands, sym (ap takes_index is), carried)
 
     -- an index
     index_at : (e : Expr) (q n free last : ℕ) (next' : Work) → IsTrue (whole (built_value t.unit (has_words c t) e) 0) → Made (code c t) (marks c t) (expression_piece (at_line line (scope c t)) e 0 q free) q n free last → Close c t n true false next' → At c t q false false (Eval e 0 line next')
@@ -294,20 +300,20 @@ module _ (c : Compiled) (t : Moment c) where
       let parts = one_made (code c t) (marks c t) (plain []) (item_order (layout c t) i 0 ∷ []) q n free last made in
       let stands = subst (λ z. Stands (code c t) z (item_order (layout c t) i 0 ∷ []) n) (sym parts.2.0) parts.3 in
       let at = address_at (source c) t.segment t.acts i in
-      done_by c t (Address a line k) k line q n false true (item_order (layout c t) i 0 ∷ []) w true (Changed (put (pos at) w)) stands (form_light (layout c t) line (layer.Direct i)) facts
+      done_by c t (Address a line k) k line q n false true (item_order (layout c t) i 0 ∷ []) w true (Changed (put (pos at) w)) stands (form_light (layout c t) line t.unit.bounds (layer.Direct i)) facts
       (addresses a (layer.Direct i) line k w is)
       (λ ok. behind_item (target c) (here_in c t) t.calls_below (source c) t.segment t.acts (layout c t) (has_words c t) t.in_words t.stand i 1 [] w b (let z : 0 < 1 = omega arith in z))
       (λ v e. subst (λ z. Ready c.limits.area true z.operands) (same_words (put (pos at) w) v e) (at, w.operands, refl, (let inside = t.stand.within i 0 1 b (omega arith) in let z : at < c.limits.area = omega (arith, inside) in z)))
       carried
   addressed a (layer.Through i) line k q n free last w is b made carried facts =
       let x : Spot-F Arg Cond Expr Spot Ref = layer.Through i in
-      let parts = one_made (code c t) (marks c t) (plain []) (form_orders (layout c t) line x) q n free last made in
-      let stands = subst (λ z. Stands (code c t) z (form_orders (layout c t) line x) n) (sym parts.2.0) parts.3 in
+      let parts = one_made (code c t) (marks c t) (plain []) (form_orders (layout c t) t.unit.bounds line x) q n free last made in
+      let stands = subst (λ z. Stands (code c t) z (form_orders (layout c t) t.unit.bounds line x) n) (sym parts.2.0) parts.3 in
       becomes c t (Address a line k) (FormAt (out-Ref a).at line k) q false w (addresses a (layer.Through i) line k w is) (form_at a x line k w is b q n stands carried)
       (let z : 0 < reference_size a = omega (arith, size_is a x line k w is b) in z)
   addressed a (layer.One i lower upper e) line k q n free last w is b made carried facts =
       let x : Spot-F Arg Cond Expr Spot Ref = layer.One i lower upper e in
-      let parts = one_made (code c t) (marks c t) (followed_by (expression_piece (at_line line (scope c t)) e 0) (plain (bounds_orders t.unit.bounds line lower upper))) (form_orders (layout c t) line x) q n free last made in
+      let parts = one_made (code c t) (marks c t) (followed_by (expression_piece (at_line line (scope c t)) e 0) (plain (bounds_orders t.unit.bounds line lower upper))) (form_orders (layout c t) t.unit.bounds line x) q n free last made in
       becomes c t (Address a line k) (index_work t.unit.bounds e lower upper line (FormAt (out-Ref a).at line k)) q false w (addresses a (layer.One i lower upper e) line k w is)
       (bounded_at a x line k w is b e lower upper q parts.0 free parts.1 (FormAt (out-Ref a).at line k) (both (has_words c t i 1) (whole (built_value t.unit (has_words c t) e) 0) b).1 parts.2 (at_close c t parts.0 true false (FormAt (out-Ref a).at line k) (form_at a x line k w is b parts.0 n parts.3 carried)))
       (let z : work_size c (index_work t.unit.bounds e lower upper line (FormAt (out-Ref a).at line k)) < reference_size a = omega (arith, size_is a x line k w is b, index_size t.unit.bounds e lower upper line (FormAt (out-Ref a).at line k)) in z)
@@ -315,7 +321,7 @@ module _ (c : Compiled) (t : Moment c) where
       let x : Spot-F Arg Cond Expr Spot Ref = layer.Two i l1 u1 l2 u2 m e f in
       let first = followed_by (expression_piece (at_line line (scope c t)) e 0) (plain (bounds_orders t.unit.bounds line l1 u1)) in
       let second = followed_by (expression_piece (at_line line (scope c t)) f 0) (plain (bounds_orders t.unit.bounds line l2 u2)) in
-      let parts = one_made (code c t) (marks c t) (followed_by first (followed_by saved second)) (form_orders (layout c t) line x) q n free last made in
+      let parts = one_made (code c t) (marks c t) (followed_by first (followed_by saved second)) (form_orders (layout c t) t.unit.bounds line x) q n free last made in
       let two = saved_made (code c t) (marks c t) first second q parts.0 free parts.1 parts.2 in
       let hs = both (whole (built_value t.unit (has_words c t) e) 0) (whole (built_value t.unit (has_words c t) f) 0) (both (has_words c t i 1) (whole (built_value t.unit (has_words c t) e) 0 && whole (built_value t.unit (has_words c t) f) 0) b).1 in
       let form = FormAt (out-Ref a).at line k in
@@ -327,25 +333,25 @@ module _ (c : Compiled) (t : Moment c) where
       (let z : work_size c (index_work t.unit.bounds e l1 u1 line (index_work t.unit.bounds f l2 u2 line form)) < reference_size a = omega (arith, size_is a x line k w is b, index_size t.unit.bounds e l1 u1 line (index_work t.unit.bounds f l2 u2 line form)) in z)
   addressed a (layer.ParamArray i e) line k q n free last w is b made carried facts =
       let x : Spot-F Arg Cond Expr Spot Ref = layer.ParamArray i e in
-      let parts = one_made (code c t) (marks c t) (expression_piece (at_line line (scope c t)) e 0) (form_orders (layout c t) line x) q n free last made in
+      let parts = one_made (code c t) (marks c t) (expression_piece (at_line line (scope c t)) e 0) (form_orders (layout c t) t.unit.bounds line x) q n free last made in
       becomes c t (Address a line k) (Eval e 0 line (FormAt (out-Ref a).at line k)) q false w (addresses a (layer.ParamArray i e) line k w is)
       (index_at a x line k w is b e q parts.0 free parts.1 (FormAt (out-Ref a).at line k) (both (has_words c t i 1) (whole (built_value t.unit (has_words c t) e) 0) b).1 parts.2 (at_close c t parts.0 true false (FormAt (out-Ref a).at line k) (form_at a x line k w is b parts.0 n parts.3 carried)))
       (let z : expression_size e < reference_size a = omega (arith, size_is a x line k w is b) in z)
   addressed a (layer.Word i tb m e) line k q n free last w is b made carried facts =
       let x : Spot-F Arg Cond Expr Spot Ref = layer.Word i tb m e in
-      let parts = one_made (code c t) (marks c t) (followed_by (expression_piece (at_line line (scope c t)) e 0) (plain (bounds_orders t.unit.bounds line (pos 0) (pos m -ℤ pos 1)))) (form_orders (layout c t) line x) q n free last made in
+      let parts = one_made (code c t) (marks c t) (followed_by (expression_piece (at_line line (scope c t)) e 0) (plain (bounds_orders t.unit.bounds line (pos 0) (pos m -ℤ pos 1)))) (form_orders (layout c t) t.unit.bounds line x) q n free last made in
       becomes c t (Address a line k) (index_work t.unit.bounds e (pos 0) (pos m -ℤ pos 1) line (FormAt (out-Ref a).at line k)) q false w (addresses a (layer.Word i tb m e) line k w is)
       (bounded_at a x line k w is b e (pos 0) (pos m -ℤ pos 1) q parts.0 free parts.1 (FormAt (out-Ref a).at line k) (both (has_words c t i 1) (whole (built_value t.unit (has_words c t) e) 0) b).1 parts.2 (at_close c t parts.0 true false (FormAt (out-Ref a).at line k) (form_at a x line k w is b parts.0 n parts.3 carried)))
       (let z : work_size c (index_work t.unit.bounds e (pos 0) (pos m -ℤ pos 1) line (FormAt (out-Ref a).at line k)) < reference_size a = omega (arith, size_is a x line k w is b, index_size t.unit.bounds e (pos 0) (pos m -ℤ pos 1) line (FormAt (out-Ref a).at line k)) in z)
   addressed a (layer.Elem i tb m entries place e) line k q n free last w is b made carried facts =
       let x : Spot-F Arg Cond Expr Spot Ref = layer.Elem i tb m entries place e in
-      let parts = one_made (code c t) (marks c t) (followed_by (expression_piece (at_line line (scope c t)) e 0) (plain (bounds_orders t.unit.bounds line (pos 0) (pos entries -ℤ pos 1)))) (form_orders (layout c t) line x) q n free last made in
+      let parts = one_made (code c t) (marks c t) (followed_by (expression_piece (at_line line (scope c t)) e 0) (plain (bounds_orders t.unit.bounds line (pos 0) (pos entries -ℤ pos 1)))) (form_orders (layout c t) t.unit.bounds line x) q n free last made in
       becomes c t (Address a line k) (index_work t.unit.bounds e (pos 0) (pos entries -ℤ pos 1) line (FormAt (out-Ref a).at line k)) q false w (addresses a (layer.Elem i tb m entries place e) line k w is)
       (bounded_at a x line k w is b e (pos 0) (pos entries -ℤ pos 1) q parts.0 free parts.1 (FormAt (out-Ref a).at line k) (both (has_words c t i 1) (whole (built_value t.unit (has_words c t) e) 0) b).1 parts.2 (at_close c t parts.0 true false (FormAt (out-Ref a).at line k) (form_at a x line k w is b parts.0 n parts.3 carried)))
       (let z : work_size c (index_work t.unit.bounds e (pos 0) (pos entries -ℤ pos 1) line (FormAt (out-Ref a).at line k)) < reference_size a = omega (arith, size_is a x line k w is b, index_size t.unit.bounds e (pos 0) (pos entries -ℤ pos 1) line (FormAt (out-Ref a).at line k)) in z)
   addressed a (layer.Bare e) line k q n free last w is b made carried facts =
       let x : Spot-F Arg Cond Expr Spot Ref = layer.Bare e in
-      let parts = one_made (code c t) (marks c t) (expression_piece (at_line line (scope c t)) e 0) (form_orders (layout c t) line x) q n free last made in
+      let parts = one_made (code c t) (marks c t) (expression_piece (at_line line (scope c t)) e 0) (form_orders (layout c t) t.unit.bounds line x) q n free last made in
       becomes c t (Address a line k) (Eval e 0 line (FormAt (out-Ref a).at line k)) q false w (addresses a (layer.Bare e) line k w is)
       (index_at a x line k w is b e q parts.0 free parts.1 (FormAt (out-Ref a).at line k) b parts.2 (at_close c t parts.0 true false (FormAt (out-Ref a).at line k) (form_at a x line k w is b parts.0 n parts.3 carried)))
       (let z : expression_size e < reference_size a = omega (arith, size_is a x line k w is b) in z)

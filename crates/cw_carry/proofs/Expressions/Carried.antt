@@ -178,7 +178,7 @@ module _ (places : Places) (code : List Order) (marks : List ℕ) (scope : Scope
   CarriesOut q l r (Address a line k) =
       (next : ℕ) × (free : ℕ) × (last : ℕ) × IsTrue (built_reference scope.unit has_words a).good × Made code marks ((reference_of (on_line line) a).address q free) q next free last × (l ≡ false) × Anywhere next true (λ x m. CarriesOut x m true k)
   CarriesOut q l r (FormAt spot line k) =
-      (next : ℕ) × IsTrue (is_spot scope.unit has_words spot) × Stands code q (form_orders scope.layout line (out-Spot spot)) next × (l ≡ takes_index (out-Spot spot)) × Anywhere next true (λ x m. CarriesOut x m true k)
+      (next : ℕ) × IsTrue (is_spot scope.unit has_words spot) × Stands code q (form_orders scope.layout scope.unit.bounds line (out-Spot spot)) next × (l ≡ takes_index (out-Spot spot)) × Anywhere next true (λ x m. CarriesOut x m true k)
   CarriesOut q l r (Do op line k) =
       (next : ℕ) × OperationFits op r × Stands code q (operation_orders line op) next × (l ≡ true) × Anywhere next (gives_word op) (λ x m. CarriesOut x m false k)
   CarriesOut q l r (Test c line pass fail) =

@@ -92,14 +92,10 @@ module _ (c : Compiled) (t : Moment c) where
           only_step (evaluates c t e (layer.Num m) f line k w is ∙ ap (λ y. config c t k (put y w)) same) refl
       computed e (layer.Const y) f levels k w z is le small b known =
           step_then (evaluates c t e (layer.Const y) f line k w is) refl refl (done (Rescale 0 f) k (put y w) (put z w) (rescaled_put c.limits.area w 0 f y z known))
-      computed e (layer.Text i) f levels k w z is le small b known = absurd (none-some z known)
-      computed e (layer.Read a) f levels k w z is le small b known = absurd (none-some z known)
-      computed e (layer.Call t' args) f levels k w z is le small b known = absurd (none-some z known)
       computed e (layer.Force g a) f levels k w z is le small b known =
           let x = of_one (known_rescaled g f) ((value_of sc a).known g) z known in
           step_then (evaluates c t e (layer.Force g a) f line k w is) refl refl
           (one_comes a g (Rescale g f) k w x.0 z (let lt : expression_size a < n = omega (arith, le) in lt) b x.1 (rescaled_put c.limits.area w g f x.0 z x.2))
-      computed e (layer.Locate a) f levels k w z is le small b known = absurd (none-some z known)
       computed e (layer.Bits d b' a) f levels k w z is le small b known =
           let y = of_one (known_rescaled 0 f) _ z known in
           let x = of_one (known_bits d b') ((value_of sc a).known (value_of sc a).operand) y.0 y.1 in
@@ -161,7 +157,7 @@ module _ (c : Compiled) (t : Moment c) where
           step_then (evaluates c t e (layer.Over a a') f line k w is) refl refl
           (two_come a a' g h (Divide (pos (f + h) -ℤ pos g)) k w xy.0 xy.1 z (let lt : expression_size a < n = omega (arith, le) in lt) (let lt : expression_size a' < n = omega (arith, le) in lt) ba bb (operand a xy.0 xy.2) (operand a' xy.1 xy.3)
           (ap (λ p. perform c.limits.area (Divide p) (put xy.1 (put xy.0 w))) (sym whole_power) ∙ quotient_put c.limits.area w (narrow s) xy.0 xy.1 z xy.4))
-      computed e (layer.Choice d a a') f levels k w z is le small b known = absurd (none-some z known)
+      computed e _ f levels k w z is le small b known = absurd (none-some z known)
 
       next_below : (d : Expr) → expression_size d < suc n → (g : ℕ) → Evaluated d g
       next_below d lt g levels k w z small b known =
@@ -194,11 +190,7 @@ module _ (c : Compiled) (t : Moment c) where
         let power = narrow (pos (f + (value_of sc a').operand) -ℤ pos (value_of sc a).operand) in
         let xy = of_two (known_quotient power) ((value_of sc a).known (value_of sc a).operand) ((value_of sc a').known (value_of sc a').operand) z known in
         quotient_fits power xy.0 xy.1 z xy.4
-    fits_known (layer.Text i) f levels z b known = absurd (none-some z known)
-    fits_known (layer.Read a) f levels z b known = absurd (none-some z known)
-    fits_known (layer.Call t' args) f levels z b known = absurd (none-some z known)
-    fits_known (layer.Locate a) f levels z b known = absurd (none-some z known)
-    fits_known (layer.Choice d a a') f levels z b known = absurd (none-some z known)
+    fits_known _ f levels z b known = absurd (none-some z known)
 
     -- ---- references
 
@@ -249,10 +241,7 @@ module _ (c : Compiled) (t : Moment c) where
     reached (layer.Elem i tb width entries word e) n b known =
         let i1 = of_count (λ i'. word_inside (table_span (layout c t) tb i) (i' * width + word)) (from_lower t.unit.bounds (pos 0) (pos entries -ℤ pos 1) ((value_of sc e).known 0)) n known in
         record { has = (both (has_words c t i 1) (whole (built_of c t e) 0) b).0; inside = (table_is tb i n (inside_is (table_span (layout c t) tb i) (i1.0 * width + word) n i1.2).1).1 }
-    reached (layer.Direct i) n b known = absurd (none-some n known)
-    reached (layer.Through i) n b known = absurd (none-some n known)
-    reached (layer.ParamArray i e) n b known = absurd (none-some n known)
-    reached (layer.Bare e) n b known = absurd (none-some n known)
+    reached _ n b known = absurd (none-some n known)
 
     -- the source comes to its address
     addressed : (a : Ref) (x : Spot-F Arg Cond Expr Spot Ref) (k : Work) (w : Words) (n : ℕ) → out-Spot (out-Ref a).at ≡ x → IsTrue (built_spot_layer t.unit (has_words c t) x) → word_layer sc x ≡ Some n → place_of (word_item sc x) + n < c.limits.area
@@ -305,10 +294,7 @@ module _ (c : Compiled) (t : Moment c) where
         (index_comes t.unit.bounds e (pos 0) (pos entries -ℤ pos 1) at.index form w (both (has_words c t i 1) (whole (built_of c t e) 0) b).1 at.is at.bounded)
         (form_comes (out-Ref a).at (layer.Elem i false width entries word e) k (put at.index w) (put (pos (place_of i + n)) w) is
         (entry_found c.limits.area (place_of i) w t.in_words at.index width word i1.0 n (less_none at.index i1.0 at.above) (inside_is (item_span (layout c t) i) (i1.0 * width + word) n i1.2).0 inside)))
-    addressed a (layer.Direct i) k w n is b known inside = absurd (none-some n known)
-    addressed a (layer.Through i) k w n is b known inside = absurd (none-some n known)
-    addressed a (layer.ParamArray i e) k w n is b known inside = absurd (none-some n known)
-    addressed a (layer.Bare e) k w n is b known inside = absurd (none-some n known)
+    addressed a _ k w n is b known inside = absurd (none-some n known)
 
     -- ---- as the relation has it
 

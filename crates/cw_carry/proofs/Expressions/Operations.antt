@@ -1,6 +1,8 @@
 -- What the orders of an operation, and those of an address, do to words is what the source does.
-use Rattle.std.proofs.Common.{◌≡◌, ℕ, ◌+◌, ◌-◌, ◌<◌, ◌≤◌, ℤ, pos, negsuc, ◌-ℤ◌, ◌*ℤ◌, List, [], ◌∷◌, ◌++◌, Bool, true, false, Option, Some, None, refl, sym, ap, ◌∙◌, subst, arith}
-use Rattle.std.specs.Prelude.{not, ◌==◌, IsTrue, ◌&&◌, if◌then◌else◌, set}
+use Rattle.std.proofs.Common.{◌≡◌, ℕ, suc, ◌+◌, ◌-◌, ◌<◌, ◌≤◌, ℤ, pos, negsuc, ◌+ℤ◌, ◌-ℤ◌, ◌*ℤ◌, List, [], ◌∷◌, ◌++◌, Bool, true, false, Option, Some, None, refl, sym, ap, ap₂, ◌∙◌, subst, arith}
+use Rattle.std.specs.Prelude.{◌*◌, not, ◌==◌, int_le, is_some, IsTrue, ◌&&◌, if◌then◌else◌, set}
+use Rattle.std.proofs.Math.Nat.{mul-le-mul_right}
+use Rattle.std.proofs.lemmas.Option.{same_Some}
 use Rattle.std.proofs.lemmas.Bool.{false≢true, lt-ltb}
 use Rattle.std.proofs.lemmas.Bool.Decides.{nat_tests}
 use Rattle.std.proofs.lemmas.List.Elements.{All-head}
@@ -34,11 +36,14 @@ use Rattle.cw_order.specs.OrderState.{OrderActivation}
 use Rattle.cw_order.specs.OrderChanges.{from_base, if_inside}
 use Rattle.cw_order.specs.OrderMachine.{unrefused}
 use Rattle.cw_order.specs.FittingWords.{OperandFits, WordsFit}
-use Rattle.cw_gen_expr.specs.ReferenceExpressions.{item_order, item_span, table_orders, table_span, form_orders, narrow}
+use Rattle.cw_gen_expr.specs.ReferenceExpressions.{item_order, item_span, table_orders, table_span, row_order, form_orders, narrow}
+use Rattle.cw_gen_expr.specs.KnownValues.{of_index, word_inside, from_lower, element_of_two_word, all_inside}
+use Rattle.cw_safety.specs.Coherent.{LieBetween}
 use Rattle.cw_gen_expr.specs.BuiltExpressions.{whole, built_value}
 use Rattle.cw_gen_expr.proofs.Layers.{built_spot_layer}
 use Rattle.cw_gen_unit.specs.SimpleLoops.{are_apart}
 use Rattle.cw_carry.proofs.Expressions.Effects.{then_do, IsPossible, effect, run_orders}
+use Rattle.cw_carry.proofs.Expressions.Results.{Above, from_above, of_count, inside_is, element_of_two_found}
 use Rattle.cw_carry.proofs.Expressions.Carried.{Ready, OperationFits, operation_orders, keep_orders, set_orders, bump_orders}
 
 -- ---- numbers
@@ -67,6 +72,39 @@ pub then_changed : (o : Outcome) → then_do o (λ v. Changed v) ≡ o
 then_changed (Changed v) = refl
 then_changed (Refused kind) = refl
 then_changed Impossible = refl
+
+-- where an address of two indexes is formed without a test, they lie between their bounds
+abbrev pub FormsOf : (compared : Bool) → Spot-F Arg Cond Expr Spot Ref → List Operand → Type 0
+FormsOf true (layer.Two i l1 u1 l2 u2 n e g) hand = LieBetween l1 u1 l2 u2 hand
+FormsOf _ _ hand = Unit {0}
+
+both_true : (a b : Bool) → IsTrue (a && b) → IsTrue a × IsTrue b
+both_true true b h = (refl, h)
+both_true false b h = absurd (false≢true h)
+
+-- numbers that are in order are so far apart
+apart_by : (a b : ℤ) → IsTrue (int_le a b) → (n : ℕ) × (b -ℤ a ≡ pos n)
+apart_by (pos m) (pos n) h = (n - m, grind (arith, ints, nat_tests))
+apart_by (pos m) (negsuc n) h = absurd (false≢true h)
+apart_by (negsuc m) (pos n) h = (n + suc m, omega (arith, ints))
+apart_by (negsuc m) (negsuc n) h = (m - n, grind (arith, ints, nat_tests))
+
+-- an index between bounds is above the lower one by no more than the upper one
+index_within : (lower upper z : ℤ) (last : ℕ) {i : ℕ} → Above true lower upper (Some upper) i → i ≡ last → IsTrue (int_le lower z && int_le z upper) → (n : ℕ) × (z -ℤ lower ≡ pos n) × (n ≤ last)
+index_within lower upper z last a same between =
+    let parts = both_true (int_le lower z) (int_le z upper) between in
+    let below = apart_by lower z parts.0 in
+    let above = apart_by z upper parts.1 in
+    let at : a.index ≡ upper = sym (same_Some upper a.index a.is) in
+    let end : upper -ℤ lower ≡ pos last = ap (λ x. x -ℤ lower) (sym at) ∙ a.above ∙ ap pos same in
+    let sum : pos (below.0 + above.0) ≡ pos last = (let whole : (z -ℤ lower) +ℤ (upper -ℤ z) ≡ upper -ℤ lower = omega (arith, ints) in ap₂ (λ x y. x +ℤ y) (sym below.1) (sym above.1) ∙ whole ∙ end) in
+    let total : below.0 + above.0 ≡ last = cc in
+    (below.0, below.1, omega (arith, total))
+
+-- what there is
+a_word : (x : Option ℕ) → IsTrue (is_some x) → (n : ℕ) × (x ≡ Some n)
+a_word None h = absurd (false≢true h)
+a_word (Some n) h = (n, refl)
 
 -- what never stops
 pub plain_one : (f : ℤ → Words → Words) (hand : List Operand) (w : Words) → unrefused (on_one (λ x v. Changed (f x v)) hand w) ≡ on_one (λ x v. Changed (f x v)) hand w
@@ -218,41 +256,74 @@ module _ (p : OrderProgram) (g : ℕ) (bs : List OrderActivation) where
           behind_item i 1 (order.Load ∷ os) (words hand memory input output) h some ∙ behind_load (address i) os hand memory input output (inside i 1 h some)
       behind_table false i os hand memory input output h = behind_item i 1 os (words hand memory input output) h some
 
-      both : (a b : Bool) → IsTrue (a && b) → IsTrue a × IsTrue b
-      both true b h = (refl, h)
-      both false b h = absurd (false≢true h)
+      -- an address of two indexes that are compared with bounds between which all words are known to be in the data area is one of it
+      module _ (i n : ℕ) (l1 u1 l2 u2 : ℤ) (has : IsTrue (has_words i 1)) where
+        abbrev formed_of : Words → Outcome
+        formed_of w = form_address area (Indexed2 (pos (address i)) l1 l2 n) w
 
-      pub form-runs : (line : ℕ) (u : SourceUnit) (x : Spot-F Arg Cond Expr Spot Ref) (hand : List Operand) (memory : List ℤ) (input output : List ℕ) → IsTrue (built_spot_layer u has_words x) → run (form_orders y line x) (words hand memory input output) ≡ form_address area (addressing_of program x s acts (words hand memory input output)) (words hand memory input output)
-      form-runs line u (layer.Direct i) hand memory input output b =
+        never_refused : (hand : List Operand) (memory : List ℤ) (input output : List ℕ) → IsTrue (is_some (element_of_two_word (item_span y i) n (from_lower true l1 u1 (Some u1)) (from_lower true l2 u2 (Some u2)))) → LieBetween l1 u1 l2 u2 hand
+            → unrefused (formed_of (words hand memory input output)) ≡ formed_of (words hand memory input output)
+        never_refused hand memory input output inside lie =
+            let last = a_word (element_of_two_word (item_span y i) n (from_lower true l1 u1 (Some u1)) (from_lower true l2 u2 (Some u2))) inside in
+            let x1 = of_count (λ i'. of_index (λ j'. word_inside (item_span y i) (i' * n + j')) (from_lower true l2 u2 (Some u2))) (of_index (word_inside 32768) (from_lower true l1 u1 (Some u1))) last.0 last.1 in
+            let x2 = of_count (λ j'. word_inside (item_span y i) (x1.0 * n + j')) (from_lower true l2 u2 (Some u2)) last.0 x1.2 in
+            let x3 = of_count (word_inside 32768) (from_lower true l1 u1 (Some u1)) x1.0 x1.1 in
+            let few = inside_is 32768 x3.0 x1.0 x3.2 in
+            let end = inside_is (item_span y i) (x1.0 * n + x2.0) last.0 x2.2 in
+            let row = index_within l1 u1 lie.row x1.0 (from_above true l1 u1 (Some u1) x3.0 x3.1) few.0 lie.row_between in
+            let column = index_within l2 u2 lie.column x2.0 (from_above true l2 u2 (Some u2) x2.0 x2.1) refl lie.column_between in
+            let w = words lie.rest memory input output in
+            let at : ℕ = row.0 * n + column.0 in
+            let below : row.0 * n ≤ x1.0 * n = mul-le-mul_right n row.2 in
+            let within : at < item_span y i = omega (arith, below, column.2, end.0, end.1) in
+            let found : formed_of (put lie.column (put lie.row w)) ≡ Changed (put (pos (address i + at)) w) =
+            element_of_two_found area (address i) w in_words lie.row lie.column l1 l2 n row.0 column.0 at row.1 column.1 (omega (arith, row.2, few.1)) refl (stand.reaches i at w has within).1 in
+            subst (λ h. unrefused (formed_of (words h memory input output)) ≡ formed_of (words h memory input output)) (sym lie.is) (ap unrefused found ∙ sym found)
+
+        row-runs : (line : ℕ) (compared inside : Bool) (hand : List Operand) (memory : List ℤ) (input output : List ℕ) → all_inside compared (item_span y i) l1 u1 l2 u2 n ≡ inside
+            → (compared ≡ true → LieBetween l1 u1 l2 u2 hand)
+            → run (item_order y i 0 ∷ row_order inside l1 l2 n (item_span y i) line ∷ []) (words hand memory input output) ≡ formed_of (words hand memory input output)
+        row-runs line compared false hand memory input output is lie =
+            let w = words hand memory input output in
+            let o = order.ElementOfTwo l1 l2 n line in
+            behind_item i 1 (o ∷ []) w has some ∙ one o (put (pos (address i)) w) ∙ based (λ base. Indexed2 base l1 l2 n) (pos (address i)) w
+        row-runs line compared true hand memory input output is lie =
+            let w = words hand memory input output in
+            let o = order.ElementInside l1 l2 n (item_span y i) in
+            let known = both_true compared (is_some (element_of_two_word (item_span y i) n (from_lower true l1 u1 (Some u1)) (from_lower true l2 u2 (Some u2)))) is in
+            behind_item i 1 (o ∷ []) w has some ∙ one o (put (pos (address i)) w) ∙ ap unrefused (based (λ base. Indexed2 base l1 l2 n) (pos (address i)) w)
+            ∙ never_refused hand memory input output known.1 (lie known.0)
+
+      pub form-runs : (compared : Bool) (line : ℕ) (u : SourceUnit) (x : Spot-F Arg Cond Expr Spot Ref) (hand : List Operand) (memory : List ℤ) (input output : List ℕ) → FormsOf compared x hand → IsTrue (built_spot_layer u has_words x) → run (form_orders y compared line x) (words hand memory input output) ≡ form_address area (addressing_of program x s acts (words hand memory input output)) (words hand memory input output)
+      form-runs compared line u (layer.Direct i) hand memory input output found b =
           let w = words hand memory input output in
           behind_item i 1 [] w b some ∙ sym (ap (λ t. put_if t AddressRange (pos (address i)) w) (lt-ltb (address i) area (inside i 1 b some)))
-      form-runs line u (layer.Through i) hand memory input output b =
+      form-runs compared line u (layer.Through i) hand memory input output found b =
           let w = words hand memory input output in
           behind_item i 1 (order.Load ∷ order.InArea line ∷ []) w b some ∙ behind_load (address i) (order.InArea line ∷ []) hand memory input output (inside i 1 b some) ∙ area_tested line (put (word_at memory (address i)) w)
-      form-runs line u (layer.One i l h e) hand memory input output b =
+      form-runs compared line u (layer.One i l h e) hand memory input output found b =
           let w = words hand memory input output in
           let o = order.Element l (item_span y i) line in
-          behind_item i 1 (o ∷ []) w (both (has_words i 1) (whole (built_value u has_words e) 0) b).0 some ∙ one o (put (pos (address i)) w) ∙ based (λ base. Indexed base l) (pos (address i)) w
-      form-runs line u (layer.Two i l1 h1 l2 h2 n e f) hand memory input output b =
-          let w = words hand memory input output in
-          let o = order.ElementOfTwo l1 l2 n (item_span y i) line in
-          behind_item i 1 (o ∷ []) w (both (has_words i 1) (whole (built_value u has_words e) 0 && whole (built_value u has_words f) 0) b).0 some ∙ one o (put (pos (address i)) w) ∙ based (λ base. Indexed2 base l1 l2 n) (pos (address i)) w
-      form-runs line u (layer.ParamArray i e) hand memory input output b =
+          behind_item i 1 (o ∷ []) w (both_true (has_words i 1) (whole (built_value u has_words e) 0) b).0 some ∙ one o (put (pos (address i)) w) ∙ based (λ base. Indexed base l) (pos (address i)) w
+      form-runs compared line u (layer.Two i l1 h1 l2 h2 n e f) hand memory input output found b =
+          row-runs i n l1 h1 l2 h2 (both_true (has_words i 1) (whole (built_value u has_words e) 0 && whole (built_value u has_words f) 0) b).0 line compared (all_inside compared (item_span y i) l1 h1 l2 h2 n) hand memory input output refl
+          (λ same. subst (λ c. FormsOf c (layer.Two i l1 h1 l2 h2 n e f) hand) same found)
+      form-runs compared line u (layer.ParamArray i e) hand memory input output found b =
           let w = words hand memory input output in
           let o = order.Element (pos 0) 0 line in
-          let h = (both (has_words i 1) (whole (built_value u has_words e) 0) b).0 in
+          let h = (both_true (has_words i 1) (whole (built_value u has_words e) 0) b).0 in
           behind_item i 1 (order.Load ∷ o ∷ []) w h some ∙ behind_load (address i) (o ∷ []) hand memory input output (inside i 1 h some) ∙ one o (put (word_at memory (address i)) w) ∙ based (λ base. Indexed base (pos 0)) (word_at memory (address i)) w
-      form-runs line u (layer.Word i t m e) hand memory input output b =
+      form-runs compared line u (layer.Word i t m e) hand memory input output found b =
           let w = words hand memory input output in
           let o = order.Element (pos 0) (table_span y t i) line in
           let base = table_base program t s acts w i in
-          behind_table t i (o ∷ []) hand memory input output (both (has_words i 1) (whole (built_value u has_words e) 0) b).0 ∙ one o (put base w) ∙ based (λ z. Indexed z (pos 0)) base w
-      form-runs line u (layer.Elem i t n m q e) hand memory input output b =
+          behind_table t i (o ∷ []) hand memory input output (both_true (has_words i 1) (whole (built_value u has_words e) 0) b).0 ∙ one o (put base w) ∙ based (λ z. Indexed z (pos 0)) base w
+      form-runs compared line u (layer.Elem i t n m q e) hand memory input output found b =
           let w = words hand memory input output in
           let o = order.Entry n q (table_span y t i) line in
           let base = table_base program t s acts w i in
-          behind_table t i (o ∷ []) hand memory input output (both (has_words i 1) (whole (built_value u has_words e) 0) b).0 ∙ one o (put base w) ∙ based (λ z. Scaled z n q) base w
-      form-runs line u (layer.Bare e) hand memory input output b = area_tested line (words hand memory input output)
+          behind_table t i (o ∷ []) hand memory input output (both_true (has_words i 1) (whole (built_value u has_words e) 0) b).0 ∙ one o (put base w) ∙ based (λ z. Scaled z n q) base w
+      form-runs compared line u (layer.Bare e) hand memory input output found b = area_tested line (words hand memory input output)
 
       -- ---- loops
 

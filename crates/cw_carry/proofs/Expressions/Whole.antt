@@ -14,7 +14,7 @@ use Rattle.cw_unit.specs.declared.unit.Proc.{Proc}
 use Rattle.cw_unit.specs.declared.unit.Param.{Param}
 use Rattle.cw_unit.specs.declared.unit.Stmt.{Stmt}
 use Rattle.cw_unit.specs.declared.unit.Dest.{Dest}
-use Rattle.cw_unit.specs.declared.unit.Spot.{out-Spot}
+use Rattle.cw_unit.specs.declared.unit.Spot.{Spot, out-Spot}
 use Rattle.cw_unit.specs.declared.unit.Ref.{Ref}
 use Rattle.cw_unit.specs.declared.unit.Target.{Target}
 use Rattle.cw_unit.specs.declared.unit.Target.TheVariants as target_of
@@ -42,7 +42,7 @@ use Rattle.cw_carry.proofs.Expressions.Standing.{Stands}
 use Rattle.cw_carry.proofs.Expressions.Effects.{BeginsNone, effect}
 use Rattle.cw_carry.proofs.Expressions.Carried.{Via, Ready, after_call, answered, takes_index, takes_number, who_of, CarriedIn, going, beginning, over}
 use Rattle.cw_gen_expr.specs.ReferenceEntries.{parameters_of}
-use Rattle.cw_carry.proofs.Expressions.Operations.{ItemsStand}
+use Rattle.cw_carry.proofs.Expressions.Operations.{ItemsStand, FormsOf}
 use Rattle.cw_carry.proofs.Expressions.Stepping.{Compiled, source, target, orders, A, B, AllCalls, Belong, Goes, GoesNoting, Leaps, quietly, IsSane, work_size, rank}
 use Rattle.cw_carry.proofs.Expressions.Moments.{Moment, here_in, scope, code, marks, At, Leads_to, Steps, StepsNoting, Leap, next, Facts}
 use Rattle.cw_carry.proofs.Expressions.Moments
@@ -94,7 +94,7 @@ module _ (c : Compiled) where
 
   -- what must hold of a configuration of the run, whatever records of calls stand for its activations: the next step is not stuck, the
   -- memory is the whole data area, the control stack has room for 24 words more, items stand where they are said to, at a call there are its arguments, the labels
-  -- that a jump names have their owners, and a body ends with nothing in hand
+  -- that a jump names have their owners, indexes that are compared lie between their bounds, and a body ends with nothing in hand
   pub record Sound (s : ℕ) (k : Work) (acts : List Activation) (w : Words) : Type 0 where
     pub sane : IsSane ((A c).step (configuration s k acts w Running))
     pub memory : length w.memory ≡ c.limits.area
@@ -103,6 +103,7 @@ module _ (c : Compiled) where
     pub binds : (bs : List OrderActivation) (h p : ℕ) (v : SourceUnit) → AllCalls c s acts bs → slice_get c.units h ≡ Some v → (proc : Proc) → slice_get v.procs p ≡ Some proc → frame_top (source c) acts + frame_size_of (source c) h p ≤ c.limits.area → (b : OrderActivation) (j i : ℕ) (z : ℤ) (x : Words) → b.frame_base ≡ frame_top (source c) acts → IsTrue (c.has_words h v (Some p) i 1) → argument_behind j b.arguments ≡ Some (Word z) → effect (target c) h (b ∷ bs) (bound_order (layout_of v) j i) x ≡ Changed (with_memory x (set x.memory (item_address (source c) h i (frame_top (source c) acts)) z))
     pub enough : (tg : Target) (line : ℕ) (wanted : Bool) (k' : Work) → k ≡ Enter tg line wanted k' → (h p : ℕ) (v : SourceUnit) (proc : Proc) → callee_of (source c) (segment_of s acts) acts tg ≡ Calling h p → slice_get c.units h ≡ Some v → slice_get v.procs p ≡ Some proc → length proc.params ≤ length w.operands
     pub jumps : (d : Dest) (line : ℕ) → k ≡ Jump d line → JumpSound c s acts w d
+    pub compared : (u : SourceUnit) → slice_get c.units (segment_of s acts) ≡ Some u → (spot : Spot) (line : ℕ) (next : Work) → k ≡ FormAt spot line next → FormsOf u.bounds (out-Spot spot) w.operands
     pub ends : k ≡ Nothing → (acts ≡ []) × (w.operands ≡ [])
 
   abbrev pub SoundAt : Configuration → Type 0
@@ -325,7 +326,7 @@ module _ (c : Compiled) where
       goes_on (Address a line k) q l r ready (n, free, last, b, made, same, carried) sound =
           turned_to (Address a line k) q l false same (⊎_elim (λ goes. singly goes refl) (λ leaps. inr leaps) (address_goes c (moment (Address a line k) sound) line a k q n free last w b made carried (facts_of (Address a line k) sound)))
       goes_on (FormAt spot line k) q l r ready (n, b, stands, same, carried) sound =
-          turned_to (FormAt spot line k) q l (takes_index (out-Spot spot)) same (singly (address_formed c (moment (FormAt spot line k) sound) spot line k q n w b stands carried (facts_of (FormAt spot line k) sound)) refl)
+          turned_to (FormAt spot line k) q l (takes_index (out-Spot spot)) same (singly (address_formed c (moment (FormAt spot line k) sound) spot line k q n w b stands carried (facts_of (FormAt spot line k) sound) (sound.compared u unit_is spot line k refl)) refl)
       goes_on (Do op line k) q l r ready (n, f, stands, same, carried) sound =
           turned_to (Do op line k) q l true same (singly (operation c (moment (Do op line k) sound) op line k q n r w f stands ready carried (facts_of (Do op line k) sound)) refl)
       goes_on (Test d line pass fail) q l r ready (when, mark, to, n, free, last, b, made, to_is, same, on, at_mark) sound =

@@ -1,5 +1,5 @@
 -- Behind each Start in the orders of a unit stands an order that begins a statement.
-use Rattle.std.proofs.Common.{◌≡◌, ℕ, zero, suc, ◌+◌, List, [], ◌∷◌, ◌++◌, true, false, Option, Some, None, refl, sym, ap, ◌∙◌, subst, arith}
+use Rattle.std.proofs.Common.{◌≡◌, ℕ, zero, suc, ◌+◌, List, [], ◌∷◌, ◌++◌, true, false, Option, Some, None, refl, sym, ap, ◌∙◌, subst, arith, Bool}
 use Rattle.std.specs.Prelude.{option_map, slice_get}
 use Rattle.std.proofs.lemmas.Option.{none-some, same_Some, slice_get-map}
 use Rattle.cw_unit.specs.declared.unit.Unit.{Unit as SourceUnit}
@@ -14,7 +14,8 @@ use Rattle.cw_order.specs.declared.order.Order.TheVariants as order
 use Rattle.cw_order.specs.OrderProgram.{order_in}
 use Rattle.cw_order.specs.BeginsStatement.{BeginsStatement, StatementsBegin}
 use Rattle.cw_gen_expr.specs.Pieces.{Piece}
-use Rattle.cw_gen_expr.specs.ReferenceExpressions.{Value, Reference, ConditionPiece, item_order, form_orders}
+use Rattle.cw_gen_expr.specs.ReferenceExpressions.{Value, Reference, ConditionPiece, item_order, item_span, row_order, form_orders}
+use Rattle.cw_gen_expr.specs.KnownValues.{all_inside}
 use Rattle.cw_gen_expr.specs.UnitTables.{first_mark}
 use Rattle.cw_gen_unit.specs.ReferenceUnits.{unit_orders, orders_program}
 use Rattle.cw_carry.proofs.Runs.Leading.{Leads, leads_before}
@@ -59,17 +60,21 @@ module _ (y : Layout) where
   item_first : (i : ℕ) (os : List Order) → AreBegun os → AreBegun (item_order y i 0 ∷ os)
   item_first i os h = joined (item_order y i 0 ∷ []) os (item_alone i) h
 
-  formed : (line : ℕ) (x : Spot-F Piece ConditionPiece Value Piece Reference) → AreBegun (form_orders y line x)
-  formed line (layer.Direct i) = item_alone i
-  formed line (layer.Through i) = item_first i (order.Load ∷ order.InArea line ∷ []) (tt, (tt, tt))
-  formed line (layer.One i l u e) = (tt, item_first i _ (tt, tt))
-  formed line (layer.Two i l1 u1 l2 u2 n e g) = (tt, item_first i _ (tt, tt))
-  formed line (layer.ParamArray i e) = (tt, item_first i _ (tt, (tt, tt)))
-  formed line (layer.Word i true n e) = (tt, item_first i _ (tt, (tt, tt)))
-  formed line (layer.Word i false n e) = (tt, item_first i _ (tt, tt))
-  formed line (layer.Elem i true n m w e) = (tt, item_first i _ (tt, (tt, tt)))
-  formed line (layer.Elem i false n m w e) = (tt, item_first i _ (tt, tt))
-  formed line (layer.Bare e) = (tt, tt)
+  formed : (compared : Bool) (line : ℕ) (x : Spot-F Piece ConditionPiece Value Piece Reference) → AreBegun (form_orders y compared line x)
+  formed c line (layer.Direct i) = item_alone i
+  formed c line (layer.Through i) = item_first i (order.Load ∷ order.InArea line ∷ []) (tt, (tt, tt))
+  formed c line (layer.One i l u e) = (tt, item_first i _ (tt, tt))
+  formed c line (layer.Two i l1 u1 l2 u2 n e g) = (tt, item_first i _ (row (all_inside c (item_span y i) l1 u1 l2 u2 n)))
+    where
+      row : (b : Bool) → AreBegun (row_order b l1 l2 n (item_span y i) line ∷ [])
+      row true = (tt, tt)
+      row false = (tt, tt)
+  formed c line (layer.ParamArray i e) = (tt, item_first i _ (tt, (tt, tt)))
+  formed c line (layer.Word i true n e) = (tt, item_first i _ (tt, (tt, tt)))
+  formed c line (layer.Word i false n e) = (tt, item_first i _ (tt, tt))
+  formed c line (layer.Elem i true n m w e) = (tt, item_first i _ (tt, (tt, tt)))
+  formed c line (layer.Elem i false n m w e) = (tt, item_first i _ (tt, tt))
+  formed c line (layer.Bare e) = (tt, tt)
 
   abbrev property : ListProperty y
   property = record { holds = AreBegun; none = tt; joined = joined; alone = alone; constant = λ w lt. (tt, tt); begun = λ line b l h. (l, h); formed = formed }

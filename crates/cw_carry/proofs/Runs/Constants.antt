@@ -1,5 +1,5 @@
 -- Each constant in the orders of a unit is a word.
-use Rattle.std.proofs.Common.{◌≡◌, ℕ, zero, suc, ◌<◌, List, [], ◌∷◌, ◌++◌, true, false, Option, Some, None, sym, ap, ◌∙◌, subst}
+use Rattle.std.proofs.Common.{◌≡◌, ℕ, zero, suc, ◌<◌, List, [], ◌∷◌, ◌++◌, true, false, Option, Some, None, sym, ap, ◌∙◌, subst, Bool}
 use Rattle.std.specs.Prelude.{option_map, slice_get}
 use Rattle.std.proofs.lemmas.Option.{none-some, same_Some, slice_get-map}
 use Rattle.cw_unit.specs.declared.unit.Unit.{Unit as SourceUnit}
@@ -14,7 +14,8 @@ use Rattle.cw_order.specs.declared.order.Order.TheVariants as order
 use Rattle.cw_order.specs.OrderProgram.{order_in}
 use Rattle.cw_order.specs.FittingWords.{ConstantsFit}
 use Rattle.cw_gen_expr.specs.Pieces.{Piece}
-use Rattle.cw_gen_expr.specs.ReferenceExpressions.{Value, Reference, ConditionPiece, item_order, form_orders}
+use Rattle.cw_gen_expr.specs.ReferenceExpressions.{Value, Reference, ConditionPiece, item_order, item_span, row_order, form_orders}
+use Rattle.cw_gen_expr.specs.KnownValues.{all_inside}
 use Rattle.cw_gen_expr.specs.UnitTables.{first_mark}
 use Rattle.cw_gen_unit.specs.ReferenceUnits.{unit_orders, orders_program}
 use Rattle.cw_carry.proofs.Runs.Generated.{IsPlain, ListProperty, item_plain}
@@ -45,17 +46,21 @@ module _ (y : Layout) where
   item_word : (i : ℕ) → IsWord (item_order y i 0)
   item_word i = no_constant (item_order y i 0) (item_plain y i 0)
 
-  formed : (line : ℕ) (x : Spot-F Piece ConditionPiece Value Piece Reference) → AreWords (form_orders y line x)
-  formed line (layer.Direct i) = (item_word i, tt)
-  formed line (layer.Through i) = (item_word i, (tt, (tt, tt)))
-  formed line (layer.One i l u e) = (tt, (item_word i, (tt, tt)))
-  formed line (layer.Two i l1 u1 l2 u2 n e g) = (tt, (item_word i, (tt, tt)))
-  formed line (layer.ParamArray i e) = (tt, (item_word i, (tt, (tt, tt))))
-  formed line (layer.Word i true n e) = (tt, (item_word i, (tt, (tt, tt))))
-  formed line (layer.Word i false n e) = (tt, (item_word i, (tt, tt)))
-  formed line (layer.Elem i true n m w e) = (tt, (item_word i, (tt, (tt, tt))))
-  formed line (layer.Elem i false n m w e) = (tt, (item_word i, (tt, tt)))
-  formed line (layer.Bare e) = (tt, tt)
+  formed : (compared : Bool) (line : ℕ) (x : Spot-F Piece ConditionPiece Value Piece Reference) → AreWords (form_orders y compared line x)
+  formed c line (layer.Direct i) = (item_word i, tt)
+  formed c line (layer.Through i) = (item_word i, (tt, (tt, tt)))
+  formed c line (layer.One i l u e) = (tt, (item_word i, (tt, tt)))
+  formed c line (layer.Two i l1 u1 l2 u2 n e g) = (tt, (item_word i, (row (all_inside c (item_span y i) l1 u1 l2 u2 n), tt)))
+    where
+      row : (b : Bool) → IsWord (row_order b l1 l2 n (item_span y i) line)
+      row true = tt
+      row false = tt
+  formed c line (layer.ParamArray i e) = (tt, (item_word i, (tt, (tt, tt))))
+  formed c line (layer.Word i true n e) = (tt, (item_word i, (tt, (tt, tt))))
+  formed c line (layer.Word i false n e) = (tt, (item_word i, (tt, tt)))
+  formed c line (layer.Elem i true n m w e) = (tt, (item_word i, (tt, (tt, tt))))
+  formed c line (layer.Elem i false n m w e) = (tt, (item_word i, (tt, tt)))
+  formed c line (layer.Bare e) = (tt, tt)
 
   abbrev property : ListProperty y
   property = record { holds = AreWords; none = tt; joined = joined; alone = λ o h. (no_constant o h, tt); constant = λ w lt. (lt, tt); begun = λ line b l h. (tt, h); formed = formed }

@@ -1,16 +1,14 @@
 -- What holds of the orders of every expression, condition, reference and argument: a property of lists of orders that joined lists keep,
 -- and that plain orders, constants that are words, the orders of references and statements behind their Start have.
 use Rattle.std.proofs.Common.{ℕ, zero, suc, ◌+◌, ◌%◌, ◌<◌, ◌≤◌, ℤ, pos, ◌-ℤ◌, max, List, [], ◌∷◌, ◌++◌, map, length, Bool, true, false, Option, Some, None, sym, ap, ◌∙◌, subst, arith}
-use Rattle.std.specs.Prelude.{slice_get, slice_index_or, ◌==◌, if◌then◌else◌}
+use Rattle.std.specs.Prelude.{◌==◌, if◌then◌else◌}
 use Rattle.cw_unit.specs.declared.layout.Layout.{Layout}
-use Rattle.cw_unit.specs.declared.layout.Family.{Family}
 use Rattle.cw_unit.specs.declared.layout.Sort.{Sort}
 use Rattle.cw_unit.specs.declared.layout.Sort.TheVariants as sort
 use Rattle.cw_unit.specs.declared.unit.Field.{Field}
 use Rattle.cw_unit.specs.declared.unit.LogicOp.{LogicOp}
 use Rattle.cw_unit.specs.declared.unit.LogicOp.TheVariants as logic
 use Rattle.cw_unit.specs.declared.unit.Target.{Target}
-use Rattle.cw_unit.specs.declared.unit.Target.TheVariants as target
 use Rattle.cw_unit.specs.declared.unit.Goal.{Goal}
 use Rattle.cw_unit.specs.declared.unit.Goal.TheVariants as goal
 use Rattle.cw_unit.specs.declared.unit.Arg.{Arg, out-Arg}
@@ -19,7 +17,7 @@ use Rattle.cw_unit.specs.declared.unit.Spot.{Spot, out-Spot, map-Spot}
 use Rattle.cw_unit.specs.declared.unit.Ref.{Ref, out-Ref}
 use Rattle.cw_unit.specs.declared.unit.Expr.{Expr, Expr-F, out-Expr}
 use Rattle.cw_unit.specs.declared.unit.Arg.TheOpen as layer
-use Rattle.cw_unit.specs.declared.unit.Arg.TheOpen.{Arg-F, Cond-F, Spot-F, Ref-F}
+use Rattle.cw_unit.specs.declared.unit.Arg.TheOpen.{Arg-F, Cond-F, Spot-F}
 use Rattle.cw_word.specs.Decimal.{decimal_floor}
 use Rattle.cw_word.specs.Word.{unsigned}
 use Rattle.cw_unit.specs.Scales.{answer_scale}
@@ -27,9 +25,10 @@ use Rattle.cw_order.specs.declared.order.Order.{Order}
 use Rattle.cw_order.specs.declared.order.Order.TheVariants as order
 use Rattle.cw_gen_expr.specs.Pieces.{Piece, plain, followed_by, sequence, with_end}
 use Rattle.cw_gen_unit.specs.ReferenceStatements.{parted_piece}
-use Rattle.cw_gen_expr.specs.ReferenceExpressions.{Scope, Value, Reference, ConditionPiece, saved, two_values, placed_by, placed_in, item_order, form_orders, bounds_orders, load_orders, rescale_orders, logic_order, number_order, narrow, comparator_for, call_order, label_order, pick_mark, index_piece, indexed_piece, known_or, named_or, known_item, known_word, value_of, condition_piece, argument_piece, reference_of, spot_piece, expression_piece}
+use Rattle.cw_gen_expr.specs.ReferenceExpressions.{Scope, Value, Reference, ConditionPiece, saved, two_values, placed_by, item_order, form_orders, bounds_orders, load_orders, rescale_orders, logic_order, number_order, narrow, comparator_for, call_order, label_order, pick_mark, index_piece, indexed_piece, known_or, named_or, known_item, known_word, value_of, condition_piece, argument_piece, reference_of, spot_piece, expression_piece}
 use Rattle.cw_gen_expr.proofs.Layers.{value_layer, computed_layer, known_layer, value-made, argument_layer, argument-made, spot_layer, spot-made, reference-made, condition_layer, condition-made, total, expression_size, expression-size, expression_size_layer, argument_size, argument-size, argument_size_layer, spot-size, spot_size_layer, reference_size, reference-size, condition_size, condition-size, condition_size_layer}
-use Rattle.cw_carry.proofs.Runs.Leading.{Leads}
+use Rattle.cw_carry.proofs.Runs.Leading.{Leads, item_holds}
+use Rattle.cw_unit.specs.declared.unit.Target.TheVariants as target
 
 -- ---- properties of lists
 
@@ -38,7 +37,7 @@ abbrev pub IsPlain : Order → Type 0
 IsPlain (order.Const w) = ⊥
 IsPlain (order.Start line) = ⊥
 IsPlain (order.Element lower span line) = ⊥
-IsPlain (order.ElementOfTwo lower second width span line) = ⊥
+IsPlain (order.ElementInside lower second width span) = ⊥
 IsPlain (order.Entry width word span line) = ⊥
 IsPlain _ = Unit {0}
 
@@ -53,7 +52,7 @@ pub record ListProperty (y : Layout) : Type 1 where
   pub alone : (o : Order) → IsPlain o → holds (o ∷ [])
   pub constant : (w : ℕ) → w < 65536 → holds (order.Const w ∷ [])
   pub begun : (line : ℕ) (b : List Order) → Leads b → holds b → holds (order.Start line ∷ b)
-  pub formed : (line : ℕ) (x : Spot-F Piece ConditionPiece Value Piece Reference) → holds (form_orders y line x)
+  pub formed : (compared : Bool) (line : ℕ) (x : Spot-F Piece ConditionPiece Value Piece Reference) → holds (form_orders y compared line x)
 
 -- it holds of the orders of a piece
 pub record Holds {y : Layout} (c : ListProperty y) (p : Piece) : Type 0 where
@@ -94,18 +93,12 @@ module _ {y : Layout} (c : ListProperty y) where
 
 -- ---- orders of items and operations
 
-pub item_plain : (y : Layout) (i n : ℕ) → IsPlain (item_order y i n)
-item_plain y i n = of_family (slice_get y.families (slice_index_or y.homes i (0, 0)).0) (slice_index_or y.homes i (0, 0)).0 ((slice_index_or y.homes i (0, 0)).1 + n)
-  where
-    of_sort : (x : Sort) (f o : ℕ) → IsPlain (placed_by x f o)
-    of_sort (sort.Common d) f o = tt
-    of_sort sort.Own f o = tt
-    of_sort (sort.Absolute a) f o = tt
-    of_sort (sort.Frame b) f o = tt
+sort_plain : (x : Sort) (f o : ℕ) → IsPlain (placed_by x f o)
+sort_plain (sort.Common d) f o = tt
+sort_plain _ f o = tt
 
-    of_family : (x : Option Family) (f o : ℕ) → IsPlain (placed_in x f o)
-    of_family None f o = tt
-    of_family (Some x) f o = of_sort x.sort f o
+pub item_plain : (y : Layout) (i n : ℕ) → IsPlain (item_order y i n)
+item_plain = item_holds IsPlain sort_plain (λ f o. tt)
 
 pub named : {y : Layout} (c : ListProperty y) (i : ℕ) (w : Option ℕ) {p : Piece} → Holds c p → Holds c (named_or y i w p)
 named {y} c i (Some n) h = lists c (item_order y i n ∷ []) (item_plain y i n, tt)
@@ -134,10 +127,7 @@ bounds_plain false line l u = tt
 module _ (s : Scope) where
   pub call_plain : (t : Target) → IsPlain (call_order s t)
   call_plain (target.Own q) = tt
-  call_plain (target.Common d) = tt
-  call_plain (target.Special k f) = tt
-  call_plain target.Read = tt
-  call_plain target.Write = tt
+  call_plain _ = tt
 
   label_plain : (g : Goal) → IsPlain (label_order s g)
   label_plain (goal.Own l) = tt
@@ -173,7 +163,7 @@ module _ (s : Scope) (c : ListProperty s.layout) where
     spot : (x : Spot-F Arg Cond Expr Spot Ref) → spot_size_layer x ≤ n → Holds c (spot_layer s x)
     spot x le =
         named c (known_item s (pieces x)) (known_word s (pieces x)) {p = indexed_piece s (pieces x)}
-        (both c {p = index_piece s (pieces x)} {q = plain (form_orders s.layout s.line (pieces x))} (indexes x le) (record { at = λ place next. c.formed s.line (pieces x) }))
+        (both c {p = index_piece s (pieces x)} {q = plain (form_orders s.layout s.unit.bounds s.line (pieces x))} (indexes x le) (record { at = λ place next. c.formed s.unit.bounds s.line (pieces x) }))
 
     reference : (r : Ref) → reference_size r ≤ n → Holds c (reference_of s r).address
     reference r le =
@@ -201,11 +191,7 @@ module _ (s : Scope) (c : ListProperty s.layout) where
     argument (layer.Same i) le = lists c (item_order s.layout i 0 ∷ order.Load ∷ order.Save ∷ []) (item_plain s.layout i 0, (tt, (tt, tt)))
     argument (layer.Base i) le = lists c (item_order s.layout i 0 ∷ order.Save ∷ []) (item_plain s.layout i 0, (tt, tt))
     argument (layer.Goal g) le = lists c (label_order s g ∷ []) (label_plain s g, tt)
-    argument (layer.Switch k) le = lists c _ (tt, tt)
-    argument (layer.CommonSwitch d) le = lists c _ (tt, tt)
-    argument (layer.Proc q) le = lists c _ (tt, tt)
-    argument (layer.CommonProc d) le = lists c _ (tt, tt)
-    argument (layer.Special k) le = lists c _ (tt, tt)
+    argument _ le = lists c _ (tt, tt)
 
     arguments : (args : List Arg) → total (map argument_size args) < n → Holds c (sequence (map (argument_piece s) args))
     arguments [] lt = lists c [] tt

@@ -1,5 +1,5 @@
 -- What holds of the orders of every statement, procedure and unit, by the same properties.
-use Rattle.std.proofs.Common.{◌≡◌, ℕ, zero, suc, ◌+◌, ◌<◌, ◌≤◌, ℤ, pos, negsuc, List, [], ◌∷◌, ◌++◌, map, Bool, true, false, Option, Some, None, sym, subst, arith}
+use Rattle.std.proofs.Common.{ℕ, zero, suc, ◌+◌, ◌<◌, ◌≤◌, ℤ, pos, negsuc, List, [], ◌∷◌, ◌++◌, map, Bool, true, false, Option, Some, None, sym, subst, arith}
 use Rattle.std.specs.Prelude.{slice_get, slice_index_or, if◌then◌else◌}
 use Rattle.cw_unit.specs.declared.layout.Layout.{Layout}
 use Rattle.cw_unit.specs.declared.layout.Family.{Family}
@@ -22,7 +22,7 @@ use Rattle.cw_unit.specs.declared.unit.Felem.TheVariants as element
 use Rattle.cw_unit.specs.declared.unit.Expr.{Expr}
 use Rattle.cw_unit.specs.declared.unit.Cond.{Cond}
 use Rattle.cw_unit.specs.declared.unit.Ref.{Ref, out-Ref}
-use Rattle.cw_unit.specs.declared.unit.Stmt.{Stmt, Stmt-F, out-Stmt, map-Stmt, fold-Stmt, fold_out-Stmt}
+use Rattle.cw_unit.specs.declared.unit.Stmt.{Stmt, Stmt-F, out-Stmt}
 use Rattle.cw_unit.specs.declared.unit.Stmt.TheOpen as statement
 use Rattle.cw_unit.specs.Storage.{layout_of}
 use Rattle.cw_order.specs.declared.order.Order.{Order}
@@ -40,6 +40,7 @@ use Rattle.cw_unit.specs.Operation.{is_past}
 use Rattle.cw_word.specs.Word.{unsigned}
 use Rattle.cw_gen_unit.specs.ReferenceUnits.{answer_of, entry_orders, procedure_piece, procedures_piece, unit_piece}
 use Rattle.cw_carry.proofs.Runs.Leading.{Leading, leads_before, chosen as chosen_leads, value_leads, condition_leads, jump_leads, call_statement_leads, loop_leads}
+use Rattle.cw_carry.proofs.Statements.Labels.{depth, depth_layer, depth-is}
 use Rattle.cw_gen_unit.specs.Endings.{comes_to_end}
 use Rattle.cw_gen_unit.proofs.Layers.{statement_layer, statement-made, jump-holds, leave-holds}
 use Rattle.cw_carry.proofs.Runs.Generated.{IsPlain, ArePlain, ListProperty, Holds, lists, constant_first, both, ended, saves, chosen, item_plain, call_plain, value_holds, condition_holds, reference_holds, arguments_hold}
@@ -69,10 +70,7 @@ store_plain (Some x) = (tt, tt)
 
 after_call_plain : (t : Target) → ArePlain (after_statement_call t)
 after_call_plain target.Write = tt
-after_call_plain (target.Own q) = (tt, tt)
-after_call_plain (target.Common d) = (tt, tt)
-after_call_plain (target.Special k f) = (tt, tt)
-after_call_plain target.Read = (tt, tt)
+after_call_plain _ = (tt, tt)
 
 bound_plain : (y : Layout) (k i : ℕ) → IsPlain (bound_order y k i)
 bound_plain y k i = of_family (slice_get y.families (slice_index_or y.homes i (0, 0)).0) (slice_index_or y.homes i (0, 0)).0 (slice_index_or y.homes i (0, 0)).1
@@ -96,24 +94,6 @@ bind_plain y (param.Table i n ∷ qs) = (bound_plain y (argument_words qs) i, bi
 bind_plain y (param.Label i ∷ qs) = bind_plain y qs
 bind_plain y (param.Switch i ∷ qs) = bind_plain y qs
 bind_plain y (param.Proc i x ∷ qs) = bind_plain y qs
-
--- ---- sizes
-
-abbrev depth_step : Stmt-F ℕ → ℕ
-depth_step (statement.If line c a b) = 1 + (a + b)
-depth_step (statement.For line item r es b) = 1 + b
-depth_step (statement.Seq ss) = 1 + total ss
-depth_step (statement.Mark ls s) = 1 + s
-depth_step _ = 0
-
-abbrev depth : Stmt → ℕ
-depth = fold-Stmt ℕ depth_step
-
-abbrev depth_layer : Stmt-F Stmt → ℕ
-depth_layer x = depth_step (map-Stmt Stmt ℕ depth x)
-
-depth-is : (x : Stmt) → depth x ≡ depth_layer (out-Stmt x)
-depth-is = fold_out-Stmt ℕ depth_step
 
 module _ (s : Scope) (c : ListProperty s.layout) where
   -- ---- loops

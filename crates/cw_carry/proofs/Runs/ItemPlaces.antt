@@ -73,9 +73,7 @@ data Sorted (s : Sort) : Type 0 where
 
 sorted : (s : Sort) → Sorted s
 sorted (sort.Frame d) = in_a_frame d refl
-sorted (sort.Common d) = elsewhere (λ h. h)
-sorted sort.Own = elsewhere (λ h. h)
-sorted (sort.Absolute a) = elsewhere (λ h. h)
+sorted _ = elsewhere (λ h. h)
 
 in-frame : (s : Sort) (d : ℕ) → s ≡ sort.Frame d → IsInFrame s
 in-frame s d e = subst IsInFrame (sym e) tt
@@ -318,9 +316,7 @@ module _ (us : List SourceUnit) (m : Map) (limits : Limits) (room : ℕ) where
 
     key-apart : (g a b : ℕ) (names : List Name) (s : Sort) → (a ≡ b → ⊥) → Private g a ≡ key_of g names b s → ⊥
     key-apart g a b names (sort.Common d) other e = cc
-    key-apart g a b names sort.Own other e = let same : a ≡ b = cc in other same
-    key-apart g a b names (sort.Absolute n) other e = let same : a ≡ b = cc in other same
-    key-apart g a b names (sort.Frame n) other e = let same : a ≡ b = cc in other same
+    key-apart g a b names _ other e = let same : a ≡ b = cc in other same
 
     static-address : (g : ℕ) (u : SourceUnit) (who : Option ℕ) (base i k : ℕ) (u-is : slice_get us g ≡ Some u) (h : IsTrue (has_words u who i k)) → ¬ IsInFrame (sort_of_family u (family_of u i)) → item_address (source c) g i base ≡ family_start g (family_of u i) + family_offset u i
     static-address g u who base i k u-is h away =

@@ -8,7 +8,6 @@ use Rattle.cw_unit.specs.declared.layout.Sort.{Sort}
 use Rattle.cw_unit.specs.declared.layout.Sort.TheVariants as sort
 use Rattle.cw_unit.specs.declared.unit.Label.{Label}
 use Rattle.cw_unit.specs.declared.unit.Target.{Target}
-use Rattle.cw_unit.specs.declared.unit.Target.TheVariants as target
 use Rattle.cw_unit.specs.declared.unit.Goal.{Goal}
 use Rattle.cw_unit.specs.declared.unit.Goal.TheVariants as goal
 use Rattle.cw_unit.specs.declared.unit.Dest.{Dest}
@@ -30,6 +29,7 @@ use Rattle.cw_gen_expr.specs.UnitTables.{label_mark}
 use Rattle.cw_gen_expr.proofs.Layers.{value_layer, computed_layer, known_layer, value-made, argument_layer, argument-made, spot_layer, indexed_layer, word_item, word_layer, spot-made, reference-made, condition_layer, condition-made, expression_size, expression-size, expression_size_layer, argument_size, argument-size, argument_size_layer, spot-size, spot_size_layer, reference_size, reference-size, condition_size, condition-size, condition_size_layer}
 use Rattle.cw_gen_unit.specs.ReferenceStatements.{own_order, goal_order, jump_piece, with_middle, loop_place, simple_beginning, begun_loop, parted_piece}
 use Rattle.cw_gen_unit.specs.declared.simple.SimpleStep.{SimpleStep}
+use Rattle.cw_unit.specs.declared.unit.Target.TheVariants as target
 
 -- ---- lists and pieces
 
@@ -74,18 +74,20 @@ chosen c between a b h =
 
 -- ---- single orders
 
-pub item_leads : (y : Layout) (i n : ℕ) → BeginsStatement (item_order y i n)
-item_leads y i n = of_family (slice_get y.families (slice_index_or y.homes i (0, 0)).0) (slice_index_or y.homes i (0, 0)).0 ((slice_index_or y.homes i (0, 0)).1 + n)
+-- what holds of the order of each place of an item
+pub item_holds : (P : Order → Type 0) → ((x : Sort) (f o : ℕ) → P (placed_by x f o)) → ((f o : ℕ) → P (placed_in None f o)) → (y : Layout) (i n : ℕ) → P (item_order y i n)
+item_holds P sorted none y i n = of_family (slice_get y.families (slice_index_or y.homes i (0, 0)).0) (slice_index_or y.homes i (0, 0)).0 ((slice_index_or y.homes i (0, 0)).1 + n)
   where
-    of_sort : (x : Sort) (f o : ℕ) → BeginsStatement (placed_by x f o)
-    of_sort (sort.Common d) f o = tt
-    of_sort sort.Own f o = tt
-    of_sort (sort.Absolute a) f o = tt
-    of_sort (sort.Frame b) f o = tt
+    of_family : (x : Option Family) (f o : ℕ) → P (placed_in x f o)
+    of_family None f o = none f o
+    of_family (Some x) f o = sorted x.sort f o
 
-    of_family : (x : Option Family) (f o : ℕ) → BeginsStatement (placed_in x f o)
-    of_family None f o = tt
-    of_family (Some x) f o = of_sort x.sort f o
+sort_leads : (x : Sort) (f o : ℕ) → BeginsStatement (placed_by x f o)
+sort_leads (sort.Common d) f o = tt
+sort_leads _ f o = tt
+
+pub item_leads : (y : Layout) (i n : ℕ) → BeginsStatement (item_order y i n)
+item_leads = item_holds BeginsStatement sort_leads (λ f o. tt)
 
 item : (y : Layout) (i n : ℕ) (os : List Order) → Leading (plain (item_order y i n ∷ os))
 item y i n os = leading (item_order y i n) os (item_leads y i n)
@@ -97,10 +99,7 @@ named y i None h = h
 module _ (s : Scope) where
   call_leads : (t : Target) → BeginsStatement (call_order s t)
   call_leads (target.Own q) = tt
-  call_leads (target.Common d) = tt
-  call_leads (target.Special k f) = tt
-  call_leads target.Read = tt
-  call_leads target.Write = tt
+  call_leads _ = tt
 
   label_leads : (g : Goal) → BeginsStatement (label_order s g)
   label_leads (goal.Own l) = tt
@@ -149,11 +148,7 @@ module _ (s : Scope) where
     argument (layer.Same i) le = item s.layout i 0 (order.Load ∷ order.Save ∷ [])
     argument (layer.Base i) le = item s.layout i 0 (order.Save ∷ [])
     argument (layer.Goal g) le = leading (label_order s g) [] (label_leads s g)
-    argument (layer.Switch k) le = record { at = λ place next. tt }
-    argument (layer.CommonSwitch d) le = record { at = λ place next. tt }
-    argument (layer.Proc q) le = record { at = λ place next. tt }
-    argument (layer.CommonProc d) le = record { at = λ place next. tt }
-    argument (layer.Special k) le = record { at = λ place next. tt }
+    argument _ le = record { at = λ place next. tt }
 
     computed : (x : Expr-F Arg Cond Expr Spot Ref) → expression_size_layer x ≤ n → (f : ℕ) → Leading ((computed_layer s x).at f)
     computed (layer.Num k) le f = record { at = λ place next. tt }

@@ -1,5 +1,5 @@
 -- The machine of the orders of well-formed units tracks their meaning, at each storage map and limits that suit them.
-use Rattle.std.proofs.Common.{◌≡◌, ◌≢◌, ℕ, zero, suc, ◌+◌, ◌<◌, ◌≤◌, List, [], ◌∷◌, map, length, IsTrue, Option, Some, None, is_some, refl, sym, ap, ◌∙◌, subst, arith}
+use Rattle.std.proofs.Common.{◌≡◌, ◌≢◌, ℕ, zero, suc, ◌+◌, ◌<◌, ◌≤◌, List, [], ◌∷◌, map, length, Bool, true, false, IsTrue, Option, Some, None, is_some, refl, sym, ap, ◌∙◌, subst, arith}
 use Rattle.std.specs.Prelude.{All, slice_get}
 use Rattle.std.proofs.lemmas.Option.{none-some, same_Some}
 use Rattle.cw_track.specs.Tracking.{Tracks}
@@ -10,16 +10,23 @@ use Rattle.cw_unit.specs.declared.unit.Param.{Param}
 use Rattle.cw_unit.specs.declared.unit.Param.TheVariants as param
 use Rattle.cw_unit.specs.declared.unit.Dest.{Dest}
 use Rattle.cw_unit.specs.declared.unit.Dest.TheVariants as dest
+use Rattle.cw_unit.specs.declared.unit.Arg.{Arg}
+use Rattle.cw_unit.specs.declared.unit.Cond.{Cond}
+use Rattle.cw_unit.specs.declared.unit.Expr.{Expr}
+use Rattle.cw_unit.specs.declared.unit.Spot.{Spot, out-Spot}
+use Rattle.cw_unit.specs.declared.unit.Ref.{Ref}
+use Rattle.cw_unit.specs.declared.unit.Arg.TheOpen as layer
+use Rattle.cw_unit.specs.declared.unit.Arg.TheOpen.{Spot-F}
 use Rattle.cw_unit.specs.declared.layout.Limits.{Limits}
 use Rattle.cw_unit.specs.declared.layout.Map.{Map}
 use Rattle.cw_unit.specs.ValidStorage.{frame_size_in}
 use Rattle.cw_unit.specs.Program.{Program, program_at}
 use Rattle.cw_unit.specs.Stop.{Running, Ended, Stopped, Stuck}
 use Rattle.cw_unit.specs.Words.{Operand, Word, Held, Words}
-use Rattle.cw_unit.specs.Work.{Work, Jump}
+use Rattle.cw_unit.specs.Work.{Work, FormAt, Jump}
 use Rattle.cw_unit.specs.Configuration.{Configuration, at as configuration, Activation, FramesApart, activations_of, words_of, segment_of, base_of, procedure_in, frame_size_of, frame_top}
 use Rattle.cw_unit.specs.StackBound.{control_need}
-use Rattle.cw_unit.specs.Step.{kept, step, steps}
+use Rattle.cw_unit.specs.Step.{compares_in, kept, step, steps}
 use Rattle.cw_unit.specs.Behaviour.{is_running, shown, initial_configuration, configuration_after, observed}
 use Rattle.cw_unit.specs.Begun.{begins}
 use Rattle.cw_order.specs.OrderState.{OrderActivation, OrderState, operand_words}
@@ -37,6 +44,7 @@ use Rattle.cw_safety.specs.Coherent as coherent
 use Rattle.cw_safety.proofs.Calling.{unit_of-procedure}
 use Rattle.cw_safety.proofs.Truth.{no}
 use Rattle.cw_carry.proofs.Expressions.Carried.{who_of}
+use Rattle.cw_carry.proofs.Expressions.Operations.{FormsOf}
 use Rattle.cw_carry.proofs.Expressions.Stepping.{IsSane, AllCalls}
 use Rattle.cw_carry.proofs.Expressions.Ways.{Names, JumpSound}
 use Rattle.cw_carry.proofs.Expressions.Whole.{held_words, Sound, SoundAt, parameters_at}
@@ -136,6 +144,20 @@ module _ (us : List SourceUnit) (m : Map) (limits : Limits) (room : ℕ) (suits 
     owned = λ h label owner n v l q v-is l-is q-is. owner-parts s (kept owner acts) h q (known.owners d line k-is h label owner (names s acts d h label owner n) v l q v-is l-is q-is);
   }
 
+  -- ---- indexes
+
+  forms-of : (s : ℕ) (k : Work) (acts : List Activation) (w : Words) → Coherent p s k acts w → (u : SourceUnit) → slice_get us (segment_of s acts) ≡ Some u → (spot : Spot) (line : ℕ) (next : Work) → k ≡ FormAt spot line next
+      → (b : Bool) (x : Spot-F Arg Cond Expr Spot Ref) → u.bounds ≡ b → out-Spot spot ≡ x → FormsOf b x w.operands
+  forms-of s k acts w known u u-is spot line next e true (layer.Two i l1 u1 l2 u2 n a d) b-is x-is = known.compared spot line next e (ap (compares_in p) u-is ∙ b-is) i l1 u1 l2 u2 n a d x-is
+  forms-of s k acts w known u u-is spot line next e true (layer.Direct i) b-is x-is = tt
+  forms-of s k acts w known u u-is spot line next e true (layer.Through i) b-is x-is = tt
+  forms-of s k acts w known u u-is spot line next e true (layer.One i l h a) b-is x-is = tt
+  forms-of s k acts w known u u-is spot line next e true (layer.ParamArray i a) b-is x-is = tt
+  forms-of s k acts w known u u-is spot line next e true (layer.Word i t n a) b-is x-is = tt
+  forms-of s k acts w known u u-is spot line next e true (layer.Elem i t n m q a) b-is x-is = tt
+  forms-of s k acts w known u u-is spot line next e true (layer.Bare a) b-is x-is = tt
+  forms-of s k acts w known u u-is spot line next e false x b-is x-is = tt
+
   -- ---- configurations
 
   sound : (s : ℕ) (k : Work) (acts : List Activation) (w : Words) → Coherent p s k acts w → stack_words p w.operands acts + 72 ≤ control_need us limits.depth → FramesApart p acts → length w.memory ≡ limits.area → IsSane (step p (configuration s k acts w Running)) → Sound (c us m limits room) s k acts w
@@ -156,6 +178,7 @@ module _ (us : List SourceUnit) (m : Map) (limits : Limits) (room : ℕ) (suits 
         item-bound us m limits room suits.valid suits.area h v (Some q) (frame_top p acts) b bs j i z x v-is (frame-next h q v proc (frame_top p acts) b bs v-is proc-is fits base-is) has arg-is;
     enough = λ tg line wanted next e h q v proc callee v-is proc-is. known.arguments tg line wanted next e h q proc callee (ap (λ x. procedure_in x q) v-is ∙ proc-is);
     jumps = λ d line e. jump-sound s line k acts w d e known;
+    compared = λ u u-is spot line next e. forms-of s k acts w known u u-is spot line next e u.bounds (out-Spot spot) refl refl;
     ends = known.ends;
   }
 

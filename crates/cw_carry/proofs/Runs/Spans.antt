@@ -21,7 +21,8 @@ use Rattle.cw_order.specs.OrderProgram.{order_in}
 use Rattle.cw_order.specs.OrderActions.{home_word}
 use Rattle.cw_order.specs.Spans.{span_of, SpansInside}
 use Rattle.cw_gen_expr.specs.Pieces.{Piece}
-use Rattle.cw_gen_expr.specs.ReferenceExpressions.{Value, Reference, ConditionPiece, placed_by, placed_in, item_order, span_by, span_in, item_span, form_orders}
+use Rattle.cw_gen_expr.specs.ReferenceExpressions.{Value, Reference, ConditionPiece, placed_by, placed_in, item_order, span_by, span_in, item_span, row_order, form_orders}
+use Rattle.cw_gen_expr.specs.KnownValues.{all_inside}
 use Rattle.cw_gen_expr.specs.UnitTables.{first_mark}
 use Rattle.cw_gen_unit.specs.BuiltUnits.{Suits}
 use Rattle.cw_gen_unit.specs.ReferenceUnits.{unit_orders, orders_program}
@@ -88,7 +89,7 @@ module _ (Inside : (family offset k : ℕ) → Type 0) where
   spanless : (o : Order) → IsPlain o → span_of o ≡ 0
   spanless (order.Const w) h = refl
   spanless (order.Element lower span line) h = absurd h
-  spanless (order.ElementOfTwo lower second width span line) h = absurd h
+  spanless (order.ElementInside lower second width span) h = absurd h
   spanless (order.Entry width word span line) h = absurd h
   spanless _ h = refl
 
@@ -99,17 +100,21 @@ module _ (Inside : (family offset k : ℕ) → Type 0) where
     before_load : (i : ℕ) → Covers (item_order y i 0) 0
     before_load i = nothing (item_order y i 0) 0 refl
 
-    formed : (line : ℕ) (x : Spot-F Piece ConditionPiece Value Piece Reference) → Covered order.Mark (form_orders y line x)
-    formed line (layer.Direct i) = (item_spanless i, tt)
-    formed line (layer.Through i) = (item_spanless i, (before_load i, (refl, tt)))
-    formed line (layer.One i l u e) = (refl, (item_spanless i, (items i, tt)))
-    formed line (layer.Two i l1 u1 l2 u2 n e g) = (refl, (item_spanless i, (items i, tt)))
-    formed line (layer.ParamArray i e) = (refl, (item_spanless i, (before_load i, (refl, tt))))
-    formed line (layer.Word i true n e) = (refl, (item_spanless i, (before_load i, (refl, tt))))
-    formed line (layer.Word i false n e) = (refl, (item_spanless i, (items i, tt)))
-    formed line (layer.Elem i true n m w e) = (refl, (item_spanless i, (before_load i, (refl, tt))))
-    formed line (layer.Elem i false n m w e) = (refl, (item_spanless i, (items i, tt)))
-    formed line (layer.Bare e) = (refl, tt)
+    formed : (compared : Bool) (line : ℕ) (x : Spot-F Piece ConditionPiece Value Piece Reference) → Covered order.Mark (form_orders y compared line x)
+    formed c line (layer.Direct i) = (item_spanless i, tt)
+    formed c line (layer.Through i) = (item_spanless i, (before_load i, (refl, tt)))
+    formed c line (layer.One i l u e) = (refl, (item_spanless i, (items i, tt)))
+    formed c line (layer.Two i l1 u1 l2 u2 n e g) = (refl, (item_spanless i, (row (all_inside c (item_span y i) l1 u1 l2 u2 n), tt)))
+      where
+        row : (b : Bool) → Covers (item_order y i 0) (span_of (row_order b l1 l2 n (item_span y i) line))
+        row true = items i
+        row false = before_load i
+    formed c line (layer.ParamArray i e) = (refl, (item_spanless i, (before_load i, (refl, tt))))
+    formed c line (layer.Word i true n e) = (refl, (item_spanless i, (before_load i, (refl, tt))))
+    formed c line (layer.Word i false n e) = (refl, (item_spanless i, (items i, tt)))
+    formed c line (layer.Elem i true n m w e) = (refl, (item_spanless i, (before_load i, (refl, tt))))
+    formed c line (layer.Elem i false n m w e) = (refl, (item_spanless i, (items i, tt)))
+    formed c line (layer.Bare e) = (refl, tt)
 
     abbrev property : ListProperty y
     property = record {

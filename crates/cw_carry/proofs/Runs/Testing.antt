@@ -12,13 +12,10 @@ use Rattle.cw_gen_unit.specs.ReferenceUnits.{answer_of}
 use Rattle.cw_safety.proofs.Truth.{both}
 
 item-fits : (f : ℕ → Bool) (q : Param) → IsTrue (item_fits f q) → ItemFits (λ i. IsTrue (f i)) q
-item-fits f (param.Value i s) h = h
-item-fits f (param.Location i s) h = h
-item-fits f (param.Array i s) h = h
-item-fits f (param.Table i n) h = h
 item-fits f (param.Label k) h = tt
 item-fits f (param.Switch k) h = tt
 item-fits f (param.Proc k s) h = tt
+item-fits f _ h = h
 
 items-fit : (f : ℕ → Bool) (qs : List Param) → IsTrue (items_fit f qs) → ItemsFit (λ i. IsTrue (f i)) qs
 items-fit f [] h = tt

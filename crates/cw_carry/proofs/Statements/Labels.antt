@@ -67,20 +67,20 @@ nothing x y = ap₂ (λ l m. l ++ m) x y
 
 -- ---- how deep a statement is
 
-abbrev depth_step : Stmt-F ℕ → ℕ
+abbrev pub depth_step : Stmt-F ℕ → ℕ
 depth_step (statement.If line c a b) = 1 + (a + b)
 depth_step (statement.For line item r es b) = 1 + b
 depth_step (statement.Seq ss) = 1 + total ss
 depth_step (statement.Mark ls s) = 1 + s
 depth_step _ = 0
 
-abbrev depth : Stmt → ℕ
+abbrev pub depth : Stmt → ℕ
 depth = fold-Stmt ℕ depth_step
 
-abbrev depth_layer : Stmt-F Stmt → ℕ
+abbrev pub depth_layer : Stmt-F Stmt → ℕ
 depth_layer x = depth_step (map-Stmt Stmt ℕ depth x)
 
-depth-is : (x : Stmt) → depth x ≡ depth_layer (out-Stmt x)
+pub depth-is : (x : Stmt) → depth x ≡ depth_layer (out-Stmt x)
 depth-is = fold_out-Stmt ℕ depth_step
 
 a_level : (levels : ℕ) (p : ℕ → Bool) → IsTrue (within levels p) → (m : ℕ) × (levels ≡ suc m) × IsTrue (p m)

@@ -137,10 +137,7 @@ module _ (c : Compiled) (at_sites : (g : ℕ) (u : SourceUnit) (who : Option ℕ
 
   after_is : (tg : Target) → after_statement_call tg ≡ after_call tg false
   after_is (target_of.Own p) = refl
-  after_is (target_of.Common d) = refl
-  after_is (target_of.Special k f) = refl
-  after_is target_of.Read = refl
-  after_is target_of.Write = refl
+  after_is _ = refl
 
   abbrev site_is : (q : ℕ) (s : Stmt) (levels n : ℕ) → Site q s levels n → (c.places (here_in c t) t.unit who).StatementAt q s levels n
   site_is q s levels n h = subst (λ p. p.StatementAt q s levels n) (sym (at_sites (here_in c t) t.unit who)) h

@@ -61,11 +61,7 @@ use Rattle.cw_sound.proofs.Expressions.Lists.{all_none, all_more}
 
 taken_plain : (p : RawIps) → taken_of (kind_of_plain p) ≡ taken_by_plain p
 taken_plain (inner.Value at t) = refl
-taken_plain (inner.Location at t) = refl
-taken_plain (inner.Array t) = refl
-taken_plain (inner.Table at s) = refl
-taken_plain (inner.Label at) = refl
-taken_plain (inner.Switch at) = refl
+taken_plain _ = refl
 
 plain_same : (x y : RawIps) → IsTrue (same_plain x y) → taken_by_plain x ≡ taken_by_plain y
 plain_same (inner.Value p t) (inner.Value q v) h = refl
@@ -218,11 +214,7 @@ module _ (u : SourceUnit) (who : Option ℕ) where
       argument_keeps : (p : RawPs) → IsTrue (takes named p j.shape) → Keeps (argument_faults named p j)
       argument_keeps (ps.Plain (inner.Value at t)) h = (s.valued h).keeps (fraction_of t)
       argument_keeps (ps.Plain (inner.Location at t)) h = (s.valued (s.whole_value (parts j.shape.whole (j.shape.natural == fraction_of t) h).0)).keeps 0
-      argument_keeps (ps.Plain (inner.Array t)) h = keeps_fine
-      argument_keeps (ps.Plain (inner.Table at z)) h = keeps_fine
-      argument_keeps (ps.Plain (inner.Label at)) h = keeps_fine
-      argument_keeps (ps.Plain (inner.Switch at)) h = keeps_fine
-      argument_keeps (ps.Proc answer at params) h = keeps_fine
+      argument_keeps _ h = keeps_fine
 
       argument_given : (p : RawPs) → IsTrue (takes named p j.shape) → l ≤ most_levels → NoFault (argument_faults named p j) → Given (argument_for p m) (kind_specified p)
       argument_given (ps.Plain (inner.Value at t)) h few free =

@@ -3,7 +3,6 @@ use Rattle.std.proofs.Common.{◌≡◌, ℕ, List, [], ◌∷◌, map, Bool, tr
 use Rattle.cw_tree.specs.declared.leaf.RawName.{RawName}
 use Rattle.cw_tree.specs.declared.leaf.RawType.{RawType}
 use Rattle.cw_tree.specs.declared.segment.RawIps.{RawIps}
-use Rattle.cw_tree.specs.declared.segment.RawIps.TheVariants as inner
 use Rattle.cw_tree.specs.declared.segment.RawPs.{RawPs}
 use Rattle.cw_facts.specs.declared.fact.Kind.{Kind as NameKind}
 use Rattle.cw_facts.specs.declared.fact.Kind.TheVariants as kind
@@ -41,6 +40,7 @@ use Rattle.cw_sound.proofs.Expressions.Judging.{NoFault}
 use Rattle.cw_sound.proofs.Expressions.Parts.{Result}
 use Rattle.cw_sound.proofs.Expressions.Nodes.{value_rolled, formed_rolled, result_of}
 use Rattle.cw_sound.proofs.Expressions.Places.{Place, place_result, named_place, item_of_kind}
+use Rattle.cw_tree.specs.declared.segment.RawIps.TheVariants as inner
 
 -- ---- kinds that agree with themselves
 
@@ -66,11 +66,7 @@ kinds_same (k ∷ ks) = both (same_kind k k) (same_kinds ks ks) (kind_same k) (k
 
 plain_suits : (p : RawIps) → IsTrue (suits_one (kind_of_plain p) (taken_by_plain p))
 plain_suits (inner.Value at t) = refl
-plain_suits (inner.Location at t) = refl
-plain_suits (inner.Array t) = refl
-plain_suits (inner.Table at s) = refl
-plain_suits (inner.Label at) = refl
-plain_suits (inner.Switch at) = refl
+plain_suits _ = refl
 
 plains_suit : (plains : List RawIps) → IsTrue (suits (map kind_specified (plain plains)) (map taken_by_plain plains))
 plains_suit [] = refl
@@ -163,31 +159,15 @@ module _ (named : Named) (numbers : Numbers) (u : SourceUnit) (who : Option ℕ)
     call = writer_called wanted (kind_of named n) x.1.params (number_of named numbers n) h x.1.is;
     scale = ap (λ (m : Option Numbered). answer_scale u (target_of (kind_of named n) m)) x.1.is.1 ∙ sym (ap fraction_of_kind is);
   }
-  may_be_called wanted (kind.Single t) n is x h = no h
-  may_be_called wanted (kind.Array t b) n is x h = no h
-  may_be_called wanted (kind.Table s) n is x h = no h
-  may_be_called wanted (kind.Element table e) n is x h = no h
-  may_be_called wanted (kind.Value t) n is x h = no h
-  may_be_called wanted (kind.Location t) n is x h = no h
-  may_be_called wanted (kind.ArrayParam t) n is x h = no h
-  may_be_called wanted (kind.TableParam s) n is x h = no h
-  may_be_called wanted kind.LabelParam n is x h = no h
-  may_be_called wanted kind.SwitchParam n is x h = no h
-  may_be_called wanted kind.Label n is x h = no h
-  may_be_called wanted kind.Switch n is x h = no h
-  may_be_called wanted kind.Bounds n is x h = no h
-  may_be_called wanted (kind.Answer t) n is x h = no h
+  may_be_called wanted _ n is x h = no h
 
   -- ---- calls
 
   -- what is called for a value answers
   answering : (t : Target) (ks : Option (List Kind)) → IsTrue (is_call (alone u) 0 (at_work who) true t ks) → IsTrue (answers t)
-  answering (targets.Own q) ks h = refl
-  answering (targets.Common d) ks h = refl
-  answering (targets.Special k f) ks h = refl
-  answering targets.Read ks h = refl
   answering targets.Write None h = no h
   answering targets.Write (Some ks) h = no h
+  answering _ ks h = refl
 
   pub called_result : (n : RawName) (args : List Arg) (c : Callable true n) → IsTrue (all_built (map (is_argument u (has_words u who)) args)) → kinds_of (map (formed.kind_of (alone u) 0 (at_work who)) args) ≡ Some (map kind_specified c.params)
       → Result u who (fraction_of_kind (kind_of named n)) (call (target named numbers n) args)
@@ -255,17 +235,8 @@ module _ (named : Named) (numbers : Numbers) (u : SourceUnit) (who : Option ℕ)
       left : (c : Bool) → IsTrue (c || false) → IsTrue c
       left true e = refl
       left false e = no e
-  name_value n (kind.Table s) is x h free = no h
-  name_value n (kind.Element table e) is x h free = no h
-  name_value n (kind.ArrayParam t) is x h free = no h
-  name_value n (kind.TableParam s) is x h free = no h
   name_value n (kind.Proc t) is x h free = as_called n (kind.Proc t) is refl (may_be_called true (kind.Proc t) n is x refl) free
   name_value n (kind.ProcParam t) is x h free = as_called n (kind.ProcParam t) is refl (may_be_called true (kind.ProcParam t) n is x refl) free
   name_value n kind.ReadByte is x h free = as_called n kind.ReadByte is refl (may_be_called true kind.ReadByte n is x refl) free
   name_value n kind.WriteByte is x h free = absurd (writer_alone n is x free)
-  name_value n kind.LabelParam is x h free = no h
-  name_value n kind.SwitchParam is x h free = no h
-  name_value n kind.Label is x h free = no h
-  name_value n kind.Switch is x h free = no h
-  name_value n kind.Bounds is x h free = no h
-  name_value n (kind.Answer t) is x h free = no h
+  name_value n _ is x h free = no h

@@ -32,11 +32,7 @@ module _ (named : Named) where
   argument_keep : (p : RawPs) (j : Judged) → Keeping j → Keeps (argument_faults named p j)
   argument_keep (ps.Plain (inner.Value at t)) j h = h (fraction_of t)
   argument_keep (ps.Plain (inner.Location at t)) j h = h 0
-  argument_keep (ps.Plain (inner.Array t)) j h = keeps_fine
-  argument_keep (ps.Plain (inner.Table at s)) j h = keeps_fine
-  argument_keep (ps.Plain (inner.Label at)) j h = keeps_fine
-  argument_keep (ps.Plain (inner.Switch at)) j h = keeps_fine
-  argument_keep (ps.Proc answer at params) j h = keeps_fine
+  argument_keep _ j h = keeps_fine
 
   arguments_keep : (params : List RawPs) {js : List Judged} → AllKeeping js → Keeps (arguments_faults named params js)
   arguments_keep [] h = keeps_fine

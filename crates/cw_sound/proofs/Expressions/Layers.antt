@@ -30,13 +30,13 @@ module _ (named : Named) (numbers : Numbers) where
   abbrev expression_regular_layer : RawExpr-F RawExpr RawPrimary RawRef RawCand RawCmp RawCond RawDiffer RawMask RawPrim RawSum RawTerm RawUnion → Bool
   expression_regular_layer x = regular.expression_step (map-RawExpr RawExpr RawPrimary RawRef RawCand RawCmp RawCond RawDiffer RawMask RawPrim RawSum RawTerm RawUnion Bool Bool Bool Bool Bool Bool Bool Bool Bool Bool Bool Bool regular.is_regular regular.is_regular_primary regular.is_regular_reference regular.is_regular_conjunction regular.is_regular_comparison regular.is_regular_condition regular.is_regular_differ regular.is_regular_mask regular.is_regular_prim regular.is_regular_sum regular.is_regular_term regular.is_regular_union x)
 
-  abbrev expression_judged_layer : RawExpr-F RawExpr RawPrimary RawRef RawCand RawCmp RawCond RawDiffer RawMask RawPrim RawSum RawTerm RawUnion → Judged
+  abbrev pub expression_judged_layer : RawExpr-F RawExpr RawPrimary RawRef RawCand RawCmp RawCond RawDiffer RawMask RawPrim RawSum RawTerm RawUnion → Judged
   expression_judged_layer x = judged.expression_step named (map-RawExpr RawExpr RawPrimary RawRef RawCand RawCmp RawCond RawDiffer RawMask RawPrim RawSum RawTerm RawUnion Judged Judged Judged Judged Judged Judged Judged Judged Judged Judged Judged Judged (judged.expression named) (judged.primary named) (judged.reference named) (judged.conjunction named) (judged.comparison named) (judged.condition named) (judged.differ named) (judged.mask named) (judged.prim named) (judged.sum named) (judged.term named) (judged.union named) x)
 
-  abbrev expression_made_layer : RawExpr-F RawExpr RawPrimary RawRef RawCand RawCmp RawCond RawDiffer RawMask RawPrim RawSum RawTerm RawUnion → Made
+  abbrev pub expression_made_layer : RawExpr-F RawExpr RawPrimary RawRef RawCand RawCmp RawCond RawDiffer RawMask RawPrim RawSum RawTerm RawUnion → Made
   expression_made_layer x = made.expression_step named numbers (map-RawExpr RawExpr RawPrimary RawRef RawCand RawCmp RawCond RawDiffer RawMask RawPrim RawSum RawTerm RawUnion Made Made Placed Cond Cond Cond Made Made Made Made Made Made (made.expression_made named numbers) (made.primary_made named numbers) (made.reference_made named numbers) (made.conjunction_made named numbers) (made.comparison_made named numbers) (made.condition_made named numbers) (made.differ_made named numbers) (made.mask_made named numbers) (made.prim_made named numbers) (made.sum_made named numbers) (made.term_made named numbers) (made.union_made named numbers) x)
 
-  abbrev expression_uses_layer : RawExpr-F RawExpr RawPrimary RawRef RawCand RawCmp RawCond RawDiffer RawMask RawPrim RawSum RawTerm RawUnion → Uses
+  abbrev pub expression_uses_layer : RawExpr-F RawExpr RawPrimary RawRef RawCand RawCmp RawCond RawDiffer RawMask RawPrim RawSum RawTerm RawUnion → Uses
   expression_uses_layer x = uses.expression_step (map-RawExpr RawExpr RawPrimary RawRef RawCand RawCmp RawCond RawDiffer RawMask RawPrim RawSum RawTerm RawUnion Uses Uses Uses Uses Uses Uses Uses Uses Uses Uses Uses Uses uses.expression_uses uses.primary_uses uses.reference_uses uses.conjunction_uses uses.comparison_uses uses.condition_uses uses.differ_uses uses.mask_uses uses.prim_uses uses.sum_uses uses.term_uses uses.union_uses x)
 
   abbrev expression_levels_layer : RawExpr-F RawExpr RawPrimary RawRef RawCand RawCmp RawCond RawDiffer RawMask RawPrim RawSum RawTerm RawUnion → ℕ
@@ -45,13 +45,13 @@ module _ (named : Named) (numbers : Numbers) where
   abbrev primary_regular_layer : RawPrimary-F RawExpr RawPrimary RawRef RawCand RawCmp RawCond RawDiffer RawMask RawPrim RawSum RawTerm RawUnion → Bool
   primary_regular_layer x = regular.primary_step (map-RawPrimary RawExpr RawPrimary RawRef RawCand RawCmp RawCond RawDiffer RawMask RawPrim RawSum RawTerm RawUnion Bool Bool Bool Bool Bool Bool Bool Bool Bool Bool Bool Bool regular.is_regular regular.is_regular_primary regular.is_regular_reference regular.is_regular_conjunction regular.is_regular_comparison regular.is_regular_condition regular.is_regular_differ regular.is_regular_mask regular.is_regular_prim regular.is_regular_sum regular.is_regular_term regular.is_regular_union x)
 
-  abbrev primary_judged_layer : RawPrimary-F RawExpr RawPrimary RawRef RawCand RawCmp RawCond RawDiffer RawMask RawPrim RawSum RawTerm RawUnion → Judged
+  abbrev pub primary_judged_layer : RawPrimary-F RawExpr RawPrimary RawRef RawCand RawCmp RawCond RawDiffer RawMask RawPrim RawSum RawTerm RawUnion → Judged
   primary_judged_layer x = judged.primary_step named (map-RawPrimary RawExpr RawPrimary RawRef RawCand RawCmp RawCond RawDiffer RawMask RawPrim RawSum RawTerm RawUnion Judged Judged Judged Judged Judged Judged Judged Judged Judged Judged Judged Judged (judged.expression named) (judged.primary named) (judged.reference named) (judged.conjunction named) (judged.comparison named) (judged.condition named) (judged.differ named) (judged.mask named) (judged.prim named) (judged.sum named) (judged.term named) (judged.union named) x)
 
-  abbrev primary_made_layer : RawPrimary-F RawExpr RawPrimary RawRef RawCand RawCmp RawCond RawDiffer RawMask RawPrim RawSum RawTerm RawUnion → Made
+  abbrev pub primary_made_layer : RawPrimary-F RawExpr RawPrimary RawRef RawCand RawCmp RawCond RawDiffer RawMask RawPrim RawSum RawTerm RawUnion → Made
   primary_made_layer x = made.primary_step named numbers (map-RawPrimary RawExpr RawPrimary RawRef RawCand RawCmp RawCond RawDiffer RawMask RawPrim RawSum RawTerm RawUnion Made Made Placed Cond Cond Cond Made Made Made Made Made Made (made.expression_made named numbers) (made.primary_made named numbers) (made.reference_made named numbers) (made.conjunction_made named numbers) (made.comparison_made named numbers) (made.condition_made named numbers) (made.differ_made named numbers) (made.mask_made named numbers) (made.prim_made named numbers) (made.sum_made named numbers) (made.term_made named numbers) (made.union_made named numbers) x)
 
-  abbrev primary_uses_layer : RawPrimary-F RawExpr RawPrimary RawRef RawCand RawCmp RawCond RawDiffer RawMask RawPrim RawSum RawTerm RawUnion → Uses
+  abbrev pub primary_uses_layer : RawPrimary-F RawExpr RawPrimary RawRef RawCand RawCmp RawCond RawDiffer RawMask RawPrim RawSum RawTerm RawUnion → Uses
   primary_uses_layer x = uses.primary_step (map-RawPrimary RawExpr RawPrimary RawRef RawCand RawCmp RawCond RawDiffer RawMask RawPrim RawSum RawTerm RawUnion Uses Uses Uses Uses Uses Uses Uses Uses Uses Uses Uses Uses uses.expression_uses uses.primary_uses uses.reference_uses uses.conjunction_uses uses.comparison_uses uses.condition_uses uses.differ_uses uses.mask_uses uses.prim_uses uses.sum_uses uses.term_uses uses.union_uses x)
 
   abbrev primary_levels_layer : RawPrimary-F RawExpr RawPrimary RawRef RawCand RawCmp RawCond RawDiffer RawMask RawPrim RawSum RawTerm RawUnion → ℕ
@@ -60,13 +60,13 @@ module _ (named : Named) (numbers : Numbers) where
   abbrev reference_regular_layer : RawRef-F RawExpr RawPrimary RawRef RawCand RawCmp RawCond RawDiffer RawMask RawPrim RawSum RawTerm RawUnion → Bool
   reference_regular_layer x = regular.reference_step (map-RawRef RawExpr RawPrimary RawRef RawCand RawCmp RawCond RawDiffer RawMask RawPrim RawSum RawTerm RawUnion Bool Bool Bool Bool Bool Bool Bool Bool Bool Bool Bool Bool regular.is_regular regular.is_regular_primary regular.is_regular_reference regular.is_regular_conjunction regular.is_regular_comparison regular.is_regular_condition regular.is_regular_differ regular.is_regular_mask regular.is_regular_prim regular.is_regular_sum regular.is_regular_term regular.is_regular_union x)
 
-  abbrev reference_judged_layer : RawRef-F RawExpr RawPrimary RawRef RawCand RawCmp RawCond RawDiffer RawMask RawPrim RawSum RawTerm RawUnion → Judged
+  abbrev pub reference_judged_layer : RawRef-F RawExpr RawPrimary RawRef RawCand RawCmp RawCond RawDiffer RawMask RawPrim RawSum RawTerm RawUnion → Judged
   reference_judged_layer x = judged.reference_step named (map-RawRef RawExpr RawPrimary RawRef RawCand RawCmp RawCond RawDiffer RawMask RawPrim RawSum RawTerm RawUnion Judged Judged Judged Judged Judged Judged Judged Judged Judged Judged Judged Judged (judged.expression named) (judged.primary named) (judged.reference named) (judged.conjunction named) (judged.comparison named) (judged.condition named) (judged.differ named) (judged.mask named) (judged.prim named) (judged.sum named) (judged.term named) (judged.union named) x)
 
-  abbrev reference_made_layer : RawRef-F RawExpr RawPrimary RawRef RawCand RawCmp RawCond RawDiffer RawMask RawPrim RawSum RawTerm RawUnion → Placed
+  abbrev pub reference_made_layer : RawRef-F RawExpr RawPrimary RawRef RawCand RawCmp RawCond RawDiffer RawMask RawPrim RawSum RawTerm RawUnion → Placed
   reference_made_layer x = made.reference_step named numbers (map-RawRef RawExpr RawPrimary RawRef RawCand RawCmp RawCond RawDiffer RawMask RawPrim RawSum RawTerm RawUnion Made Made Placed Cond Cond Cond Made Made Made Made Made Made (made.expression_made named numbers) (made.primary_made named numbers) (made.reference_made named numbers) (made.conjunction_made named numbers) (made.comparison_made named numbers) (made.condition_made named numbers) (made.differ_made named numbers) (made.mask_made named numbers) (made.prim_made named numbers) (made.sum_made named numbers) (made.term_made named numbers) (made.union_made named numbers) x)
 
-  abbrev reference_uses_layer : RawRef-F RawExpr RawPrimary RawRef RawCand RawCmp RawCond RawDiffer RawMask RawPrim RawSum RawTerm RawUnion → Uses
+  abbrev pub reference_uses_layer : RawRef-F RawExpr RawPrimary RawRef RawCand RawCmp RawCond RawDiffer RawMask RawPrim RawSum RawTerm RawUnion → Uses
   reference_uses_layer x = uses.reference_step (map-RawRef RawExpr RawPrimary RawRef RawCand RawCmp RawCond RawDiffer RawMask RawPrim RawSum RawTerm RawUnion Uses Uses Uses Uses Uses Uses Uses Uses Uses Uses Uses Uses uses.expression_uses uses.primary_uses uses.reference_uses uses.conjunction_uses uses.comparison_uses uses.condition_uses uses.differ_uses uses.mask_uses uses.prim_uses uses.sum_uses uses.term_uses uses.union_uses x)
 
   abbrev reference_levels_layer : RawRef-F RawExpr RawPrimary RawRef RawCand RawCmp RawCond RawDiffer RawMask RawPrim RawSum RawTerm RawUnion → ℕ
@@ -75,13 +75,13 @@ module _ (named : Named) (numbers : Numbers) where
   abbrev conjunction_regular_layer : RawCand-F RawExpr RawPrimary RawRef RawCand RawCmp RawCond RawDiffer RawMask RawPrim RawSum RawTerm RawUnion → Bool
   conjunction_regular_layer x = regular.conjunction_step (map-RawCand RawExpr RawPrimary RawRef RawCand RawCmp RawCond RawDiffer RawMask RawPrim RawSum RawTerm RawUnion Bool Bool Bool Bool Bool Bool Bool Bool Bool Bool Bool Bool regular.is_regular regular.is_regular_primary regular.is_regular_reference regular.is_regular_conjunction regular.is_regular_comparison regular.is_regular_condition regular.is_regular_differ regular.is_regular_mask regular.is_regular_prim regular.is_regular_sum regular.is_regular_term regular.is_regular_union x)
 
-  abbrev conjunction_judged_layer : RawCand-F RawExpr RawPrimary RawRef RawCand RawCmp RawCond RawDiffer RawMask RawPrim RawSum RawTerm RawUnion → Judged
+  abbrev pub conjunction_judged_layer : RawCand-F RawExpr RawPrimary RawRef RawCand RawCmp RawCond RawDiffer RawMask RawPrim RawSum RawTerm RawUnion → Judged
   conjunction_judged_layer x = judged.conjunction_step named (map-RawCand RawExpr RawPrimary RawRef RawCand RawCmp RawCond RawDiffer RawMask RawPrim RawSum RawTerm RawUnion Judged Judged Judged Judged Judged Judged Judged Judged Judged Judged Judged Judged (judged.expression named) (judged.primary named) (judged.reference named) (judged.conjunction named) (judged.comparison named) (judged.condition named) (judged.differ named) (judged.mask named) (judged.prim named) (judged.sum named) (judged.term named) (judged.union named) x)
 
-  abbrev conjunction_made_layer : RawCand-F RawExpr RawPrimary RawRef RawCand RawCmp RawCond RawDiffer RawMask RawPrim RawSum RawTerm RawUnion → Cond
+  abbrev pub conjunction_made_layer : RawCand-F RawExpr RawPrimary RawRef RawCand RawCmp RawCond RawDiffer RawMask RawPrim RawSum RawTerm RawUnion → Cond
   conjunction_made_layer x = made.conjunction_step named numbers (map-RawCand RawExpr RawPrimary RawRef RawCand RawCmp RawCond RawDiffer RawMask RawPrim RawSum RawTerm RawUnion Made Made Placed Cond Cond Cond Made Made Made Made Made Made (made.expression_made named numbers) (made.primary_made named numbers) (made.reference_made named numbers) (made.conjunction_made named numbers) (made.comparison_made named numbers) (made.condition_made named numbers) (made.differ_made named numbers) (made.mask_made named numbers) (made.prim_made named numbers) (made.sum_made named numbers) (made.term_made named numbers) (made.union_made named numbers) x)
 
-  abbrev conjunction_uses_layer : RawCand-F RawExpr RawPrimary RawRef RawCand RawCmp RawCond RawDiffer RawMask RawPrim RawSum RawTerm RawUnion → Uses
+  abbrev pub conjunction_uses_layer : RawCand-F RawExpr RawPrimary RawRef RawCand RawCmp RawCond RawDiffer RawMask RawPrim RawSum RawTerm RawUnion → Uses
   conjunction_uses_layer x = uses.conjunction_step (map-RawCand RawExpr RawPrimary RawRef RawCand RawCmp RawCond RawDiffer RawMask RawPrim RawSum RawTerm RawUnion Uses Uses Uses Uses Uses Uses Uses Uses Uses Uses Uses Uses uses.expression_uses uses.primary_uses uses.reference_uses uses.conjunction_uses uses.comparison_uses uses.condition_uses uses.differ_uses uses.mask_uses uses.prim_uses uses.sum_uses uses.term_uses uses.union_uses x)
 
   abbrev conjunction_levels_layer : RawCand-F RawExpr RawPrimary RawRef RawCand RawCmp RawCond RawDiffer RawMask RawPrim RawSum RawTerm RawUnion → ℕ
@@ -90,13 +90,13 @@ module _ (named : Named) (numbers : Numbers) where
   abbrev comparison_regular_layer : RawCmp-F RawExpr RawPrimary RawRef RawCand RawCmp RawCond RawDiffer RawMask RawPrim RawSum RawTerm RawUnion → Bool
   comparison_regular_layer x = regular.comparison_step (map-RawCmp RawExpr RawPrimary RawRef RawCand RawCmp RawCond RawDiffer RawMask RawPrim RawSum RawTerm RawUnion Bool Bool Bool Bool Bool Bool Bool Bool Bool Bool Bool Bool regular.is_regular regular.is_regular_primary regular.is_regular_reference regular.is_regular_conjunction regular.is_regular_comparison regular.is_regular_condition regular.is_regular_differ regular.is_regular_mask regular.is_regular_prim regular.is_regular_sum regular.is_regular_term regular.is_regular_union x)
 
-  abbrev comparison_judged_layer : RawCmp-F RawExpr RawPrimary RawRef RawCand RawCmp RawCond RawDiffer RawMask RawPrim RawSum RawTerm RawUnion → Judged
+  abbrev pub comparison_judged_layer : RawCmp-F RawExpr RawPrimary RawRef RawCand RawCmp RawCond RawDiffer RawMask RawPrim RawSum RawTerm RawUnion → Judged
   comparison_judged_layer x = judged.comparison_step named (map-RawCmp RawExpr RawPrimary RawRef RawCand RawCmp RawCond RawDiffer RawMask RawPrim RawSum RawTerm RawUnion Judged Judged Judged Judged Judged Judged Judged Judged Judged Judged Judged Judged (judged.expression named) (judged.primary named) (judged.reference named) (judged.conjunction named) (judged.comparison named) (judged.condition named) (judged.differ named) (judged.mask named) (judged.prim named) (judged.sum named) (judged.term named) (judged.union named) x)
 
-  abbrev comparison_made_layer : RawCmp-F RawExpr RawPrimary RawRef RawCand RawCmp RawCond RawDiffer RawMask RawPrim RawSum RawTerm RawUnion → Cond
+  abbrev pub comparison_made_layer : RawCmp-F RawExpr RawPrimary RawRef RawCand RawCmp RawCond RawDiffer RawMask RawPrim RawSum RawTerm RawUnion → Cond
   comparison_made_layer x = made.comparison_step named numbers (map-RawCmp RawExpr RawPrimary RawRef RawCand RawCmp RawCond RawDiffer RawMask RawPrim RawSum RawTerm RawUnion Made Made Placed Cond Cond Cond Made Made Made Made Made Made (made.expression_made named numbers) (made.primary_made named numbers) (made.reference_made named numbers) (made.conjunction_made named numbers) (made.comparison_made named numbers) (made.condition_made named numbers) (made.differ_made named numbers) (made.mask_made named numbers) (made.prim_made named numbers) (made.sum_made named numbers) (made.term_made named numbers) (made.union_made named numbers) x)
 
-  abbrev comparison_uses_layer : RawCmp-F RawExpr RawPrimary RawRef RawCand RawCmp RawCond RawDiffer RawMask RawPrim RawSum RawTerm RawUnion → Uses
+  abbrev pub comparison_uses_layer : RawCmp-F RawExpr RawPrimary RawRef RawCand RawCmp RawCond RawDiffer RawMask RawPrim RawSum RawTerm RawUnion → Uses
   comparison_uses_layer x = uses.comparison_step (map-RawCmp RawExpr RawPrimary RawRef RawCand RawCmp RawCond RawDiffer RawMask RawPrim RawSum RawTerm RawUnion Uses Uses Uses Uses Uses Uses Uses Uses Uses Uses Uses Uses uses.expression_uses uses.primary_uses uses.reference_uses uses.conjunction_uses uses.comparison_uses uses.condition_uses uses.differ_uses uses.mask_uses uses.prim_uses uses.sum_uses uses.term_uses uses.union_uses x)
 
   abbrev comparison_levels_layer : RawCmp-F RawExpr RawPrimary RawRef RawCand RawCmp RawCond RawDiffer RawMask RawPrim RawSum RawTerm RawUnion → ℕ
@@ -105,13 +105,13 @@ module _ (named : Named) (numbers : Numbers) where
   abbrev condition_regular_layer : RawCond-F RawExpr RawPrimary RawRef RawCand RawCmp RawCond RawDiffer RawMask RawPrim RawSum RawTerm RawUnion → Bool
   condition_regular_layer x = regular.condition_step (map-RawCond RawExpr RawPrimary RawRef RawCand RawCmp RawCond RawDiffer RawMask RawPrim RawSum RawTerm RawUnion Bool Bool Bool Bool Bool Bool Bool Bool Bool Bool Bool Bool regular.is_regular regular.is_regular_primary regular.is_regular_reference regular.is_regular_conjunction regular.is_regular_comparison regular.is_regular_condition regular.is_regular_differ regular.is_regular_mask regular.is_regular_prim regular.is_regular_sum regular.is_regular_term regular.is_regular_union x)
 
-  abbrev condition_judged_layer : RawCond-F RawExpr RawPrimary RawRef RawCand RawCmp RawCond RawDiffer RawMask RawPrim RawSum RawTerm RawUnion → Judged
+  abbrev pub condition_judged_layer : RawCond-F RawExpr RawPrimary RawRef RawCand RawCmp RawCond RawDiffer RawMask RawPrim RawSum RawTerm RawUnion → Judged
   condition_judged_layer x = judged.condition_step named (map-RawCond RawExpr RawPrimary RawRef RawCand RawCmp RawCond RawDiffer RawMask RawPrim RawSum RawTerm RawUnion Judged Judged Judged Judged Judged Judged Judged Judged Judged Judged Judged Judged (judged.expression named) (judged.primary named) (judged.reference named) (judged.conjunction named) (judged.comparison named) (judged.condition named) (judged.differ named) (judged.mask named) (judged.prim named) (judged.sum named) (judged.term named) (judged.union named) x)
 
-  abbrev condition_made_layer : RawCond-F RawExpr RawPrimary RawRef RawCand RawCmp RawCond RawDiffer RawMask RawPrim RawSum RawTerm RawUnion → Cond
+  abbrev pub condition_made_layer : RawCond-F RawExpr RawPrimary RawRef RawCand RawCmp RawCond RawDiffer RawMask RawPrim RawSum RawTerm RawUnion → Cond
   condition_made_layer x = made.condition_step named numbers (map-RawCond RawExpr RawPrimary RawRef RawCand RawCmp RawCond RawDiffer RawMask RawPrim RawSum RawTerm RawUnion Made Made Placed Cond Cond Cond Made Made Made Made Made Made (made.expression_made named numbers) (made.primary_made named numbers) (made.reference_made named numbers) (made.conjunction_made named numbers) (made.comparison_made named numbers) (made.condition_made named numbers) (made.differ_made named numbers) (made.mask_made named numbers) (made.prim_made named numbers) (made.sum_made named numbers) (made.term_made named numbers) (made.union_made named numbers) x)
 
-  abbrev condition_uses_layer : RawCond-F RawExpr RawPrimary RawRef RawCand RawCmp RawCond RawDiffer RawMask RawPrim RawSum RawTerm RawUnion → Uses
+  abbrev pub condition_uses_layer : RawCond-F RawExpr RawPrimary RawRef RawCand RawCmp RawCond RawDiffer RawMask RawPrim RawSum RawTerm RawUnion → Uses
   condition_uses_layer x = uses.condition_step (map-RawCond RawExpr RawPrimary RawRef RawCand RawCmp RawCond RawDiffer RawMask RawPrim RawSum RawTerm RawUnion Uses Uses Uses Uses Uses Uses Uses Uses Uses Uses Uses Uses uses.expression_uses uses.primary_uses uses.reference_uses uses.conjunction_uses uses.comparison_uses uses.condition_uses uses.differ_uses uses.mask_uses uses.prim_uses uses.sum_uses uses.term_uses uses.union_uses x)
 
   abbrev condition_levels_layer : RawCond-F RawExpr RawPrimary RawRef RawCand RawCmp RawCond RawDiffer RawMask RawPrim RawSum RawTerm RawUnion → ℕ
@@ -120,13 +120,13 @@ module _ (named : Named) (numbers : Numbers) where
   abbrev differ_regular_layer : RawDiffer-F RawExpr RawPrimary RawRef RawCand RawCmp RawCond RawDiffer RawMask RawPrim RawSum RawTerm RawUnion → Bool
   differ_regular_layer x = regular.differ_step (map-RawDiffer RawExpr RawPrimary RawRef RawCand RawCmp RawCond RawDiffer RawMask RawPrim RawSum RawTerm RawUnion Bool Bool Bool Bool Bool Bool Bool Bool Bool Bool Bool Bool regular.is_regular regular.is_regular_primary regular.is_regular_reference regular.is_regular_conjunction regular.is_regular_comparison regular.is_regular_condition regular.is_regular_differ regular.is_regular_mask regular.is_regular_prim regular.is_regular_sum regular.is_regular_term regular.is_regular_union x)
 
-  abbrev differ_judged_layer : RawDiffer-F RawExpr RawPrimary RawRef RawCand RawCmp RawCond RawDiffer RawMask RawPrim RawSum RawTerm RawUnion → Judged
+  abbrev pub differ_judged_layer : RawDiffer-F RawExpr RawPrimary RawRef RawCand RawCmp RawCond RawDiffer RawMask RawPrim RawSum RawTerm RawUnion → Judged
   differ_judged_layer x = judged.differ_step named (map-RawDiffer RawExpr RawPrimary RawRef RawCand RawCmp RawCond RawDiffer RawMask RawPrim RawSum RawTerm RawUnion Judged Judged Judged Judged Judged Judged Judged Judged Judged Judged Judged Judged (judged.expression named) (judged.primary named) (judged.reference named) (judged.conjunction named) (judged.comparison named) (judged.condition named) (judged.differ named) (judged.mask named) (judged.prim named) (judged.sum named) (judged.term named) (judged.union named) x)
 
-  abbrev differ_made_layer : RawDiffer-F RawExpr RawPrimary RawRef RawCand RawCmp RawCond RawDiffer RawMask RawPrim RawSum RawTerm RawUnion → Made
+  abbrev pub differ_made_layer : RawDiffer-F RawExpr RawPrimary RawRef RawCand RawCmp RawCond RawDiffer RawMask RawPrim RawSum RawTerm RawUnion → Made
   differ_made_layer x = made.differ_step named numbers (map-RawDiffer RawExpr RawPrimary RawRef RawCand RawCmp RawCond RawDiffer RawMask RawPrim RawSum RawTerm RawUnion Made Made Placed Cond Cond Cond Made Made Made Made Made Made (made.expression_made named numbers) (made.primary_made named numbers) (made.reference_made named numbers) (made.conjunction_made named numbers) (made.comparison_made named numbers) (made.condition_made named numbers) (made.differ_made named numbers) (made.mask_made named numbers) (made.prim_made named numbers) (made.sum_made named numbers) (made.term_made named numbers) (made.union_made named numbers) x)
 
-  abbrev differ_uses_layer : RawDiffer-F RawExpr RawPrimary RawRef RawCand RawCmp RawCond RawDiffer RawMask RawPrim RawSum RawTerm RawUnion → Uses
+  abbrev pub differ_uses_layer : RawDiffer-F RawExpr RawPrimary RawRef RawCand RawCmp RawCond RawDiffer RawMask RawPrim RawSum RawTerm RawUnion → Uses
   differ_uses_layer x = uses.differ_step (map-RawDiffer RawExpr RawPrimary RawRef RawCand RawCmp RawCond RawDiffer RawMask RawPrim RawSum RawTerm RawUnion Uses Uses Uses Uses Uses Uses Uses Uses Uses Uses Uses Uses uses.expression_uses uses.primary_uses uses.reference_uses uses.conjunction_uses uses.comparison_uses uses.condition_uses uses.differ_uses uses.mask_uses uses.prim_uses uses.sum_uses uses.term_uses uses.union_uses x)
 
   abbrev differ_levels_layer : RawDiffer-F RawExpr RawPrimary RawRef RawCand RawCmp RawCond RawDiffer RawMask RawPrim RawSum RawTerm RawUnion → ℕ
@@ -135,13 +135,13 @@ module _ (named : Named) (numbers : Numbers) where
   abbrev mask_regular_layer : RawMask-F RawExpr RawPrimary RawRef RawCand RawCmp RawCond RawDiffer RawMask RawPrim RawSum RawTerm RawUnion → Bool
   mask_regular_layer x = regular.mask_step (map-RawMask RawExpr RawPrimary RawRef RawCand RawCmp RawCond RawDiffer RawMask RawPrim RawSum RawTerm RawUnion Bool Bool Bool Bool Bool Bool Bool Bool Bool Bool Bool Bool regular.is_regular regular.is_regular_primary regular.is_regular_reference regular.is_regular_conjunction regular.is_regular_comparison regular.is_regular_condition regular.is_regular_differ regular.is_regular_mask regular.is_regular_prim regular.is_regular_sum regular.is_regular_term regular.is_regular_union x)
 
-  abbrev mask_judged_layer : RawMask-F RawExpr RawPrimary RawRef RawCand RawCmp RawCond RawDiffer RawMask RawPrim RawSum RawTerm RawUnion → Judged
+  abbrev pub mask_judged_layer : RawMask-F RawExpr RawPrimary RawRef RawCand RawCmp RawCond RawDiffer RawMask RawPrim RawSum RawTerm RawUnion → Judged
   mask_judged_layer x = judged.mask_step named (map-RawMask RawExpr RawPrimary RawRef RawCand RawCmp RawCond RawDiffer RawMask RawPrim RawSum RawTerm RawUnion Judged Judged Judged Judged Judged Judged Judged Judged Judged Judged Judged Judged (judged.expression named) (judged.primary named) (judged.reference named) (judged.conjunction named) (judged.comparison named) (judged.condition named) (judged.differ named) (judged.mask named) (judged.prim named) (judged.sum named) (judged.term named) (judged.union named) x)
 
-  abbrev mask_made_layer : RawMask-F RawExpr RawPrimary RawRef RawCand RawCmp RawCond RawDiffer RawMask RawPrim RawSum RawTerm RawUnion → Made
+  abbrev pub mask_made_layer : RawMask-F RawExpr RawPrimary RawRef RawCand RawCmp RawCond RawDiffer RawMask RawPrim RawSum RawTerm RawUnion → Made
   mask_made_layer x = made.mask_step named numbers (map-RawMask RawExpr RawPrimary RawRef RawCand RawCmp RawCond RawDiffer RawMask RawPrim RawSum RawTerm RawUnion Made Made Placed Cond Cond Cond Made Made Made Made Made Made (made.expression_made named numbers) (made.primary_made named numbers) (made.reference_made named numbers) (made.conjunction_made named numbers) (made.comparison_made named numbers) (made.condition_made named numbers) (made.differ_made named numbers) (made.mask_made named numbers) (made.prim_made named numbers) (made.sum_made named numbers) (made.term_made named numbers) (made.union_made named numbers) x)
 
-  abbrev mask_uses_layer : RawMask-F RawExpr RawPrimary RawRef RawCand RawCmp RawCond RawDiffer RawMask RawPrim RawSum RawTerm RawUnion → Uses
+  abbrev pub mask_uses_layer : RawMask-F RawExpr RawPrimary RawRef RawCand RawCmp RawCond RawDiffer RawMask RawPrim RawSum RawTerm RawUnion → Uses
   mask_uses_layer x = uses.mask_step (map-RawMask RawExpr RawPrimary RawRef RawCand RawCmp RawCond RawDiffer RawMask RawPrim RawSum RawTerm RawUnion Uses Uses Uses Uses Uses Uses Uses Uses Uses Uses Uses Uses uses.expression_uses uses.primary_uses uses.reference_uses uses.conjunction_uses uses.comparison_uses uses.condition_uses uses.differ_uses uses.mask_uses uses.prim_uses uses.sum_uses uses.term_uses uses.union_uses x)
 
   abbrev mask_levels_layer : RawMask-F RawExpr RawPrimary RawRef RawCand RawCmp RawCond RawDiffer RawMask RawPrim RawSum RawTerm RawUnion → ℕ
@@ -150,13 +150,13 @@ module _ (named : Named) (numbers : Numbers) where
   abbrev prim_regular_layer : RawPrim-F RawExpr RawPrimary RawRef RawCand RawCmp RawCond RawDiffer RawMask RawPrim RawSum RawTerm RawUnion → Bool
   prim_regular_layer x = regular.prim_step (map-RawPrim RawExpr RawPrimary RawRef RawCand RawCmp RawCond RawDiffer RawMask RawPrim RawSum RawTerm RawUnion Bool Bool Bool Bool Bool Bool Bool Bool Bool Bool Bool Bool regular.is_regular regular.is_regular_primary regular.is_regular_reference regular.is_regular_conjunction regular.is_regular_comparison regular.is_regular_condition regular.is_regular_differ regular.is_regular_mask regular.is_regular_prim regular.is_regular_sum regular.is_regular_term regular.is_regular_union x)
 
-  abbrev prim_judged_layer : RawPrim-F RawExpr RawPrimary RawRef RawCand RawCmp RawCond RawDiffer RawMask RawPrim RawSum RawTerm RawUnion → Judged
+  abbrev pub prim_judged_layer : RawPrim-F RawExpr RawPrimary RawRef RawCand RawCmp RawCond RawDiffer RawMask RawPrim RawSum RawTerm RawUnion → Judged
   prim_judged_layer x = judged.prim_step named (map-RawPrim RawExpr RawPrimary RawRef RawCand RawCmp RawCond RawDiffer RawMask RawPrim RawSum RawTerm RawUnion Judged Judged Judged Judged Judged Judged Judged Judged Judged Judged Judged Judged (judged.expression named) (judged.primary named) (judged.reference named) (judged.conjunction named) (judged.comparison named) (judged.condition named) (judged.differ named) (judged.mask named) (judged.prim named) (judged.sum named) (judged.term named) (judged.union named) x)
 
-  abbrev prim_made_layer : RawPrim-F RawExpr RawPrimary RawRef RawCand RawCmp RawCond RawDiffer RawMask RawPrim RawSum RawTerm RawUnion → Made
+  abbrev pub prim_made_layer : RawPrim-F RawExpr RawPrimary RawRef RawCand RawCmp RawCond RawDiffer RawMask RawPrim RawSum RawTerm RawUnion → Made
   prim_made_layer x = made.prim_step named numbers (map-RawPrim RawExpr RawPrimary RawRef RawCand RawCmp RawCond RawDiffer RawMask RawPrim RawSum RawTerm RawUnion Made Made Placed Cond Cond Cond Made Made Made Made Made Made (made.expression_made named numbers) (made.primary_made named numbers) (made.reference_made named numbers) (made.conjunction_made named numbers) (made.comparison_made named numbers) (made.condition_made named numbers) (made.differ_made named numbers) (made.mask_made named numbers) (made.prim_made named numbers) (made.sum_made named numbers) (made.term_made named numbers) (made.union_made named numbers) x)
 
-  abbrev prim_uses_layer : RawPrim-F RawExpr RawPrimary RawRef RawCand RawCmp RawCond RawDiffer RawMask RawPrim RawSum RawTerm RawUnion → Uses
+  abbrev pub prim_uses_layer : RawPrim-F RawExpr RawPrimary RawRef RawCand RawCmp RawCond RawDiffer RawMask RawPrim RawSum RawTerm RawUnion → Uses
   prim_uses_layer x = uses.prim_step (map-RawPrim RawExpr RawPrimary RawRef RawCand RawCmp RawCond RawDiffer RawMask RawPrim RawSum RawTerm RawUnion Uses Uses Uses Uses Uses Uses Uses Uses Uses Uses Uses Uses uses.expression_uses uses.primary_uses uses.reference_uses uses.conjunction_uses uses.comparison_uses uses.condition_uses uses.differ_uses uses.mask_uses uses.prim_uses uses.sum_uses uses.term_uses uses.union_uses x)
 
   abbrev prim_levels_layer : RawPrim-F RawExpr RawPrimary RawRef RawCand RawCmp RawCond RawDiffer RawMask RawPrim RawSum RawTerm RawUnion → ℕ
@@ -165,13 +165,13 @@ module _ (named : Named) (numbers : Numbers) where
   abbrev sum_regular_layer : RawSum-F RawExpr RawPrimary RawRef RawCand RawCmp RawCond RawDiffer RawMask RawPrim RawSum RawTerm RawUnion → Bool
   sum_regular_layer x = regular.sum_step (map-RawSum RawExpr RawPrimary RawRef RawCand RawCmp RawCond RawDiffer RawMask RawPrim RawSum RawTerm RawUnion Bool Bool Bool Bool Bool Bool Bool Bool Bool Bool Bool Bool regular.is_regular regular.is_regular_primary regular.is_regular_reference regular.is_regular_conjunction regular.is_regular_comparison regular.is_regular_condition regular.is_regular_differ regular.is_regular_mask regular.is_regular_prim regular.is_regular_sum regular.is_regular_term regular.is_regular_union x)
 
-  abbrev sum_judged_layer : RawSum-F RawExpr RawPrimary RawRef RawCand RawCmp RawCond RawDiffer RawMask RawPrim RawSum RawTerm RawUnion → Judged
+  abbrev pub sum_judged_layer : RawSum-F RawExpr RawPrimary RawRef RawCand RawCmp RawCond RawDiffer RawMask RawPrim RawSum RawTerm RawUnion → Judged
   sum_judged_layer x = judged.sum_step named (map-RawSum RawExpr RawPrimary RawRef RawCand RawCmp RawCond RawDiffer RawMask RawPrim RawSum RawTerm RawUnion Judged Judged Judged Judged Judged Judged Judged Judged Judged Judged Judged Judged (judged.expression named) (judged.primary named) (judged.reference named) (judged.conjunction named) (judged.comparison named) (judged.condition named) (judged.differ named) (judged.mask named) (judged.prim named) (judged.sum named) (judged.term named) (judged.union named) x)
 
-  abbrev sum_made_layer : RawSum-F RawExpr RawPrimary RawRef RawCand RawCmp RawCond RawDiffer RawMask RawPrim RawSum RawTerm RawUnion → Made
+  abbrev pub sum_made_layer : RawSum-F RawExpr RawPrimary RawRef RawCand RawCmp RawCond RawDiffer RawMask RawPrim RawSum RawTerm RawUnion → Made
   sum_made_layer x = made.sum_step named numbers (map-RawSum RawExpr RawPrimary RawRef RawCand RawCmp RawCond RawDiffer RawMask RawPrim RawSum RawTerm RawUnion Made Made Placed Cond Cond Cond Made Made Made Made Made Made (made.expression_made named numbers) (made.primary_made named numbers) (made.reference_made named numbers) (made.conjunction_made named numbers) (made.comparison_made named numbers) (made.condition_made named numbers) (made.differ_made named numbers) (made.mask_made named numbers) (made.prim_made named numbers) (made.sum_made named numbers) (made.term_made named numbers) (made.union_made named numbers) x)
 
-  abbrev sum_uses_layer : RawSum-F RawExpr RawPrimary RawRef RawCand RawCmp RawCond RawDiffer RawMask RawPrim RawSum RawTerm RawUnion → Uses
+  abbrev pub sum_uses_layer : RawSum-F RawExpr RawPrimary RawRef RawCand RawCmp RawCond RawDiffer RawMask RawPrim RawSum RawTerm RawUnion → Uses
   sum_uses_layer x = uses.sum_step (map-RawSum RawExpr RawPrimary RawRef RawCand RawCmp RawCond RawDiffer RawMask RawPrim RawSum RawTerm RawUnion Uses Uses Uses Uses Uses Uses Uses Uses Uses Uses Uses Uses uses.expression_uses uses.primary_uses uses.reference_uses uses.conjunction_uses uses.comparison_uses uses.condition_uses uses.differ_uses uses.mask_uses uses.prim_uses uses.sum_uses uses.term_uses uses.union_uses x)
 
   abbrev sum_levels_layer : RawSum-F RawExpr RawPrimary RawRef RawCand RawCmp RawCond RawDiffer RawMask RawPrim RawSum RawTerm RawUnion → ℕ
@@ -180,13 +180,13 @@ module _ (named : Named) (numbers : Numbers) where
   abbrev term_regular_layer : RawTerm-F RawExpr RawPrimary RawRef RawCand RawCmp RawCond RawDiffer RawMask RawPrim RawSum RawTerm RawUnion → Bool
   term_regular_layer x = regular.term_step (map-RawTerm RawExpr RawPrimary RawRef RawCand RawCmp RawCond RawDiffer RawMask RawPrim RawSum RawTerm RawUnion Bool Bool Bool Bool Bool Bool Bool Bool Bool Bool Bool Bool regular.is_regular regular.is_regular_primary regular.is_regular_reference regular.is_regular_conjunction regular.is_regular_comparison regular.is_regular_condition regular.is_regular_differ regular.is_regular_mask regular.is_regular_prim regular.is_regular_sum regular.is_regular_term regular.is_regular_union x)
 
-  abbrev term_judged_layer : RawTerm-F RawExpr RawPrimary RawRef RawCand RawCmp RawCond RawDiffer RawMask RawPrim RawSum RawTerm RawUnion → Judged
+  abbrev pub term_judged_layer : RawTerm-F RawExpr RawPrimary RawRef RawCand RawCmp RawCond RawDiffer RawMask RawPrim RawSum RawTerm RawUnion → Judged
   term_judged_layer x = judged.term_step named (map-RawTerm RawExpr RawPrimary RawRef RawCand RawCmp RawCond RawDiffer RawMask RawPrim RawSum RawTerm RawUnion Judged Judged Judged Judged Judged Judged Judged Judged Judged Judged Judged Judged (judged.expression named) (judged.primary named) (judged.reference named) (judged.conjunction named) (judged.comparison named) (judged.condition named) (judged.differ named) (judged.mask named) (judged.prim named) (judged.sum named) (judged.term named) (judged.union named) x)
 
-  abbrev term_made_layer : RawTerm-F RawExpr RawPrimary RawRef RawCand RawCmp RawCond RawDiffer RawMask RawPrim RawSum RawTerm RawUnion → Made
+  abbrev pub term_made_layer : RawTerm-F RawExpr RawPrimary RawRef RawCand RawCmp RawCond RawDiffer RawMask RawPrim RawSum RawTerm RawUnion → Made
   term_made_layer x = made.term_step named numbers (map-RawTerm RawExpr RawPrimary RawRef RawCand RawCmp RawCond RawDiffer RawMask RawPrim RawSum RawTerm RawUnion Made Made Placed Cond Cond Cond Made Made Made Made Made Made (made.expression_made named numbers) (made.primary_made named numbers) (made.reference_made named numbers) (made.conjunction_made named numbers) (made.comparison_made named numbers) (made.condition_made named numbers) (made.differ_made named numbers) (made.mask_made named numbers) (made.prim_made named numbers) (made.sum_made named numbers) (made.term_made named numbers) (made.union_made named numbers) x)
 
-  abbrev term_uses_layer : RawTerm-F RawExpr RawPrimary RawRef RawCand RawCmp RawCond RawDiffer RawMask RawPrim RawSum RawTerm RawUnion → Uses
+  abbrev pub term_uses_layer : RawTerm-F RawExpr RawPrimary RawRef RawCand RawCmp RawCond RawDiffer RawMask RawPrim RawSum RawTerm RawUnion → Uses
   term_uses_layer x = uses.term_step (map-RawTerm RawExpr RawPrimary RawRef RawCand RawCmp RawCond RawDiffer RawMask RawPrim RawSum RawTerm RawUnion Uses Uses Uses Uses Uses Uses Uses Uses Uses Uses Uses Uses uses.expression_uses uses.primary_uses uses.reference_uses uses.conjunction_uses uses.comparison_uses uses.condition_uses uses.differ_uses uses.mask_uses uses.prim_uses uses.sum_uses uses.term_uses uses.union_uses x)
 
   abbrev term_levels_layer : RawTerm-F RawExpr RawPrimary RawRef RawCand RawCmp RawCond RawDiffer RawMask RawPrim RawSum RawTerm RawUnion → ℕ
@@ -195,13 +195,13 @@ module _ (named : Named) (numbers : Numbers) where
   abbrev union_regular_layer : RawUnion-F RawExpr RawPrimary RawRef RawCand RawCmp RawCond RawDiffer RawMask RawPrim RawSum RawTerm RawUnion → Bool
   union_regular_layer x = regular.union_step (map-RawUnion RawExpr RawPrimary RawRef RawCand RawCmp RawCond RawDiffer RawMask RawPrim RawSum RawTerm RawUnion Bool Bool Bool Bool Bool Bool Bool Bool Bool Bool Bool Bool regular.is_regular regular.is_regular_primary regular.is_regular_reference regular.is_regular_conjunction regular.is_regular_comparison regular.is_regular_condition regular.is_regular_differ regular.is_regular_mask regular.is_regular_prim regular.is_regular_sum regular.is_regular_term regular.is_regular_union x)
 
-  abbrev union_judged_layer : RawUnion-F RawExpr RawPrimary RawRef RawCand RawCmp RawCond RawDiffer RawMask RawPrim RawSum RawTerm RawUnion → Judged
+  abbrev pub union_judged_layer : RawUnion-F RawExpr RawPrimary RawRef RawCand RawCmp RawCond RawDiffer RawMask RawPrim RawSum RawTerm RawUnion → Judged
   union_judged_layer x = judged.union_step named (map-RawUnion RawExpr RawPrimary RawRef RawCand RawCmp RawCond RawDiffer RawMask RawPrim RawSum RawTerm RawUnion Judged Judged Judged Judged Judged Judged Judged Judged Judged Judged Judged Judged (judged.expression named) (judged.primary named) (judged.reference named) (judged.conjunction named) (judged.comparison named) (judged.condition named) (judged.differ named) (judged.mask named) (judged.prim named) (judged.sum named) (judged.term named) (judged.union named) x)
 
-  abbrev union_made_layer : RawUnion-F RawExpr RawPrimary RawRef RawCand RawCmp RawCond RawDiffer RawMask RawPrim RawSum RawTerm RawUnion → Made
+  abbrev pub union_made_layer : RawUnion-F RawExpr RawPrimary RawRef RawCand RawCmp RawCond RawDiffer RawMask RawPrim RawSum RawTerm RawUnion → Made
   union_made_layer x = made.union_step named numbers (map-RawUnion RawExpr RawPrimary RawRef RawCand RawCmp RawCond RawDiffer RawMask RawPrim RawSum RawTerm RawUnion Made Made Placed Cond Cond Cond Made Made Made Made Made Made (made.expression_made named numbers) (made.primary_made named numbers) (made.reference_made named numbers) (made.conjunction_made named numbers) (made.comparison_made named numbers) (made.condition_made named numbers) (made.differ_made named numbers) (made.mask_made named numbers) (made.prim_made named numbers) (made.sum_made named numbers) (made.term_made named numbers) (made.union_made named numbers) x)
 
-  abbrev union_uses_layer : RawUnion-F RawExpr RawPrimary RawRef RawCand RawCmp RawCond RawDiffer RawMask RawPrim RawSum RawTerm RawUnion → Uses
+  abbrev pub union_uses_layer : RawUnion-F RawExpr RawPrimary RawRef RawCand RawCmp RawCond RawDiffer RawMask RawPrim RawSum RawTerm RawUnion → Uses
   union_uses_layer x = uses.union_step (map-RawUnion RawExpr RawPrimary RawRef RawCand RawCmp RawCond RawDiffer RawMask RawPrim RawSum RawTerm RawUnion Uses Uses Uses Uses Uses Uses Uses Uses Uses Uses Uses Uses uses.expression_uses uses.primary_uses uses.reference_uses uses.conjunction_uses uses.comparison_uses uses.condition_uses uses.differ_uses uses.mask_uses uses.prim_uses uses.sum_uses uses.term_uses uses.union_uses x)
 
   abbrev union_levels_layer : RawUnion-F RawExpr RawPrimary RawRef RawCand RawCmp RawCond RawDiffer RawMask RawPrim RawSum RawTerm RawUnion → ℕ

@@ -102,22 +102,14 @@ answer_small (Some t) = type_small t
 kind_small : (k : Kind) → kind_fraction k ≤ 15
 kind_small (kind.Single t) = type_small t
 kind_small (kind.Array t b) = type_small t
-kind_small (kind.Table s) = omega arith
 kind_small (kind.Element table e) = element_small e
 kind_small (kind.Value t) = type_small t
 kind_small (kind.Location t) = type_small t
 kind_small (kind.ArrayParam t) = type_small t
-kind_small (kind.TableParam s) = omega arith
-kind_small kind.LabelParam = omega arith
-kind_small kind.SwitchParam = omega arith
 kind_small (kind.ProcParam answer) = answer_small answer
-kind_small kind.Label = omega arith
-kind_small kind.Switch = omega arith
 kind_small (kind.Proc answer) = answer_small answer
-kind_small kind.ReadByte = omega arith
-kind_small kind.WriteByte = omega arith
-kind_small kind.Bounds = omega arith
 kind_small (kind.Answer t) = type_small t
+kind_small _ = omega arith
 
 pub name_small : (o : Option Kind) → fraction_of_kind o ≤ 15
 name_small None = omega arith

@@ -94,24 +94,8 @@ module _ (u : SourceUnit) (who : Option ℕ) where
   bare_place e x = place_of (layer.Bare e) x.built x.formed
 
   pub named_place : (k : NameKind) (i : ℕ) → IsTrue (has_words u who i 1) → Place (named_spot (Some k) i)
-  named_place (kind.Single t) i h = place_of (layer.Direct i) h refl
-  named_place (kind.Array t b) i h = place_of (layer.Direct i) h refl
-  named_place (kind.Table s) i h = place_of (layer.Direct i) h refl
-  named_place (kind.Element table e) i h = place_of (layer.Direct i) h refl
-  named_place (kind.Value t) i h = place_of (layer.Direct i) h refl
   named_place (kind.Location t) i h = place_of (layer.Through i) h refl
-  named_place (kind.ArrayParam t) i h = place_of (layer.Direct i) h refl
-  named_place (kind.TableParam s) i h = place_of (layer.Direct i) h refl
-  named_place kind.LabelParam i h = place_of (layer.Direct i) h refl
-  named_place kind.SwitchParam i h = place_of (layer.Direct i) h refl
-  named_place (kind.ProcParam t) i h = place_of (layer.Direct i) h refl
-  named_place kind.Label i h = place_of (layer.Direct i) h refl
-  named_place kind.Switch i h = place_of (layer.Direct i) h refl
-  named_place (kind.Proc t) i h = place_of (layer.Direct i) h refl
-  named_place kind.ReadByte i h = place_of (layer.Direct i) h refl
-  named_place kind.WriteByte i h = place_of (layer.Direct i) h refl
-  named_place kind.Bounds i h = place_of (layer.Direct i) h refl
-  named_place (kind.Answer t) i h = place_of (layer.Direct i) h refl
+  named_place _ i h = place_of (layer.Direct i) h refl
 
   double_place : (first : RawRange) (second : Option RawRange) (i : ℕ) (e g : Expr) → IsTrue (2 == dimensions (record { first = first; second = second })) → IsTrue (has_words u who i 1) → Index e → Index g → Place (double_spot first second i e g)
   double_place first None i e g h w x y = no h
@@ -138,21 +122,11 @@ module _ (u : SourceUnit) (who : Option ℕ) where
     item_of_kind (kind.Single t) n x h = has_item (number_of named numbers n) x
     item_of_kind (kind.Array t b) n x h = has_item (number_of named numbers n) x
     item_of_kind (kind.Table s) n x h = has_item (number_of named numbers n) x
-    item_of_kind (kind.Element table e) n x h = no h
     item_of_kind (kind.Value t) n x h = has_item (number_of named numbers n) x
     item_of_kind (kind.Location t) n x h = has_item (number_of named numbers n) x
     item_of_kind (kind.ArrayParam t) n x h = has_item (number_of named numbers n) x
     item_of_kind (kind.TableParam s) n x h = has_item (number_of named numbers n) x
-    item_of_kind kind.LabelParam n x h = no h
-    item_of_kind kind.SwitchParam n x h = no h
-    item_of_kind (kind.ProcParam t) n x h = no h
-    item_of_kind kind.Label n x h = no h
-    item_of_kind kind.Switch n x h = no h
-    item_of_kind (kind.Proc t) n x h = no h
-    item_of_kind kind.ReadByte n x h = no h
-    item_of_kind kind.WriteByte n x h = no h
-    item_of_kind kind.Bounds n x h = no h
-    item_of_kind (kind.Answer t) n x h = no h
+    item_of_kind _ n x h = no h
 
     table_place : (token p : ℕ) (e : Expr) → IsTable named numbers u who token → Index e → Place (element_spot (kind_here named token) (item_here numbers token) p e)
     table_place token p e t x = element_place (kind_here named token) t.0 (item_here numbers token) p e t.1 (has_item (item_at numbers token) t.2) x
@@ -171,39 +145,11 @@ module _ (u : SourceUnit) (who : Option ℕ) where
         let i : ℕ = item_in (number_of named numbers n) in
         place_of (layer.Word i true (words_of s) e) (both (has_words u who i 1) (whole (value u who e) 0) (has_item (number_of named numbers n) x) y.built) y.formed
     one_place (kind.Element table z) n e x h y = table_place table.at.token (element_word z) e x y
-    one_place (kind.Single t) n e x h y = no h
-    one_place (kind.Value t) n e x h y = no h
-    one_place (kind.Location t) n e x h y = no h
-    one_place kind.LabelParam n e x h y = no h
-    one_place kind.SwitchParam n e x h y = no h
-    one_place (kind.ProcParam t) n e x h y = no h
-    one_place kind.Label n e x h y = no h
-    one_place kind.Switch n e x h y = no h
-    one_place (kind.Proc t) n e x h y = no h
-    one_place kind.ReadByte n e x h y = no h
-    one_place kind.WriteByte n e x h y = no h
-    one_place kind.Bounds n e x h y = no h
-    one_place (kind.Answer t) n e x h y = no h
+    one_place _ n e x h y = no h
 
     pub two_place : (k : NameKind) (n : RawName) (e g : Expr) → StandsAs named numbers u who k n → IsTrue (is_reference k 2) → Index e → Index g → Place (twice_indexed_spot (Some k) (item_in (number_of named numbers n)) e g)
     two_place (kind.Array t b) n e g x h y z = double_place b.first b.second (item_in (number_of named numbers n)) e g h (has_item (number_of named numbers n) x) y z
-    two_place (kind.ArrayParam t) n e g x h y z = no h
-    two_place (kind.Table s) n e g x h y z = no h
-    two_place (kind.TableParam s) n e g x h y z = no h
-    two_place (kind.Element table w) n e g x h y z = no h
-    two_place (kind.Single t) n e g x h y z = no h
-    two_place (kind.Value t) n e g x h y z = no h
-    two_place (kind.Location t) n e g x h y z = no h
-    two_place kind.LabelParam n e g x h y z = no h
-    two_place kind.SwitchParam n e g x h y z = no h
-    two_place (kind.ProcParam t) n e g x h y z = no h
-    two_place kind.Label n e g x h y z = no h
-    two_place kind.Switch n e g x h y z = no h
-    two_place (kind.Proc t) n e g x h y z = no h
-    two_place kind.ReadByte n e g x h y z = no h
-    two_place kind.WriteByte n e g x h y z = no h
-    two_place kind.Bounds n e g x h y z = no h
-    two_place (kind.Answer t) n e g x h y z = no h
+    two_place _ n e g x h y z = no h
 
 -- an item of so many words
 module _ (named : Named) (numbers : Numbers) (u : SourceUnit) (who : Option ℕ) where

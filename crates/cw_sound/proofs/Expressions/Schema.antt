@@ -14,44 +14,7 @@ use Rattle.cw_tree.specs.declared.expression.RawTerm.{RawTerm, roll-RawTerm, map
 use Rattle.cw_tree.specs.declared.expression.RawUnion.{RawUnion, roll-RawUnion, map-RawUnion}
 use Rattle.cw_tree.specs.declared.expression.RawExpr.TheOpen.{RawPrimary-F, RawRef-F, RawCand-F, RawCmp-F, RawCond-F, RawDiffer-F, RawMask-F, RawPrim-F, RawSum-F, RawTerm-F, RawUnion-F}
 use Rattle.cw_tree.specs.declared.expression.RawExpr.TheFolds.{ind-RawExpr, ind-RawRef, ind-RawCond}
-
--- a layer of trees
-
-abbrev pub ExprLayer : Type 0
-ExprLayer = RawExpr-F RawExpr RawPrimary RawRef RawCand RawCmp RawCond RawDiffer RawMask RawPrim RawSum RawTerm RawUnion
-
-abbrev pub PrimaryLayer : Type 0
-PrimaryLayer = RawPrimary-F RawExpr RawPrimary RawRef RawCand RawCmp RawCond RawDiffer RawMask RawPrim RawSum RawTerm RawUnion
-
-abbrev pub RefLayer : Type 0
-RefLayer = RawRef-F RawExpr RawPrimary RawRef RawCand RawCmp RawCond RawDiffer RawMask RawPrim RawSum RawTerm RawUnion
-
-abbrev pub CandLayer : Type 0
-CandLayer = RawCand-F RawExpr RawPrimary RawRef RawCand RawCmp RawCond RawDiffer RawMask RawPrim RawSum RawTerm RawUnion
-
-abbrev pub CmpLayer : Type 0
-CmpLayer = RawCmp-F RawExpr RawPrimary RawRef RawCand RawCmp RawCond RawDiffer RawMask RawPrim RawSum RawTerm RawUnion
-
-abbrev pub CondLayer : Type 0
-CondLayer = RawCond-F RawExpr RawPrimary RawRef RawCand RawCmp RawCond RawDiffer RawMask RawPrim RawSum RawTerm RawUnion
-
-abbrev pub DifferLayer : Type 0
-DifferLayer = RawDiffer-F RawExpr RawPrimary RawRef RawCand RawCmp RawCond RawDiffer RawMask RawPrim RawSum RawTerm RawUnion
-
-abbrev pub MaskLayer : Type 0
-MaskLayer = RawMask-F RawExpr RawPrimary RawRef RawCand RawCmp RawCond RawDiffer RawMask RawPrim RawSum RawTerm RawUnion
-
-abbrev pub PrimLayer : Type 0
-PrimLayer = RawPrim-F RawExpr RawPrimary RawRef RawCand RawCmp RawCond RawDiffer RawMask RawPrim RawSum RawTerm RawUnion
-
-abbrev pub SumLayer : Type 0
-SumLayer = RawSum-F RawExpr RawPrimary RawRef RawCand RawCmp RawCond RawDiffer RawMask RawPrim RawSum RawTerm RawUnion
-
-abbrev pub TermLayer : Type 0
-TermLayer = RawTerm-F RawExpr RawPrimary RawRef RawCand RawCmp RawCond RawDiffer RawMask RawPrim RawSum RawTerm RawUnion
-
-abbrev pub UnionLayer : Type 0
-UnionLayer = RawUnion-F RawExpr RawPrimary RawRef RawCand RawCmp RawCond RawDiffer RawMask RawPrim RawSum RawTerm RawUnion
+use Rattle.cw_derived.proofs.Layers.{ExprLayer, PrimaryLayer, RefLayer, CandLayer, CmpLayer, CondLayer, DifferLayer, MaskLayer, PrimLayer, SumLayer, TermLayer, UnionLayer}
 
 -- what is known of each tree
 pub record Known : Type 1 where

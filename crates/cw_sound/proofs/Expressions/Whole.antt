@@ -37,10 +37,8 @@ any_called kind.WriteByte h = refl
 any_called _ h = no h
 
 pub as_value : (named : Named) (r : Reading) (b : Option RawName) → IsTrue (is_evaluated r) → AsValue named r b
-as_value named reading.Value b h = tt
-as_value named reading.Target b h = tt
-as_value named reading.Whole b h = tt
 as_value named reading.Argument b h = no h
+as_value named _ b h = tt
 
 module _ (named : Named) (numbers : Numbers) (u : SourceUnit) (who : Option ℕ) where
   pub expression_good : (r : Reading) (e : RawExpr) (f : ℕ) → IsTrue (is_regular e) → IsTrue (is_evaluated r) → FactsStand named numbers u (expression_uses e r) who → NoFault ((expression named e).faults f) → f ≤ 15 → then_levels e ≤ most_levels

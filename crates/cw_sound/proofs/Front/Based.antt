@@ -19,7 +19,6 @@ use Rattle.cw_items.specs.declared.thing.Base.{Base}
 use Rattle.cw_items.specs.declared.thing.Thing.{Thing}
 use Rattle.cw_items.specs.Things.{amount_or_none}
 use Rattle.cw_number.specs.declared.listed.Listing.{Listing}
-use Rattle.cw_number.specs.declared.listed.Listing.TheVariants as listing
 use Rattle.cw_number.specs.declared.numbered.Numbered.{Numbered}
 use Rattle.cw_number.specs.declared.numbered.Numbered.TheVariants as numbered
 use Rattle.cw_number.specs.declared.numbers.Counts.{Counts}
@@ -46,6 +45,7 @@ use Rattle.cw_sound.proofs.Items.Standing.{things-rise, made}
 use Rattle.cw_sound.proofs.Front.Lists.{token_in, rises_to, stands_before}
 use Rattle.cw_sound.proofs.Names.PartKinds.{is_data}
 use Rattle.cw_sound.proofs.Names.ListedParts.{Listed, none, also, used, stored, unlisted, label, switch, procedure, special, communicators_parts}
+use Rattle.cw_number.specs.declared.listed.Listing.TheVariants as listing
 
 -- ---- the tokens of what is listed rise
 
@@ -71,9 +71,7 @@ listed_within (special k s e) = none-within (facts_tokens (spec_facts k s))
 
 listed_no_item : (d : ℕ) (l : Listing) → item_in (listed_number d l) ≡ 0
 listed_no_item d listing.Data = refl
-listed_no_item d listing.Label = refl
-listed_no_item d listing.Switch = refl
-listed_no_item d listing.Proc = refl
+listed_no_item d _ = refl
 
 built_in_no_item : (k : Kind) → item_in (built_in_number k) ≡ 0
 built_in_no_item kind.ReadByte = refl
@@ -82,11 +80,6 @@ built_in_no_item _ = refl
 
 own_no_item : (c : Counts) (k : Kind) → item_in (own_number c k) ≡ 0
 own_no_item c kind.Label = refl
-own_no_item c kind.Switch = refl
-own_no_item c (kind.Proc answer) = refl
-own_no_item c kind.LabelParam = refl
-own_no_item c kind.SwitchParam = refl
-own_no_item c (kind.ProcParam answer) = refl
 own_no_item c _ = refl
 
 module _ (token : ℕ) where

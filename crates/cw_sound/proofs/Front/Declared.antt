@@ -112,9 +112,7 @@ parameter_declared o (param.Value at t ns) = names o None 1 (kind.Value t) ns
 parameter_declared o (param.Location at t ns) = names o None 1 (kind.Location t) ns
 parameter_declared o (param.Array t ns) = names o None 1 (kind.ArrayParam t) ns
 parameter_declared o (param.Table t) = one o None 1 t.name (kind.TableParam t.size) _
-parameter_declared o (param.Label at ns) = nothing _
-parameter_declared o (param.Switch at ns) = nothing _
-parameter_declared o (param.Proc answer at n params) = nothing _
+parameter_declared o _ = nothing _
 
 parameters_declared : (o : Option Owner) (ps : List RawParam) → Declare (parameters_facts ps) (parameters_things o ps)
 parameters_declared o [] = nothing []
@@ -124,11 +122,7 @@ parameters_declared o (p ∷ ps) = together (parameter_facts p) (parameters_fact
 
 layer_unnamed : (facts : List Fact) (o : Option Owner) (y : Fact-F Fact) → Each (IsDeclared facts) (fact_texts o y)
 layer_unnamed facts o (fact_layer.Text at n) = ((λ e. absurd (cc)), tt)
-layer_unnamed facts o (fact_layer.Uses u) = tt
-layer_unnamed facts o (fact_layer.Declares d) = tt
-layer_unnamed facts o (fact_layer.Specifies token s) = tt
-layer_unnamed facts o (fact_layer.Loop at) = tt
-layer_unnamed facts o (fact_layer.Block owner xs) = tt
+layer_unnamed facts o _ = tt
 
 texts_unnamed : (facts : List Fact) (o : Option Owner) (fs : List Fact) → Declare facts (texts o fs)
 texts_unnamed facts o [] = nothing facts
@@ -244,9 +238,7 @@ module _ (named : Named) where
   citem_declared : (i : RawCitem) → Declare (citem_facts i) (citem_things named i)
   citem_declared (citem.Data d) = data_declared None None d
   citem_declared (citem.Overlay at b d) = together (base_facts b) (data_facts d) [] (data_things None (Some (base_at named b)) d) (nothing _) (data_declared None (Some (base_at named b)) d)
-  citem_declared (citem.Label at ns) = nothing _
-  citem_declared (citem.Switch at ns) = nothing _
-  citem_declared (citem.Spec s) = nothing _
+  citem_declared _ = nothing _
 
   citems_declared : (is : List RawCitem) → Declare (citems_facts is) (citems_things named is)
   citems_declared [] = nothing []
@@ -285,9 +277,7 @@ module _ (named : Named) where
   citem_named : (i : RawCitem) → Each HasName (citem_things named i)
   citem_named (citem.Data d) = data_named None d
   citem_named (citem.Overlay at b d) = data_named (Some (base_at named b)) d
-  citem_named (citem.Label at ns) = tt
-  citem_named (citem.Switch at ns) = tt
-  citem_named (citem.Spec s) = tt
+  citem_named _ = tt
 
   citems_named : (is : List RawCitem) → Each HasName (citems_things named is)
   citems_named [] = tt

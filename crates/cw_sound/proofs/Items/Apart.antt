@@ -77,23 +77,7 @@ apart-item k n t o =
 
 other-token : (k : Kind) (token : ℕ) → is_other k ≡ true → In token (declared_token k token ++ [])
 other-token (kind.Answer t) token e = absurd cc
-other-token (kind.Single t) token e = inl refl
-other-token (kind.Array t b) token e = inl refl
-other-token (kind.Table s) token e = inl refl
-other-token (kind.Element n x) token e = inl refl
-other-token (kind.Value t) token e = inl refl
-other-token (kind.Location t) token e = inl refl
-other-token (kind.ArrayParam t) token e = inl refl
-other-token (kind.TableParam s) token e = inl refl
-other-token kind.LabelParam token e = inl refl
-other-token kind.SwitchParam token e = inl refl
-other-token (kind.ProcParam t) token e = inl refl
-other-token kind.Label token e = inl refl
-other-token kind.Switch token e = inl refl
-other-token (kind.Proc t) token e = inl refl
-other-token kind.ReadByte token e = inl refl
-other-token kind.WriteByte token e = inl refl
-other-token kind.Bounds token e = inl refl
+other-token _ token e = inl refl
 
 pub apart-other : (k : Kind) (n : RawName) → Apart (declares n k ∷ []) []
 apart-other k n =

@@ -110,21 +110,15 @@ module _ (all : List Thing) where
   parameter-baseless o (param.Location at t ns) = baseless o (named_things o 1 None ns) (of-named o None None 1 ns refl)
   parameter-baseless o (param.Array t ns) = baseless o (named_things o 1 None ns) (of-named o None None 1 ns refl)
   parameter-baseless o (param.Table t) = ((λ b e. absurd (none-some b e)), tt)
-  parameter-baseless o (param.Label at ns) = tt
-  parameter-baseless o (param.Switch at ns) = tt
-  parameter-baseless o (param.Proc answer at n params) = tt
+  parameter-baseless o _ = tt
 
   pub parameters-baseless : (o : Option Owner) (ps : List RawParam) → HasBases (parameters_things o ps)
   parameters-baseless o [] = tt
   parameters-baseless o (p ∷ ps) = each-append HasBase (parameter_things o p) (parameters_things o ps) (parameter-baseless o p) (parameters-baseless o ps)
 
   fact-baseless : (o : Option Owner) (y : Fact-F Fact) → HasBases (fact_texts o y)
-  fact-baseless o (layer.Declares d) = tt
-  fact-baseless o (layer.Uses u) = tt
-  fact-baseless o (layer.Specifies token s) = tt
-  fact-baseless o (layer.Loop at) = tt
   fact-baseless o (layer.Text at n) = ((λ b e. absurd (none-some b e)), tt)
-  fact-baseless o (layer.Block owner xs) = tt
+  fact-baseless o _ = tt
 
   pub texts-baseless : (o : Option Owner) (fs : List Fact) → HasBases (texts o fs)
   texts-baseless o [] = tt

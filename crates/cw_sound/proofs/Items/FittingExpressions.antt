@@ -223,15 +223,13 @@ expression-fits (layer.Choice at test a b) o r =
 expression-fits (layer.Sum s) o r = s.1 o r
 
 primary-fits : (y : PrimaryParts known) → Fit (primary_made (primary_layer known y)) (primary_held (primary_layer known y))
-primary-fits (layer.Number n) o r = tt
-primary-fits (layer.Octal n) o r = tt
-primary-fits (layer.Literal c) o r = tt
 primary-fits (layer.Text at cs) o r = text-row o at cs
 primary-fits (layer.Location at x) o r = x.1 o reading.Whole
 primary-fits (layer.Forced t e) o r = e.1 o reading.Value
 primary-fits (layer.Bracket at e) o r = e.1 o reading.Value
 primary-fits (layer.Ref x) o r = x.1 o r
 primary-fits (layer.Call n xs) o r = behind o (uses_of n form.CallValue) (each_for reading.Argument (map expression_uses (map (λ e. e.0) xs))) (joined (map expression_rows (map (λ e. e.0) xs))) (each-expression xs o reading.Argument)
+primary-fits _ o r = tt
 
 reference-fits : (y : RefParts known) → Fit (reference_made (ref_layer known y)) (reference_held (ref_layer known y))
 reference-fits (layer.Name n) o r = tt

@@ -40,9 +40,7 @@ module _ (named : Named) (sites : List (Row Site)) (absolute : List (Row ℕ)) w
   citem-fits : (i : RawCitem) → citem_judged named sites absolute i None ≡ None → RowsFit (citem_things named i) (citem_rows i)
   citem-fits (citem.Data d) free = declared-fits sites None None d free
   citem-fits (citem.Overlay at b d) free = common-fits b d free
-  citem-fits (citem.Label at ns) free = tt
-  citem-fits (citem.Switch at ns) free = tt
-  citem-fits (citem.Spec s) free = tt
+  citem-fits _ free = tt
 
   citems-fit : (is : List RawCitem) → citems_judged named sites absolute is None ≡ None → RowsFit (citems_things named is) (citems_rows is)
   citems-fit [] free = tt

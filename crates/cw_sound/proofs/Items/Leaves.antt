@@ -189,15 +189,13 @@ expression-leaves (layer.Choice at test a b) r = both-leaves (condition_uses tes
 expression-leaves (layer.Sum s) r = s.1 r
 
 primary-leaves : (y : PrimaryParts known) → AreLeaves (primary_made (primary_layer known y))
-primary-leaves (layer.Number n) r = tt
-primary-leaves (layer.Octal n) r = tt
-primary-leaves (layer.Literal c) r = tt
 primary-leaves (layer.Text at cs) r = text-leaf at cs
 primary-leaves (layer.Location at x) r = x.1 reading.Whole
 primary-leaves (layer.Forced t e) r = e.1 reading.Value
 primary-leaves (layer.Bracket at e) r = e.1 reading.Value
 primary-leaves (layer.Ref x) r = x.1 r
 primary-leaves (layer.Call n xs) r = both-leaves (uses_of n form.CallValue) (each_for reading.Argument (map expression_uses (map (λ e. e.0) xs))) (use-leaf n form.CallValue) (each-expression xs reading.Argument)
+primary-leaves _ r = tt
 
 reference-leaves : (y : RefParts known) → AreLeaves (reference_made (ref_layer known y))
 reference-leaves (layer.Name n) r = use-leaf n (form.Reference r 0)

@@ -75,10 +75,8 @@ all_last (e ∷ es) env = lasts-both ((said e.0).faults env) (all_faults env (ma
 said_lasts : (y : Fact-F ((f : Fact) × FactLasts f)) → SaidLasts (said_step (map-Fact Fact Said said (map-Fact ((f : Fact) × FactLasts f) Fact (λ e. e.0) y)))
 said_lasts (layer.Declares d) env = repeat_lasts (declared_in (own_block env) d.name.name) d
 said_lasts (layer.Uses u) env = use_lasts (declaration_of env u.name.name) u
-said_lasts (layer.Specifies token s) env = lasts-fine
-said_lasts (layer.Loop at) env = lasts-fine
-said_lasts (layer.Text at n) env = lasts-fine
 said_lasts (layer.Block owner es) env = all_last es (within env (map said (map (λ e. e.0) es)))
+said_lasts _ env = lasts-fine
 
 pub fact_lasts : (f : Fact) → FactLasts f
 fact_lasts = ind-Fact FactLasts (λ x y is.
@@ -116,11 +114,8 @@ module _ (signatures : List (Row Signature)) where
         listed = λ cs. lasts-unless (fits_built_in_if d.kind (item_at signatures d.name.at.token)) rule.SpecDiffers d.name;
         own = λ cs. definition_lasts (declared_in cs d.name.name) d;
       }
-  defined_lasts (layer.Uses u) = record { listed = λ cs. lasts-fine; own = λ cs. lasts-fine }
-  defined_lasts (layer.Specifies token s) = record { listed = λ cs. lasts-fine; own = λ cs. lasts-fine }
-  defined_lasts (layer.Loop at) = record { listed = λ cs. lasts-fine; own = λ cs. lasts-fine }
-  defined_lasts (layer.Text at n) = record { listed = λ cs. lasts-fine; own = λ cs. lasts-fine }
   defined_lasts (layer.Block owner es) = record { listed = λ cs. own_last es cs; own = λ cs. lasts-fine }
+  defined_lasts _ = record { listed = λ cs. lasts-fine; own = λ cs. lasts-fine }
 
   definition_of_lasts : (f : Fact) → DefinitionLasts f
   definition_of_lasts = ind-Fact DefinitionLasts (λ x y is.
@@ -149,11 +144,7 @@ DeclaresFinely env d s = In d s.declared → s.faults env None ≡ None → decl
 layer-fine : (env : Environment) (d : Declaration) (y : Fact-F Fact) → DeclaresFinely env d (said_step (map-Fact Fact Said said y))
 layer-fine env d (layer.Declares c) (inl e) h = subst (λ z. declaration_faults env z None ≡ None) (sym e) h
 layer-fine env d (layer.Declares c) (inr i) h = absurd i
-layer-fine env d (layer.Uses u) i h = absurd i
-layer-fine env d (layer.Specifies token s) i h = absurd i
-layer-fine env d (layer.Loop at) i h = absurd i
-layer-fine env d (layer.Text at n) i h = absurd i
-layer-fine env d (layer.Block owner xs) i h = absurd i
+layer-fine env d _ i h = absurd i
 
 fact-fine : (env : Environment) (d : Declaration) (f : Fact) → DeclaresFinely env d (said f)
 fact-fine env d f = subst (DeclaresFinely env d) (sym (fold_out-Fact Said said_step f)) (layer-fine env d (out-Fact f))

@@ -117,9 +117,7 @@ module _ (named : Named) (sites : List (Row Site)) (absolute : List (Row ℕ)) w
       citem-common : (i : RawCitem) → Sound named env false (citem_facts i) → citem_judged named sites absolute i None ≡ None → Each InCommon (citem_things named i)
       citem-common (citem.Data d) s free = baseless-common None (data_things None None d) (of-data None None d)
       citem-common (citem.Overlay at b d) s free = overlay-common env b d s seen known free
-      citem-common (citem.Label at ns) s free = tt
-      citem-common (citem.Switch at ns) s free = tt
-      citem-common (citem.Spec x) s free = tt
+      citem-common _ s free = tt
 
       citems-common : (is : List RawCitem) → Sound named env false (citems_facts is) → citems_judged named sites absolute is None ≡ None → Each InCommon (citems_things named is)
       citems-common [] s free = tt

@@ -109,11 +109,7 @@ HasRow d f s = In d s.declared → In (record { token = d.name.at.token; item = 
 row-in-layer : (d : Declaration) (y : Fact-F Fact) → In d (said_step (map-Fact Fact Said said y)).declared → In (record { token = d.name.at.token; item = d }) (declarations_step (map-Fact Fact (List (Row Declaration)) fact_declarations y))
 row-in-layer d (layer.Declares c) (inl e) = inl (ap (λ (x : Declaration). record { token = x.name.at.token; item = x }) e)
 row-in-layer d (layer.Declares c) (inr i) = absurd i
-row-in-layer d (layer.Uses u) i = absurd i
-row-in-layer d (layer.Specifies token s) i = absurd i
-row-in-layer d (layer.Loop at) i = absurd i
-row-in-layer d (layer.Text at n) i = absurd i
-row-in-layer d (layer.Block owner xs) i = absurd i
+row-in-layer d _ i = absurd i
 
 row-in-fact : (d : Declaration) (f : Fact) → In d (said f).declared → In (record { token = d.name.at.token; item = d }) (fact_declarations f)
 row-in-fact d f i =

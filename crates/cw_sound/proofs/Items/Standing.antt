@@ -55,9 +55,7 @@ not-true h = absurd cc
 
 by-sort : (a : Bool) (who owner : Option ℕ) (s : FamilySort) → IsTrue (a && may_name None owner s) → IsTrue (a && may_name who owner s)
 by-sort a who owner (family.Frame o) h = absurd (never a h)
-by-sort a who owner (family.Common d) h = h
-by-sort a who owner family.Own h = h
-by-sort a who owner (family.Absolute k) h = h
+by-sort a who owner _ h = h
 
 named-anywhere : (u : SourceUnit) (who : Option ℕ) (i words : ℕ) (o : Option Item) → IsTrue (item_has u None i o words) → IsTrue (item_has u who i o words)
 named-anywhere u who i words None h = absurd (not-true h)

@@ -356,10 +356,7 @@ module _ (H : Stored → Type 0) (numbers : Numbers) where
   leaf-layer : (o : Option Owner) (y : Fact-F Fact) → IsLeafLayer y → LeafStores o y
   leaf-layer o (layer.Uses u) l = record { none = refl; rows = refl; rest = u.name.at.token ∷ []; merged = right neither; long = tt; tokens = none-within (u.name.at.token ∷ []); gives = λ each. tt }
   leaf-layer o (layer.Text at n) l = record { none = refl; rows = refl; rest = []; merged = left neither; long = ((text-has-word n, no-loop-of-text), tt); tokens = with nothing; gives = λ each. (each.0 1 (text-has-word n), tt) }
-  leaf-layer o (layer.Declares d) l = absurd l
-  leaf-layer o (layer.Specifies token s) l = absurd l
-  leaf-layer o (layer.Loop at) l = absurd l
-  leaf-layer o (layer.Block owner xs) l = absurd l
+  leaf-layer o _ l = absurd l
 
   leaf-tokens : (f : Fact) → facts_tokens (f ∷ []) ≡ tokens_step (map-Fact Fact (List ℕ) fact_tokens (out-Fact f)) ++ []
   leaf-tokens f = ap (λ l. l ++ []) (fold_out-Fact (List ℕ) tokens_step f)

@@ -21,15 +21,15 @@ use Rattle.cw_unit.specs.declared.unit.Stmt.{Stmt}
 use Rattle.cw_unit.specs.declared.unit.Stmt.TheFolds.{fold-roll-Stmt}
 use Rattle.cw_unit.specs.declared.unit.Stmt.TheOpen as statement
 use Rattle.cw_tokens.specs.SetLabels.{set_step, set_labels, set_in_procedures}
-use Rattle.cw_sound.specs.Uses.Mentions.{In, Mention, Here, declares as declared, uses, stores, facts_mentions}
+use Rattle.cw_sound.specs.Uses.Mentions.{In, Here, facts_mentions}
 use Rattle.cw_sound.proofs.Names.Parts.{Plain, procedure_with}
 use Rattle.cw_sound.proofs.Names.Rows.{mentions_append}
 use Rattle.cw_sound.proofs.Names.Picking.{pick, pick_append, none_picked, Zip}
 use Rattle.cw_sound.proofs.Names.Sorts.{of_kind}
 use Rattle.cw_sound.proofs.Names.LabelNumbers.{LabelOf, facts_have_labels}
 use Rattle.cw_sound.proofs.Names.MentionsOf.{declared_first, block_alone}
-use Rattle.cw_sound.proofs.Names.InProcedure.{IsParameter, is_parameter, parameters_say, answer_says}
-use Rattle.cw_sound.proofs.Names.PartKinds.{is_data, IsData, IsPlain, data_say, uses_say, answers, params, body, within_it, shape}
+use Rattle.cw_sound.proofs.Names.InProcedure.{is_parameter, parameters_say, answer_says}
+use Rattle.cw_sound.proofs.Names.PartKinds.{is_data, data_say, uses_say, answers, params, body, within_it, shape, data_not, parameter_not, plain_not}
 
 -- ---- what declares no label
 
@@ -40,21 +40,6 @@ data_kind _ h = refl
 parameter_kind : (k : NameKind) → IsTrue (is_parameter k) → is_own_label k ≡ false
 parameter_kind kind.Label h = absurd (cc)
 parameter_kind _ h = refl
-
-data_no_label : (m : Mention) → IsData m → of_kind is_own_label m ≡ false
-data_no_label (declared d) h = data_kind d.kind h
-data_no_label (uses x) h = refl
-data_no_label (stores token n) h = refl
-
-parameter_no_label : (m : Mention) → IsParameter m → of_kind is_own_label m ≡ false
-parameter_no_label (declared d) h = parameter_kind d.kind h
-parameter_no_label (uses x) h = refl
-parameter_no_label (stores token n) h = refl
-
-plain_no_label : (m : Mention) → IsPlain m → of_kind is_own_label m ≡ false
-plain_no_label (declared d) h = absurd (cc)
-plain_no_label (uses x) h = refl
-plain_no_label (stores token n) h = refl
 
 abbrev labels_in : List Here → List Here
 labels_in = pick (of_kind is_own_label)
@@ -95,10 +80,10 @@ module _ (named : Named) (numbers : Numbers) where
   empty = record { in_body = λ q. refl }
 
   pub plain : {fs : List Fact} → Plain numbers fs → Counted fs 0 []
-  plain {fs} h = none fs (λ q m i. plain_no_label m.mention (h.mentions q m i).1)
+  plain {fs} h = none fs (λ q m i. plain_not is_own_label m.mention (h.mentions q m i).1)
 
   pub items : (d : RawData) → Counted (data_facts d) 0 []
-  items d = none (data_facts d) (λ q m i. data_no_label m.mention (data_say numbers d q m i).1)
+  items d = none (data_facts d) (λ q m i. data_not is_own_label data_kind m.mention (data_say numbers d q m i).1)
 
   count-append : (fs gs : List Fact) (q : Option ℕ) → count (fs ++ gs) q ≡ count fs q + count gs q
   count-append fs gs q =
@@ -128,7 +113,7 @@ module _ (named : Named) (numbers : Numbers) where
   pub switch : (n : RawName) (ls : List RawName) → Counted (declares n kind.Switch ∷ each_uses ls) 0 []
   switch n ls = record {
     in_body = λ q. ap (λ ms. length (labels_in ms)) (declared_first numbers n kind.Switch (each_uses ls) q)
-        ∙ ap length (none_picked (of_kind is_own_label) (facts_mentions numbers (each_uses ls) q) (λ m i. plain_no_label m.mention (uses_say numbers ls q m i).1));
+        ∙ ap length (none_picked (of_kind is_own_label) (facts_mentions numbers (each_uses ls) q) (λ m i. plain_not is_own_label m.mention (uses_say numbers ls q m i).1));
   }
 
   pub block : {fs : List Fact} {n : ℕ} {ps : List Proc} → Counted fs n ps → Counted (fact.Block None fs ∷ []) n ps
@@ -141,8 +126,8 @@ module _ (named : Named) (numbers : Numbers) where
         let ys = params named numbers p fs q in
         let zs = body named numbers p fs q in
         let shaped = ap (λ ms. length (labels_in ms)) (shape named numbers p fs q) in
-        let none_first = none_picked (of_kind is_own_label) xs (λ m i. parameter_no_label m.mention (answer_says numbers (out-RawProc p).answer (within_it named numbers p fs q) m i).1) in
-        let none_second = none_picked (of_kind is_own_label) ys (λ m i. parameter_no_label m.mention (parameters_say numbers (out-RawProc p).params (within_it named numbers p fs q) m i).1) in
+        let none_first = none_picked (of_kind is_own_label) xs (λ m i. parameter_not is_own_label parameter_kind m.mention (answer_says numbers (out-RawProc p).answer (within_it named numbers p fs q) m i).1) in
+        let none_second = none_picked (of_kind is_own_label) ys (λ m i. parameter_not is_own_label parameter_kind m.mention (parameters_say numbers (out-RawProc p).params (within_it named numbers p fs q) m i).1) in
         let inner : labels_in (xs ++ (ys ++ zs)) ≡ labels_in zs =
         pick_append (of_kind is_own_label) xs (ys ++ zs) ∙ ap₂ (λ a b. a ++ b) none_first (pick_append (of_kind is_own_label) ys zs ∙ ap (λ a. a ++ labels_in zs) none_second) in
         let within = a.in_body (within_it named numbers p fs q) in

@@ -2,7 +2,7 @@
 use Rattle.std.proofs.Common.{Bool, true, false, [], Some, None}
 use Rattle.cw_tree.specs.declared.expression.RawRef.TheVariants as ref_tree
 use Rattle.cw_grammar.specs.Tokens.{position}
-use Rattle.cw_grammar.specs.Grammar.{Sort, Rule, bracketed, subscript, indexed, called, located, conditional, if_rest, else_rest, for_rest, block_rest, proc_body, Again, labelled, labelled_simple, more_elems, places}
+use Rattle.cw_grammar.specs.Grammar.{Sort, Rule, located, if_rest, for_rest, block_rest, Again, labelled, labelled_simple, more_elems, places}
 use Rattle.cw_grammar.specs.Rules.{name, bits, indexed_name, reference, commas}
 use Rattle.cw_grammar.specs.Statements.{simple_behind, block_tree, unnamed, simple, if_tree, for_tree, stmt, proc_behind, worded_decl, decl, text}
 use Rattle.cw_grammar.specs.Table.{rule, again_rule}
@@ -90,20 +90,14 @@ decl_keeps false = (
 
 pub rule_keeps : {s : Sort} (r : Rule s) → Keeps (rule r)
 unfolding rule
-rule_keeps bracketed = tt
-rule_keeps subscript = tt
-rule_keeps indexed = tt
-rule_keeps called = tt
 rule_keeps located = ((reference_keeps, tt), λ x h. given_good reference x.0 h.0)
-rule_keeps conditional = tt
 rule_keeps (if_rest p) = (tt, (((tt, tt), λ x h. h.1), (((tt, λ x h. h.1), λ x h. h), tt)))
-rule_keeps (else_rest p) = tt
 rule_keeps (for_rest p) = (reference_keeps, (tt, ((tt, tt), λ x h. h.1)))
 rule_keeps (block_rest p) = (
   ((decl_keeps p, tt), λ x h. given_good (decl p) x.0 h.0),
   ((((tt, ((tt, tt), λ x h. h.1)), λ x h. (h.0, h.1)), (tt, ((name_keeps, λ x h. h), tt))), λ x h. h.0),
 )
-rule_keeps proc_body = tt
+rule_keeps _ = tt
 
 pub again_keeps : {s : Sort} (a : Again s) → Keeps (again_rule a)
 unfolding again_rule

@@ -47,7 +47,7 @@ use Rattle.cw_macro.specs.Premises.{Each}
 use Rattle.cw_macro.proofs.Lists.{each_append}
 use Rattle.cw_sound.specs.Ready.Lined as lined
 use Rattle.cw_sound.specs.Ready.Lined.{is_numbered, PositionsFit}
-use Rattle.cw_sound.proofs.Lines.Layers.{BodyLined, HasLines, SimpleLined, simple_rolled, FormLined, form_rolled, StmtLined, statement_rolled, statement_opened, BlockLined, block_rolled, DeclLined, declaration_rolled, ProcLined, procedure_rolled}
+use Rattle.cw_sound.proofs.Lines.Layers.{BodyLined, HasLines, statement_opened, has_lines, rolled}
 use Rattle.cw_sound.proofs.Kept.{OfOption}
 
 -- ---- references
@@ -80,63 +80,63 @@ ref_lined f (Some x) h = index_lined f x.1.0 x.1.1 h
 none_in : {is : Bool} → IsTrue is → HasLines is []
 none_in h = record { right = h; inner = tt }
 
-pub empty_lined : SimpleLined simple_tree.Empty
-empty_lined = subst SimpleLined simple_tree.rolls-Empty (simple_rolled layer.Empty (none_in refl))
+pub empty_lined : has_lines.Simple simple_tree.Empty
+empty_lined = subst has_lines.Simple simple_tree.rolls-Empty (rolled.simple layer.Empty (none_in refl))
 
-pub assign_lined : (r : RawRef) (x : RawExpr) → RefLined r → SimpleLined (simple_tree.Assign r x)
-assign_lined r x h = subst SimpleLined (simple_tree.rolls-Assign r x) (simple_rolled (layer.Assign r x) (none_in h))
+pub assign_lined : (r : RawRef) (x : RawExpr) → RefLined r → has_lines.Simple (simple_tree.Assign r x)
+assign_lined r x h = subst has_lines.Simple (simple_tree.rolls-Assign r x) (rolled.simple (layer.Assign r x) (none_in h))
 
-pub assign_bits_lined : (z : RawBits) (r : RawRef) (x : RawExpr) → IsTrue (is_numbered z.at) → SimpleLined (simple_tree.AssignBits z r x)
-assign_bits_lined z r x h = subst SimpleLined (simple_tree.rolls-AssignBits z r x) (simple_rolled (layer.AssignBits z r x) (none_in h))
+pub assign_bits_lined : (z : RawBits) (r : RawRef) (x : RawExpr) → IsTrue (is_numbered z.at) → has_lines.Simple (simple_tree.AssignBits z r x)
+assign_bits_lined z r x h = subst has_lines.Simple (simple_tree.rolls-AssignBits z r x) (rolled.simple (layer.AssignBits z r x) (none_in h))
 
-pub jump_lined : (t : Item) (f : RawName) (o : Option (Item × RawExpr)) → IsTrue (is_numbered (position t)) → SimpleLined (jump t f o)
-jump_lined t f None h = subst SimpleLined (simple_tree.rolls-Goto (position t) f) (simple_rolled (layer.Goto (position t) f) (none_in h))
-jump_lined t f (Some y) h = subst SimpleLined (simple_tree.rolls-GotoSwitch (position t) f y.1) (simple_rolled (layer.GotoSwitch (position t) f y.1) (none_in h))
+pub jump_lined : (t : Item) (f : RawName) (o : Option (Item × RawExpr)) → IsTrue (is_numbered (position t)) → has_lines.Simple (jump t f o)
+jump_lined t f None h = subst has_lines.Simple (simple_tree.rolls-Goto (position t) f) (rolled.simple (layer.Goto (position t) f) (none_in h))
+jump_lined t f (Some y) h = subst has_lines.Simple (simple_tree.rolls-GotoSwitch (position t) f y.1) (rolled.simple (layer.GotoSwitch (position t) f y.1) (none_in h))
 
-pub call_lined : (f : RawName) (xs : List RawExpr) → IsTrue (is_numbered f.at) → SimpleLined (simple_tree.Call f xs)
-call_lined f xs h = subst SimpleLined (simple_tree.rolls-Call f xs) (simple_rolled (layer.Call f xs) (none_in h))
+pub call_lined : (f : RawName) (xs : List RawExpr) → IsTrue (is_numbered f.at) → has_lines.Simple (simple_tree.Call f xs)
+call_lined f xs h = subst has_lines.Simple (simple_tree.rolls-Call f xs) (rolled.simple (layer.Call f xs) (none_in h))
 
-pub answer_lined : (at : Position) (x : RawExpr) → IsTrue (is_numbered at) → SimpleLined (simple_tree.Answer at x)
-answer_lined at x h = subst SimpleLined (simple_tree.rolls-Answer at x) (simple_rolled (layer.Answer at x) (none_in h))
+pub answer_lined : (at : Position) (x : RawExpr) → IsTrue (is_numbered at) → has_lines.Simple (simple_tree.Answer at x)
+answer_lined at x h = subst has_lines.Simple (simple_tree.rolls-Answer at x) (rolled.simple (layer.Answer at x) (none_in h))
 
-pub block_lined : (b : RawBlock) → BlockLined b → SimpleLined (simple_tree.Block b)
-block_lined b h = subst SimpleLined (simple_tree.rolls-Block b) (simple_rolled (layer.Block b) h)
+pub block_lined : (b : RawBlock) → has_lines.Block b → has_lines.Simple (simple_tree.Block b)
+block_lined b h = subst has_lines.Simple (simple_tree.rolls-Block b) (rolled.simple (layer.Block b) h)
 
-simple_lined : (s : RawSimple) → SimpleLined s → FormLined (form_tree.Simple s)
-simple_lined s h = subst FormLined (form_tree.rolls-Simple s) (form_rolled (layer.Simple s) h)
+simple_lined : (s : RawSimple) → has_lines.Simple s → has_lines.Form (form_tree.Simple s)
+simple_lined s h = subst has_lines.Form (form_tree.rolls-Simple s) (rolled.form (layer.Simple s) h)
 
-pub if_lined : (at : Position) (c : RawCond) (ls : List RawName) (s : RawSimple) (o : Option RawStmt) → IsTrue (is_numbered at) → SimpleLined s → OfOption (λ y. StmtLined y) o → FormLined (form_tree.If at c ls s o)
+pub if_lined : (at : Position) (c : RawCond) (ls : List RawName) (s : RawSimple) (o : Option RawStmt) → IsTrue (is_numbered at) → has_lines.Simple s → OfOption (λ y. has_lines.Stmt y) o → has_lines.Form (form_tree.If at c ls s o)
 if_lined at c ls s None h k l =
-    subst FormLined (form_tree.rolls-If at c ls s None)
-    (form_rolled (layer.If at c ls s None)
+    subst has_lines.Form (form_tree.rolls-If at c ls s None)
+    (rolled.form (layer.If at c ls s None)
     (record {
       right = both (is_numbered at) (lined.is_lined_simple s && true) h (both (lined.is_lined_simple s) true k.right refl);
       inner = each_append BodyLined (bodies.simple_bodies s) [] k.inner tt;
     }))
 if_lined at c ls s (Some x) h k l =
-    subst FormLined (form_tree.rolls-If at c ls s (Some x))
-    (form_rolled (layer.If at c ls s (Some x))
+    subst has_lines.Form (form_tree.rolls-If at c ls s (Some x))
+    (rolled.form (layer.If at c ls s (Some x))
     (record {
       right = both (is_numbered at) (lined.is_lined_simple s && lined.is_lined_statement x) h (both (lined.is_lined_simple s) (lined.is_lined_statement x) k.right l.right);
       inner = each_append BodyLined (bodies.simple_bodies s) (bodies.statement_bodies x) k.inner l.inner;
     }))
 
-pub for_lined : (at : Position) (r : RawRef) (xs : List RawFelem) (s : RawStmt) → IsTrue (is_numbered at) → StmtLined s → FormLined (form_tree.For at r xs s)
+pub for_lined : (at : Position) (r : RawRef) (xs : List RawFelem) (s : RawStmt) → IsTrue (is_numbered at) → has_lines.Stmt s → has_lines.Form (form_tree.For at r xs s)
 for_lined at r xs s h k =
-    subst FormLined (form_tree.rolls-For at r xs s) (form_rolled (layer.For at r xs s) (record { right = both (is_numbered at) (lined.is_lined_statement s) h k.right; inner = k.inner }))
+    subst has_lines.Form (form_tree.rolls-For at r xs s) (rolled.form (layer.For at r xs s) (record { right = both (is_numbered at) (lined.is_lined_statement s) h k.right; inner = k.inner }))
 
-pub form_alone : (f : RawForm) → FormLined f → StmtLined (stmt_tree [] f)
-form_alone f h = statement_rolled (record { labels = []; form = f }) h
+pub form_alone : (f : RawForm) → has_lines.Form f → has_lines.Stmt (stmt_tree [] f)
+form_alone f h = rolled.stmt (record { labels = []; form = f }) h
 
-pub labelled_lined : (n : RawName) (s : RawStmt) → StmtLined s → StmtLined (with_label n s)
-labelled_lined n s h = statement_rolled (record { labels = n ∷ (out-RawStmt s).labels; form = (out-RawStmt s).form }) (statement_opened s h)
+pub labelled_lined : (n : RawName) (s : RawStmt) → has_lines.Stmt s → has_lines.Stmt (with_label n s)
+labelled_lined n s h = rolled.stmt (record { labels = n ∷ (out-RawStmt s).labels; form = (out-RawStmt s).form }) (statement_opened s h)
 
-pub simple_alone : (s : RawSimple) → SimpleLined s → StmtLined (simple_stmt s)
+pub simple_alone : (s : RawSimple) → has_lines.Simple s → has_lines.Stmt (simple_stmt s)
 simple_alone s h = form_alone (form_tree.Simple s) (simple_lined s h)
 
 -- ---- blocks and procedures
 
-statements_in : (ss : List RawStmt) → Each StmtLined ss → HasLines (all (map lined.is_lined_statement ss)) (bodies.joined (map (λ s. (s, bodies.statement_bodies s)) ss))
+statements_in : (ss : List RawStmt) → Each has_lines.Stmt ss → HasLines (all (map lined.is_lined_statement ss)) (bodies.joined (map (λ s. (s, bodies.statement_bodies s)) ss))
 statements_in [] h = none_in refl
 statements_in (s ∷ ss) h =
     let q = statements_in ss h.1 in
@@ -145,32 +145,32 @@ statements_in (s ∷ ss) h =
       inner = each_append BodyLined (bodies.statement_bodies s) (bodies.joined (map (λ z. (z, bodies.statement_bodies z)) ss)) h.0.inner q.inner;
     }
 
-declarations_in : (ds : List RawDecl) → Each DeclLined ds → Each BodyLined (bodies.joined (map (λ d. (d, bodies.declaration_bodies d)) ds))
+declarations_in : (ds : List RawDecl) → Each has_lines.Decl ds → Each BodyLined (bodies.joined (map (λ d. (d, bodies.declaration_bodies d)) ds))
 declarations_in [] h = tt
 declarations_in (d ∷ ds) h = each_append BodyLined (bodies.declaration_bodies d) (bodies.joined (map (λ z. (z, bodies.declaration_bodies z)) ds)) h.0.inner (declarations_in ds h.1)
 
-pub whole_lined : (t : Item) (ds : List RawDecl) (ss : List RawStmt) → Each DeclLined ds → Each StmtLined ss → BlockLined (block_tree t ds ss)
+pub whole_lined : (t : Item) (ds : List RawDecl) (ss : List RawStmt) → Each has_lines.Decl ds → Each has_lines.Stmt ss → has_lines.Block (block_tree t ds ss)
 whole_lined t ds ss h k =
     let q = statements_in ss k in
-    block_rolled (record { at = position t; decls = ds; stmts = ss })
+    rolled.block (record { at = position t; decls = ds; stmts = ss })
     (record {
       right = q.right;
       inner = each_append BodyLined (bodies.joined (map (λ d. (d, bodies.declaration_bodies d)) ds)) (bodies.joined (map (λ s. (s, bodies.statement_bodies s)) ss)) (declarations_in ds h) q.inner;
     })
 
-pub data_lined : (d : RawData) → DeclLined (decl_tree.Data d)
-data_lined d = subst DeclLined (decl_tree.rolls-Data d) (declaration_rolled (layer.Data d) (none_in refl))
+pub data_lined : (d : RawData) → has_lines.Decl (decl_tree.Data d)
+data_lined d = subst has_lines.Decl (decl_tree.rolls-Data d) (rolled.decl (layer.Data d) (none_in refl))
 
-pub overlay_lined : (at : Position) (b : RawBase) (d : RawData) → DeclLined (decl_tree.Overlay at b d)
-overlay_lined at b d = subst DeclLined (decl_tree.rolls-Overlay at b d) (declaration_rolled (layer.Overlay at b d) (none_in refl))
+pub overlay_lined : (at : Position) (b : RawBase) (d : RawData) → has_lines.Decl (decl_tree.Overlay at b d)
+overlay_lined at b d = subst has_lines.Decl (decl_tree.rolls-Overlay at b d) (rolled.decl (layer.Overlay at b d) (none_in refl))
 
-pub switch_lined : (at : Position) (f : RawName) (xs : List RawName) → DeclLined (decl_tree.Switch at f xs)
-switch_lined at f xs = subst DeclLined (decl_tree.rolls-Switch at f xs) (declaration_rolled (layer.Switch at f xs) (none_in refl))
+pub switch_lined : (at : Position) (f : RawName) (xs : List RawName) → has_lines.Decl (decl_tree.Switch at f xs)
+switch_lined at f xs = subst has_lines.Decl (decl_tree.rolls-Switch at f xs) (rolled.decl (layer.Switch at f xs) (none_in refl))
 
-pub proc_lined : (o : Option RawType) (g : RawPtag) (f : RawName) (ps : List RawParam) (s : RawStmt) → StmtLined s → DeclLined (decl_tree.Proc (proc_tree o g f ps s))
+pub proc_lined : (o : Option RawType) (g : RawPtag) (f : RawName) (ps : List RawParam) (s : RawStmt) → has_lines.Stmt s → has_lines.Decl (decl_tree.Proc (proc_tree o g f ps s))
 proc_lined o g f ps s h =
-    let made : ProcLined (proc_tree o g f ps s) = procedure_rolled (record { answer = o; tag = g; name = f; params = ps; body = s }) (record { right = h.right; inner = (h.right, h.inner) }) in
-    subst DeclLined (decl_tree.rolls-Proc (proc_tree o g f ps s)) (declaration_rolled (layer.Proc (proc_tree o g f ps s)) (record { right = refl; inner = made.inner }))
+    let made : has_lines.Proc (proc_tree o g f ps s) = rolled.proc (record { answer = o; tag = g; name = f; params = ps; body = s }) (record { right = h.right; inner = (h.right, h.inner) }) in
+    subst has_lines.Decl (decl_tree.rolls-Proc (proc_tree o g f ps s)) (rolled.decl (layer.Proc (proc_tree o g f ps s)) (record { right = refl; inner = made.inner }))
 
 -- ---- texts
 
@@ -178,5 +178,5 @@ bodies_lined : (bs : bodies.Bodies) → Each BodyLined bs → IsTrue (list_all (
 bodies_lined [] h = refl
 bodies_lined (b ∷ bs) h = both (lined.is_lined_statement b.statement) (list_all (λ (x : bodies.Body). lined.is_lined_statement x.statement) bs) h.0 (bodies_lined bs h.1)
 
-pub fits : (cs : List RawComm) (n : RawName) (b : Item × (List RawDecl × List RawStmt)) (finish : Item) → BlockLined (block_tree b.0 b.1.0 b.1.1) → finish.number < 4294967296 → PositionsFit (raw cs n b finish)
+pub fits : (cs : List RawComm) (n : RawName) (b : Item × (List RawDecl × List RawStmt)) (finish : Item) → has_lines.Block (block_tree b.0 b.1.0 b.1.1) → finish.number < 4294967296 → PositionsFit (raw cs n b finish)
 fits cs n b finish h few = record { tokens = few; block = h.right; bodies = bodies_lined (bodies.block_bodies (block_tree b.0 b.1.0 b.1.1)) h.inner }

@@ -1,5 +1,5 @@
 -- Where the declarations of a text stand, its uses do.
-use Rattle.std.proofs.Common.{◌≡◌, ◌⊎◌, inl, inr, ℕ, List, [], ◌∷◌, ◌++◌, Bool, true, false, IsTrue, ◌||◌, Option, Some, None, refl, sym, ap, subst, ◌∙◌}
+use Rattle.std.proofs.Common.{◌≡◌, ◌⊎◌, inl, inr, ℕ, ◌++◌, Bool, true, false, IsTrue, Option, Some, None, refl, sym, ap, subst, ◌∙◌}
 use Rattle.std.specs.Prelude.{option_map, option_and_then}
 use Rattle.cw_table.specs.Rows.{item_at}
 use Rattle.cw_tree.specs.declared.leaf.RawName.{RawName}
@@ -10,18 +10,18 @@ use Rattle.cw_facts.specs.declared.fact.Use.{Use}
 use Rattle.cw_facts.specs.Facts.{block_facts}
 use Rattle.cw_facts.specs.Text.{communicators_facts}
 use Rattle.cw_scope.specs.declared.resolve.Named.{Named}
-use Rattle.cw_scope.specs.NameRules.{is_procedure, is_own_label, is_own_switch}
-use Rattle.cw_scale.specs.Kinds.{kind_in, kind_of, signature_of}
+use Rattle.cw_scope.specs.NameRules.{is_own_label, is_own_switch}
+use Rattle.cw_scale.specs.Kinds.{kind_in}
 use Rattle.cw_scale.specs.Arguments.{answers_alone}
 use Rattle.cw_make_items.specs.Lookup.{Numbers}
 use Rattle.cw_unit.specs.declared.unit.Unit.{Unit as SourceUnit}
-use Rattle.cw_sound.specs.Uses.Mentions.{In, Mention, Here, here, declares, uses, stores, facts_mentions, listed_mentions, block_mentions, text_mentions}
+use Rattle.cw_sound.specs.Uses.Mentions.{In, Mention, here, declares, uses, stores, listed_mentions, block_mentions, text_mentions}
 use Rattle.cw_sound.specs.Uses.Stands.{StandsAs, Stands, MentionStands, FactsStand}
-use Rattle.cw_sound.specs.Names.Found.{Refers, Found, UsesFound}
+use Rattle.cw_sound.specs.Names.Found.{Found, UsesFound}
 use Rattle.cw_sound.specs.Names.Standing.{is_item, is_element, is_own_procedure, is_control, is_built_in, is_common, StandsIn, StandsFrom, Stand, ItemsStand, AnswersAreCalled}
-use Rattle.cw_sound.proofs.Names.Lists.{in_either, in_left, in_right}
+use Rattle.cw_sound.proofs.Names.Lists.{in_either, in_right}
 use Rattle.cw_sound.proofs.Names.Rows.{mentions_append}
-use Rattle.cw_sound.proofs.Names.ListedKinds.{IsListed, is_listed, communicators_say}
+use Rattle.cw_sound.proofs.Names.ListedKinds.{is_listed, communicators_say}
 use Rattle.cw_sound.proofs.Names.StandingNames.{item_from}
 
 module _ (named : Named) (numbers : Numbers) (u : SourceUnit) where
@@ -34,22 +34,7 @@ module _ (named : Named) (numbers : Numbers) (u : SourceUnit) where
   free_kind : (who : Option ℕ) (n : RawName) (k : NameKind) → IsTrue (is_free k) → StandsAs named numbers u who k n
   free_kind who n kind.Bounds h = tt
   free_kind who n (kind.Answer t) h = tt
-  free_kind who n (kind.Single t) h = absurd (cc)
-  free_kind who n (kind.Array t b) h = absurd (cc)
-  free_kind who n (kind.Table s) h = absurd (cc)
-  free_kind who n (kind.Element t e) h = absurd (cc)
-  free_kind who n (kind.Value t) h = absurd (cc)
-  free_kind who n (kind.Location t) h = absurd (cc)
-  free_kind who n (kind.ArrayParam t) h = absurd (cc)
-  free_kind who n (kind.TableParam s) h = absurd (cc)
-  free_kind who n kind.LabelParam h = absurd (cc)
-  free_kind who n kind.SwitchParam h = absurd (cc)
-  free_kind who n (kind.ProcParam t) h = absurd (cc)
-  free_kind who n kind.Label h = absurd (cc)
-  free_kind who n kind.Switch h = absurd (cc)
-  free_kind who n (kind.Proc t) h = absurd (cc)
-  free_kind who n kind.ReadByte h = absurd (cc)
-  free_kind who n kind.WriteByte h = absurd (cc)
+  free_kind who n _ h = absurd (cc)
 
   free_from : (owner : Option ℕ) (d : Declaration) → IsTrue (is_free d.kind) → StandsFrom named numbers u owner d
   free_from None d h = λ who n r. free_kind who n d.kind h
@@ -124,14 +109,7 @@ module _ (named : Named) (numbers : Numbers) (u : SourceUnit) where
         item h = item_from named numbers u owner d h (items.declared owner d h i)
 
         by_kind : (k : NameKind) → d.kind ≡ k → StandsFrom named numbers u owner d
-        by_kind (kind.Single t) e = item (ap is_item e)
-        by_kind (kind.Array t b) e = item (ap is_item e)
-        by_kind (kind.Table s) e = item (ap is_item e)
         by_kind (kind.Element t x) e = elements owner d (ap is_element e) i
-        by_kind (kind.Value t) e = item (ap is_item e)
-        by_kind (kind.Location t) e = item (ap is_item e)
-        by_kind (kind.ArrayParam t) e = item (ap is_item e)
-        by_kind (kind.TableParam s) e = item (ap is_item e)
         by_kind kind.LabelParam e = parameter_side owner d (ap is_control e) (sides owner d i)
         by_kind kind.SwitchParam e = parameter_side owner d (ap is_control e) (sides owner d i)
         by_kind (kind.ProcParam t) e = parameter_side owner d (ap is_control e) (sides owner d i)
@@ -142,6 +120,7 @@ module _ (named : Named) (numbers : Numbers) (u : SourceUnit) where
         by_kind kind.WriteByte e = built owner d (ap is_built_in e) i
         by_kind kind.Bounds e = free_from owner d (ap is_free e)
         by_kind (kind.Answer t) e = free_from owner d (ap is_free e)
+        by_kind _ e = item (ap is_item e)
 
     -- ---- each use
 

@@ -1,12 +1,8 @@
 -- Each ANSWER is that of the procedure in whose body it stands.
-use Rattle.std.proofs.Common.{◌≡◌, ◌⊎◌, inl, inr, ℕ, List, ◌++◌, Bool, true, false, IsTrue, Option, Some, None, slice_get, refl, sym, ap, subst, ◌∙◌}
+use Rattle.std.proofs.Common.{◌≡◌, ◌⊎◌, inl, inr, ℕ, ◌++◌, true, IsTrue, Option, Some, None, slice_get, sym, ap, subst, ◌∙◌}
 use Rattle.std.specs.Prelude.{option_map, option_and_then}
 use Rattle.cw_table.specs.Rows.{item_at}
 use Rattle.cw_tree.specs.declared.leaf.RawType.{RawType}
-use Rattle.cw_tree.specs.declared.statement.RawProc.{out-RawProc}
-use Rattle.cw_facts.specs.declared.fact.Declaration.{Declaration}
-use Rattle.cw_facts.specs.declared.fact.Form.{Form}
-use Rattle.cw_facts.specs.declared.fact.Form.TheVariants as form
 use Rattle.cw_facts.specs.declared.fact.Kind.{Kind as NameKind}
 use Rattle.cw_facts.specs.declared.fact.Kind.TheVariants as kind
 use Rattle.cw_facts.specs.declared.fact.Use.{Use}
@@ -15,13 +11,13 @@ use Rattle.cw_facts.specs.Text.{communicators_facts}
 use Rattle.cw_scope.specs.declared.resolve.Named.{Named}
 use Rattle.cw_scope.specs.NameRules.{fits, is_answer}
 use Rattle.cw_scale.specs.Kinds.{kind_in, kind_of, fraction_of_kind}
-use Rattle.cw_make_items.specs.Lookup.{Numbers, proc_in, proc_here}
+use Rattle.cw_make_items.specs.Lookup.{Numbers, proc_in}
 use Rattle.cw_make_items.specs.Types.{answer_of}
 use Rattle.cw_make.specs.Procedures.{proc_of}
 use Rattle.cw_unit.specs.declared.unit.Unit.{Unit as SourceUnit}
 use Rattle.cw_unit.specs.declared.unit.Proc.{Proc}
 use Rattle.cw_unit.specs.Scales.{fraction_of}
-use Rattle.cw_sound.specs.Uses.Mentions.{In, Mention, Here, here, declares, uses, listed_mentions, block_mentions, text_mentions}
+use Rattle.cw_sound.specs.Uses.Mentions.{In, Here, here, declares, uses, listed_mentions, block_mentions, text_mentions}
 use Rattle.cw_sound.specs.Names.Found.{Found, UsesFound}
 use Rattle.cw_sound.specs.Names.Standing.{AnswersFit}
 use Rattle.cw_sound.proofs.Names.Lists.{in_either, in_right}
@@ -56,43 +52,11 @@ module _ (named : Named) (numbers : Numbers) (u : SourceUnit) (found : UsesFound
 
   by_kind : (who owner : Option ℕ) (x : Use) (k : NameKind) → IsTrue (is_answer k) → kind_of named x.name ≡ Some k → (owner ≡ who) ⊎ (owner ≡ None) → OwnedKind numbers (block_mentions numbers named.raw.now) owner k → Result who x
   by_kind who owner x (kind.Answer t) h e near o = of_procedure who owner x t e near o
-  by_kind who owner x (kind.Single t) h e near o = absurd (cc)
-  by_kind who owner x (kind.Array t b) h e near o = absurd (cc)
-  by_kind who owner x (kind.Table s) h e near o = absurd (cc)
-  by_kind who owner x (kind.Element t y) h e near o = absurd (cc)
-  by_kind who owner x (kind.Value t) h e near o = absurd (cc)
-  by_kind who owner x (kind.Location t) h e near o = absurd (cc)
-  by_kind who owner x (kind.ArrayParam t) h e near o = absurd (cc)
-  by_kind who owner x (kind.TableParam s) h e near o = absurd (cc)
-  by_kind who owner x kind.LabelParam h e near o = absurd (cc)
-  by_kind who owner x kind.SwitchParam h e near o = absurd (cc)
-  by_kind who owner x (kind.ProcParam t) h e near o = absurd (cc)
-  by_kind who owner x kind.Label h e near o = absurd (cc)
-  by_kind who owner x kind.Switch h e near o = absurd (cc)
-  by_kind who owner x (kind.Proc t) h e near o = absurd (cc)
-  by_kind who owner x kind.ReadByte h e near o = absurd (cc)
-  by_kind who owner x kind.WriteByte h e near o = absurd (cc)
-  by_kind who owner x kind.Bounds h e near o = absurd (cc)
+  by_kind who owner x _ h e near o = absurd (cc)
 
   not_listed : (k : NameKind) → IsTrue (is_answer k) → IsTrue (is_listed k) → ⊥
   not_listed (kind.Answer t) a b = cc
-  not_listed (kind.Single t) a b = cc
-  not_listed (kind.Array t s) a b = cc
-  not_listed (kind.Table s) a b = cc
-  not_listed (kind.Element t e) a b = cc
-  not_listed (kind.Value t) a b = cc
-  not_listed (kind.Location t) a b = cc
-  not_listed (kind.ArrayParam t) a b = cc
-  not_listed (kind.TableParam s) a b = cc
-  not_listed kind.LabelParam a b = cc
-  not_listed kind.SwitchParam a b = cc
-  not_listed (kind.ProcParam t) a b = cc
-  not_listed kind.Label a b = cc
-  not_listed kind.Switch a b = cc
-  not_listed (kind.Proc t) a b = cc
-  not_listed kind.ReadByte a b = cc
-  not_listed kind.WriteByte a b = cc
-  not_listed kind.Bounds a b = cc
+  not_listed _ a b = cc
 
   pub answers_fit : AnswersFit named numbers u
   answers_fit who x i is =

@@ -1,6 +1,5 @@
 -- READBYTE and WRITEBYTE stand for themselves.
-use Rattle.std.proofs.Common.{◌≡◌, ◌≢◌, ◌⊎◌, inl, inr, ℕ, ◌+◌, ◌<◌, ◌≤◌, List, [], ◌∷◌, ◌++◌, map, Bool, true, false, cond, nat_eq, nat_le, IsTrue, ◌&&◌, ℤ, pos, int_le, Option, Some, None, refl, sym, ap, ap₂, subst, ◌∙◌, arith}
-use Rattle.std.specs.Prelude.{option_map, option_and_then}
+use Rattle.std.proofs.Common.{◌≡◌, ◌≢◌, ◌⊎◌, inl, inr, ℕ, ◌+◌, ◌<◌, List, [], ◌∷◌, ◌++◌, map, Bool, true, false, cond, nat_le, IsTrue, ◌&&◌, pos, int_le, Option, Some, None, refl, sym, ap, subst, ◌∙◌, arith}
 use Rattle.std.specs.declared.result.Result.TheVariants as result
 use Rattle.cw_table.specs.declared.table.Row.{Row}
 use Rattle.cw_table.specs.Rows.{item_at}
@@ -27,7 +26,7 @@ use Rattle.cw_scope.specs.Outcome.{Resolves}
 use Rattle.cw_scope.specs.Definitions.{fits_built_in, fits_built_in_if, answers_integer, answers_nothing, takes_nothing, takes_integer, is_integer_value}
 use Rattle.cw_scope.specs.Resolved.{text_declarations, text_signatures}
 use Rattle.cw_scope.specs.Same.{same_amount, same_signed}
-use Rattle.cw_scale.specs.Kinds.{kind_of, answer_fraction, fraction_of, fraction_in, fraction_of_sint}
+use Rattle.cw_scale.specs.Kinds.{kind_of, answer_fraction, fraction_in, fraction_of_sint}
 use Rattle.cw_amount.specs.Amounts.{whole, octal, int_amount, is_negative, signed_if, sint_amount, word_of, place_amount}
 use Rattle.std.proofs.lemmas.Bool.Decides.{nat_tests}
 use Rattle.cw_items.specs.Things.{text_things}
@@ -35,16 +34,16 @@ use Rattle.cw_number.specs.declared.listed.Listing.{Listing}
 use Rattle.cw_number.specs.declared.numbered.Numbered.{Numbered}
 use Rattle.cw_number.specs.declared.numbered.Numbered.TheVariants as numbered
 use Rattle.cw_number.specs.Listed.{listed_of}
-use Rattle.cw_number.specs.Numbers.{item_rows, listed_rows, declared_rows, none_counted, built_in_number, own_number, declared_number, begin_of, numbers_of}
+use Rattle.cw_number.specs.Numbers.{item_rows, listed_rows, declared_rows, none_counted, built_in_number, own_number, begin_of, numbers_of}
 use Rattle.cw_make_expr.specs.Parts.{target_of}
 use Rattle.cw_make_items.specs.Lookup.{Numbers}
 use Rattle.cw_make_items.specs.Descriptors.{descs_of}
 use Rattle.cw_unit.specs.declared.unit.Unit.{Unit as SourceUnit}
 use Rattle.cw_unit.specs.declared.descriptor.Desc.{Desc}
 use Rattle.cw_unit.specs.Scales.{answer_scale}
-use Rattle.cw_safety.specs.Kinds.{Kind, WordKind}
-use Rattle.cw_sound.specs.Uses.Mentions.{In, Mention, Here, here, declares as declared, facts_mentions, listed_mentions, text_mentions}
-use Rattle.cw_sound.specs.Uses.Stands.{StandsAs, Called, IsReader, IsWriter, kind_specified}
+use Rattle.cw_safety.specs.Kinds.{WordKind}
+use Rattle.cw_sound.specs.Uses.Mentions.{In, Here, here, declares as declared, facts_mentions, listed_mentions, text_mentions}
+use Rattle.cw_sound.specs.Uses.Stands.{StandsAs, kind_specified}
 use Rattle.cw_sound.specs.Names.Placed.{Placed, tokens, Each, Differ}
 use Rattle.cw_sound.specs.Names.Found.{Refers}
 use Rattle.cw_sound.specs.Names.Standing.{is_other, is_built_in, StandsIn, StandsFrom, Stand, ItemsStand}
@@ -55,7 +54,6 @@ use Rattle.cw_sound.proofs.Names.MentionsOf.{declared_first, specified_first, si
 use Rattle.cw_sound.proofs.Names.Sorts.{of_kind}
 use Rattle.cw_sound.proofs.Names.ListedRows.{numbered_rows}
 use Rattle.cw_sound.proofs.Names.Counting.{behind_none, lt_true, steps, declared_at}
-use Rattle.cw_sound.proofs.Names.PartKinds.{is_data}
 use Rattle.cw_sound.proofs.Names.ListedParts as listed
 use Rattle.cw_sound.proofs.Names.ListedParts.{Listed, is_special, communicators_parts}
 use Rattle.cw_sound.proofs.Names.ListedNumbers.{differ_parts, declarations_append, tokens_append, listed_each, each_map, each_both}
@@ -93,7 +91,6 @@ module _ (numbers : Numbers) where
   either (inr y) h k = k y
 
   rows_apart : {fs : List Fact} {rs : List (Row Listing)} {ds : List Desc} → Listed fs rs ds → Differ (tokens (text_declarations fs)) → (q owner : Option ℕ) (d : Declaration) → In (here owner (declared d)) (facts_mentions numbers fs q) → IsTrue (is_special d.kind) → Each (λ s. s ≢ d.name.at.token) (tokens rs)
-  rows_apart listed.none differ q owner d i h = tt
   rows_apart (listed.also {fs} {gs} {rs} {qs} a b) differ q owner d i h =
       let t : ℕ = d.name.at.token in
       let parts = differ_parts (tokens (text_declarations fs)) (tokens (text_declarations gs)) (subst Differ (ap tokens (declarations_append fs gs) ∙ tokens_append (text_declarations fs) (text_declarations gs)) differ) in
@@ -105,13 +102,11 @@ module _ (numbers : Numbers) where
       (λ j. each_both (λ s. s ≢ t) (tokens rs) (tokens qs)
       (listed_each a (λ s. s ≢ t) (each_map (λ x. Each (λ y. x ≢ y) (tokens (text_declarations gs))) (λ x. x ≢ t) (tokens (text_declarations fs)) (λ x k. each_row (λ y. x ≢ y) (text_declarations gs) k (row d) (in_row gs q owner d j)) parts.2))
       (rows_apart b parts.1 q owner d j h)))
-  rows_apart (listed.used x) differ q owner d i h = tt
   rows_apart (listed.stored n k x e w) differ q owner d i h = absurd (alone_other n k q owner d (data_kind k e) i h)
-  rows_apart (listed.unlisted n k e) differ q owner d i h = tt
   rows_apart (listed.label n) differ q owner d i h = absurd (alone_other n kind.Label q owner d refl i h)
   rows_apart (listed.switch n) differ q owner d i h = absurd (alone_other n kind.Switch q owner d refl i h)
   rows_apart (listed.procedure l s) differ q owner d i h = absurd (spec_other (kind.Proc s.answer) s q owner d refl i h)
-  rows_apart (listed.special k s e) differ q owner d i h = tt
+  rows_apart _ differ q owner d i h = tt
 
 none_apart : {T : Type 0} → (rs : List (Row T)) (t : ℕ) → Each (λ s. s ≢ t) (tokens rs) → item_at rs t ≡ None
 none_apart [] t h = refl
@@ -129,11 +124,7 @@ no_params (p ∷ more) h = absurd (cc)
 
 one_value : (p : RawIps) → IsTrue (is_integer_value p) → kind_specified (ps.Plain p) ≡ WordKind
 one_value (inner.Value at t) h = refl
-one_value (inner.Location at t) h = absurd (cc)
-one_value (inner.Array t) h = absurd (cc)
-one_value (inner.Table at s) h = absurd (cc)
-one_value (inner.Label at) h = absurd (cc)
-one_value (inner.Switch at) h = absurd (cc)
+one_value _ h = absurd (cc)
 
 one_word : (params : List RawPs) → IsTrue (takes_integer params) → map kind_specified params ≡ WordKind ∷ []
 one_word [] h = absurd (cc)
@@ -185,21 +176,7 @@ special_of : (k : NameKind) → IsTrue (is_built_in k) → IsTrue (is_special k)
 special_of kind.ReadByte h = refl
 special_of kind.WriteByte h = refl
 special_of kind.Bounds h = refl
-special_of (kind.Single t) h = absurd (cc)
-special_of (kind.Array t b) h = absurd (cc)
-special_of (kind.Table s) h = absurd (cc)
-special_of (kind.Element t e) h = absurd (cc)
-special_of (kind.Value t) h = absurd (cc)
-special_of (kind.Location t) h = absurd (cc)
-special_of (kind.ArrayParam t) h = absurd (cc)
-special_of (kind.TableParam s) h = absurd (cc)
-special_of kind.LabelParam h = absurd (cc)
-special_of kind.SwitchParam h = absurd (cc)
-special_of (kind.ProcParam t) h = absurd (cc)
-special_of kind.Label h = absurd (cc)
-special_of kind.Switch h = absurd (cc)
-special_of (kind.Proc t) h = absurd (cc)
-special_of (kind.Answer t) h = absurd (cc)
+special_of _ h = absurd (cc)
 
 module _ (named : Named) (numbers : Numbers) (u : SourceUnit) (resolves : Resolves named.raw.now (result.Ok named)) (placed : Placed named.raw.now) (items : ItemsStand named numbers u) (is : numbers ≡ numbers_of named) where
   abbrev comms : List Fact
@@ -282,22 +259,7 @@ module _ (named : Named) (numbers : Numbers) (u : SourceUnit) (resolves : Resolv
     by_kind : (k : NameKind) → d.kind ≡ k → IsTrue (is_built_in k) → ToldKind numbers named.signatures rows (descs_of numbers rows (text_things named named.raw.now) named.raw.now.comms) d.name k → (who : Option ℕ) → StandsIn named numbers u who d
     by_kind kind.ReadByte e b t who n r = subst (λ z. StandsAs named numbers u who z n) (sym e) (reads e t who n r)
     by_kind kind.WriteByte e b t who n r = subst (λ z. StandsAs named numbers u who z n) (sym e) (writes e t who n r)
-    by_kind (kind.Single t) e b x who n r = absurd (cc)
-    by_kind (kind.Array t s) e b x who n r = absurd (cc)
-    by_kind (kind.Table s) e b x who n r = absurd (cc)
-    by_kind (kind.Element t y) e b x who n r = absurd (cc)
-    by_kind (kind.Value t) e b x who n r = absurd (cc)
-    by_kind (kind.Location t) e b x who n r = absurd (cc)
-    by_kind (kind.ArrayParam t) e b x who n r = absurd (cc)
-    by_kind (kind.TableParam s) e b x who n r = absurd (cc)
-    by_kind kind.LabelParam e b x who n r = absurd (cc)
-    by_kind kind.SwitchParam e b x who n r = absurd (cc)
-    by_kind (kind.ProcParam t) e b x who n r = absurd (cc)
-    by_kind kind.Label e b x who n r = absurd (cc)
-    by_kind kind.Switch e b x who n r = absurd (cc)
-    by_kind (kind.Proc t) e b x who n r = absurd (cc)
-    by_kind kind.Bounds e b x who n r = absurd (cc)
-    by_kind (kind.Answer t) e b x who n r = absurd (cc)
+    by_kind _ e b x who n r = absurd (cc)
 
   by_owner : (d : Declaration) (o : Option ℕ) → ((who : Option ℕ) → StandsIn named numbers u who d) → StandsFrom named numbers u o d
   by_owner d None s = s

@@ -1,5 +1,5 @@
 -- READBYTE, WRITEBYTE and BOUNDS are listed by a LIBRARY, as they are specified.
-use Rattle.std.proofs.Common.{◌≡◌, ◌≢◌, ◌⊎◌, inl, inr, ℕ, List, [], ◌∷◌, ◌++◌, map, Bool, true, false, not, nat_eq, IsTrue, ◌&&◌, Option, Some, None, is_some, refl, sym, ap, ap₂, subst, ◌∙◌}
+use Rattle.std.proofs.Common.{◌≡◌, ◌⊎◌, inl, inr, ℕ, List, [], ◌∷◌, ◌++◌, map, Bool, true, false, not, nat_eq, IsTrue, ◌&&◌, Option, Some, None, is_some, refl, sym, ap, ap₂, subst, ◌∙◌}
 use Rattle.std.proofs.lemmas.Bool.{eqb-true}
 use Rattle.std.proofs.lemmas.Option.{same_Some}
 use Rattle.std.specs.declared.result.Result.TheVariants as result
@@ -18,13 +18,13 @@ use Rattle.cw_facts.specs.declared.fact.Signature.{Signature}
 use Rattle.cw_facts.specs.declared.fact.Use.{Use}
 use Rattle.cw_tree.specs.declared.leaf.RawType.{RawType}
 use Rattle.cw_tree.specs.declared.statement.RawProc.{out-RawProc}
-use Rattle.cw_facts.specs.Facts.{declares, specifies, each_uses, data_facts, block_facts, answer_facts, parameters_facts}
+use Rattle.cw_facts.specs.Facts.{declares, specifies, each_uses, block_facts}
 use Rattle.cw_facts.specs.Text.{spec_facts, communicators_facts, text_facts}
 use Rattle.cw_scope.specs.declared.resolve.Named.{Named}
 use Rattle.cw_scope.specs.declared.fault.Rule.TheVariants as rule
 use Rattle.cw_scope.specs.Outcome.{Resolves}
 use Rattle.cw_scope.specs.NameRules.{Said, said, said_step, all_declared, is_procedure}
-use Rattle.cw_scope.specs.Definitions.{answers_nothing, takes_nothing, Defined, defined, defined_step, each_listed, fits_built_in_if, definitions_judged}
+use Rattle.cw_scope.specs.Definitions.{answers_nothing, takes_nothing, Defined, defined, defined_step, each_listed, fits_built_in_if}
 use Rattle.cw_scope.specs.Resolved.{text_signatures}
 use Rattle.cw_scale.specs.Arguments.{answers_alone, takes_none}
 use Rattle.cw_number.specs.declared.listed.Listing.{Listing}
@@ -35,8 +35,8 @@ use Rattle.cw_unit.specs.declared.unit.Proc.{Proc}
 use Rattle.cw_unit.specs.declared.unit.Switch.{Switch}
 use Rattle.cw_unit.specs.declared.descriptor.Desc.{Desc}
 use Rattle.cw_items.specs.declared.thing.Thing.{Thing}
-use Rattle.cw_sound.specs.Uses.Mentions.{In, Mention, Here, here, declares as declared, uses, stores, fact_mentions, facts_mentions, listed_mentions, block_mentions, text_mentions}
-use Rattle.cw_sound.specs.Names.Placed.{Placed, tokens, Differ}
+use Rattle.cw_sound.specs.Uses.Mentions.{In, Mention, Here, here, declares as declared, uses, stores, facts_mentions, listed_mentions, block_mentions, text_mentions}
+use Rattle.cw_sound.specs.Names.Placed.{Placed}
 use Rattle.cw_sound.specs.Names.Standing.{AnswersAreCalled}
 use Rattle.cw_sound.proofs.Names.Parts as part
 use Rattle.cw_sound.proofs.Names.Parts.{Part}
@@ -46,8 +46,8 @@ use Rattle.cw_sound.proofs.Names.NoDefinitionFaults.{definitions_keep}
 use Rattle.cw_sound.proofs.Names.FoundRows.{at_first, at_later}
 use Rattle.cw_sound.proofs.Names.Rows.{mentions_append}
 use Rattle.cw_sound.proofs.Names.MentionsOf.{declared_first, specified_first, block_alone, of_use}
-use Rattle.cw_sound.proofs.Names.InProcedure.{IsParameter, is_parameter, parameters_say, answer_says}
-use Rattle.cw_sound.proofs.Names.PartKinds.{IsData, IsPlain, is_data, data_say, uses_say, shape, answers, params, body, first_mention, within_it}
+use Rattle.cw_sound.proofs.Names.InProcedure.{is_parameter, parameters_say, answer_says}
+use Rattle.cw_sound.proofs.Names.PartKinds.{is_data, data_say, uses_say, shape, answers, params, body, first_mention, within_it, data_not, parameter_not, plain_not}
 use Rattle.cw_sound.proofs.Names.Sorts.{of_kind}
 use Rattle.cw_sound.proofs.Names.UsesFound.{no_faults, is_declared}
 use Rattle.cw_sound.proofs.Names.TreeParts.{block_parts}
@@ -68,11 +68,7 @@ module _ (sigs : List (Row Signature)) where
   fits : (x : Fact-F Fact) → FitsSaid (said_step (map-Fact Fact Said said x)) (defined_step sigs (map-Fact Fact (Defined sigs) (defined sigs) x))
   fits (layer.Declares c) cs d (inl e) f = subst Fits e (holds (fits_built_in_if c.kind (item_at sigs c.name.at.token)) rule.SpecDiffers c.name f)
   fits (layer.Declares c) cs d (inr h) f = absurd h
-  fits (layer.Uses x) cs d h f = absurd h
-  fits (layer.Specifies token s) cs d h f = absurd h
-  fits (layer.Loop at) cs d h f = absurd h
-  fits (layer.Text at n) cs d h f = absurd h
-  fits (layer.Block owner xs) cs d h f = absurd h
+  fits _ cs d h f = absurd h
 
   fact_fits : (f : Fact) → FitsSaid (said f) (defined sigs f)
   fact_fits = ind-Fact (λ f. FitsSaid (said f) (defined sigs f)) (λ x y is.
@@ -166,21 +162,6 @@ parameter_kind kind.WriteByte h = absurd (cc)
 parameter_kind kind.Bounds h = absurd (cc)
 parameter_kind _ h = refl
 
-data_so : (m : Mention) → IsData m → of_kind is_special m ≡ false
-data_so (declared d) h = data_kind d.kind h
-data_so (uses x) h = refl
-data_so (stores token n) h = refl
-
-parameter_so : (m : Mention) → IsParameter m → of_kind is_special m ≡ false
-parameter_so (declared d) h = parameter_kind d.kind h
-parameter_so (uses x) h = refl
-parameter_so (stores token n) h = refl
-
-plain_so : (m : Mention) → IsPlain m → of_kind is_special m ≡ false
-plain_so (declared d) h = absurd (cc)
-plain_so (uses x) h = refl
-plain_so (stores token n) h = refl
-
 module _ (named : Named) (numbers : Numbers) where
   abbrev Without : List Here → Type 0
   Without ms = (m : Here) → In m ms → of_kind is_special m.mention ≡ false
@@ -197,19 +178,19 @@ module _ (named : Named) (numbers : Numbers) where
   pub part_without : {fs : List Fact} {ws : Option ℕ → List Switch} {ps : List Proc} {s : ℕ → Bool} → Part named numbers fs ws ps s → (q : Option ℕ) → Without (facts_mentions numbers fs q)
   part_without part.empty q = λ m i. absurd i
   part_without (part.both {fs} {gs} a b) q = subst Without (sym (mentions_append numbers fs gs q)) (append_without (facts_mentions numbers fs q) (facts_mentions numbers gs q) (part_without a q) (part_without b q))
-  part_without (part.plain {fs} h) q = λ m i. plain_so m.mention (h.mentions q m i).1
-  part_without (part.items d) q = λ m i. data_so m.mention (data_say numbers d q m i).1
+  part_without (part.plain {fs} h) q = λ m i. plain_not is_special m.mention (h.mentions q m i).1
+  part_without (part.items d) q = λ m i. data_not is_special data_kind m.mention (data_say numbers d q m i).1
   part_without (part.label n) q = subst Without (sym (declared_first numbers n kind.Label [] q)) (first_without q (declared (record { name = n; kind = kind.Label })) [] refl (λ m i. absurd i))
   part_without (part.switch n labels) q =
       subst Without (sym (declared_first numbers n kind.Switch (each_uses labels) q))
-      (first_without q (declared (record { name = n; kind = kind.Switch })) (facts_mentions numbers (each_uses labels) q) refl (λ m i. plain_so m.mention (uses_say numbers labels q m i).1))
+      (first_without q (declared (record { name = n; kind = kind.Switch })) (facts_mentions numbers (each_uses labels) q) refl (λ m i. plain_not is_special m.mention (uses_say numbers labels q m i).1))
   part_without (part.block {fs} a) q = subst Without (sym (block_alone numbers None fs q)) (part_without a q)
   part_without (part.procedure p {fs} a) q =
       let who : Option ℕ = within_it named numbers p fs q in
       subst Without (sym (shape named numbers p fs q))
       (first_without q (first_mention named numbers p fs q).mention (answers named numbers p fs q ++ (params named numbers p fs q ++ body named numbers p fs q)) refl
-      (append_without (answers named numbers p fs q) (params named numbers p fs q ++ body named numbers p fs q) (λ m i. parameter_so m.mention (answer_says numbers (out-RawProc p).answer who m i).1)
-      (append_without (params named numbers p fs q) (body named numbers p fs q) (λ m i. parameter_so m.mention (parameters_say numbers (out-RawProc p).params who m i).1) (part_without a who))))
+      (append_without (answers named numbers p fs q) (params named numbers p fs q ++ body named numbers p fs q) (λ m i. parameter_not is_special parameter_kind m.mention (answer_says numbers (out-RawProc p).answer who m i).1)
+      (append_without (params named numbers p fs q) (body named numbers p fs q) (λ m i. parameter_not is_special parameter_kind m.mention (parameters_say numbers (out-RawProc p).params who m i).1) (part_without a who))))
   part_without (part.more h a) q = part_without a q
 
 -- ---- what answers by itself is called
@@ -285,19 +266,7 @@ module _ (named : Named) (numbers : Numbers) (things : List Thing) (resolves : R
   called_kind kind.ReadByte s h f a = refl
   called_kind kind.WriteByte s h f a = refl
   called_kind kind.Bounds s h f a = absurd (nothing_answered s (f refl) a)
-  called_kind (kind.Single t) s h f a = absurd (cc)
-  called_kind (kind.Array t b) s h f a = absurd (cc)
-  called_kind (kind.Table z) s h f a = absurd (cc)
-  called_kind (kind.Element t e) s h f a = absurd (cc)
-  called_kind (kind.Value t) s h f a = absurd (cc)
-  called_kind (kind.Location t) s h f a = absurd (cc)
-  called_kind (kind.ArrayParam t) s h f a = absurd (cc)
-  called_kind (kind.TableParam z) s h f a = absurd (cc)
-  called_kind kind.LabelParam s h f a = absurd (cc)
-  called_kind kind.SwitchParam s h f a = absurd (cc)
-  called_kind kind.Label s h f a = absurd (cc)
-  called_kind kind.Switch s h f a = absurd (cc)
-  called_kind (kind.Answer t) s h f a = absurd (cc)
+  called_kind _ s h f a = absurd (cc)
 
   pub answers_called : AnswersAreCalled named numbers
   answers_called owner d i h = by_signature (item_at named.signatures d.name.at.token) refl h

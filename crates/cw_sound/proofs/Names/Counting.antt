@@ -1,10 +1,9 @@
 -- Each declaration of the outermost block has the next number of its sort.
-use Rattle.std.proofs.Common.{◌≡◌, ◌≢◌, ◌⊎◌, inl, inr, ℕ, ◌<◌, ◌≤◌, List, [], ◌∷◌, ◌++◌, Bool, true, false, cond, if◌then◌else◌, IsTrue, nat_eq, nat_lt, Option, Some, None, refl, sym, ap, ap₂, subst, ◌∙◌, arith, append_assoc}
-use Rattle.std.specs.Prelude.{find, option_map}
+use Rattle.std.proofs.Common.{◌≡◌, ◌≢◌, ℕ, ◌<◌, ◌≤◌, List, [], ◌∷◌, ◌++◌, Bool, true, false, cond, IsTrue, nat_eq, nat_lt, Option, Some, None, refl, sym, ap, subst, ◌∙◌, arith, append_assoc}
 use Rattle.std.specs.declared.result.Result.TheVariants as result
 use Rattle.std.proofs.lemmas.Bool.Decides.{nat_tests}
 use Rattle.cw_table.specs.declared.table.Row.{Row}
-use Rattle.cw_table.specs.Rows.{item_at, stands_at, item_of}
+use Rattle.cw_table.specs.Rows.{item_at}
 use Rattle.cw_facts.specs.declared.fact.Declaration.{Declaration}
 use Rattle.cw_facts.specs.declared.fact.Kind.{Kind as NameKind}
 use Rattle.cw_facts.specs.declared.fact.Kind.TheVariants as kind
@@ -17,10 +16,10 @@ use Rattle.cw_number.specs.declared.numbered.Numbered.{Numbered}
 use Rattle.cw_number.specs.declared.numbers.Counts.{Counts}
 use Rattle.cw_number.specs.Listed.{listed_of}
 use Rattle.cw_number.specs.Numbers.{item_rows, listed_rows, row_if, own_number, counted, none_counted, declared_number, counted_after, declared_rows, built_in_number, begin_of, numbers_of}
-use Rattle.cw_sound.specs.Uses.Mentions.{In, Mention, Here, here, declares, uses, stores, facts_mentions, listed_mentions, block_mentions, text_mentions}
+use Rattle.cw_sound.specs.Uses.Mentions.{In, Mention, Here, here, declares, uses, stores, listed_mentions, block_mentions, text_mentions}
 use Rattle.cw_sound.specs.Names.Placed.{Placed, tokens, Each, Differ}
 use Rattle.cw_sound.specs.Names.Standing.{is_other, counted_by, counted_from, CountsOwn}
-use Rattle.cw_sound.proofs.Names.Lists.{in_middle, in_left, in_right}
+use Rattle.cw_sound.proofs.Names.Lists.{in_middle, in_right}
 use Rattle.cw_sound.proofs.Names.FoundRows.{eq_same, eq_other, at_first, at_later, each_row}
 use Rattle.cw_sound.proofs.Names.Rows.{row, rows_of, rows_in, rows_append, in_rows, facts_rows, mentions_append}
 use Rattle.cw_sound.proofs.Names.ListedRows.{rows_first, communicators_rows, numbered_rows}
@@ -105,21 +104,12 @@ no_item : (c : Counts) (k : NameKind) (n : Numbered) → own_number c k ≡ Some
 no_item c (kind.Single t) n e = absurd (cc)
 no_item c (kind.Array t b) n e = absurd (cc)
 no_item c (kind.Table s) n e = absurd (cc)
-no_item c (kind.Element t x) n e = refl
 no_item c (kind.Value t) n e = absurd (cc)
 no_item c (kind.Location t) n e = absurd (cc)
 no_item c (kind.ArrayParam t) n e = absurd (cc)
 no_item c (kind.TableParam s) n e = absurd (cc)
-no_item c kind.LabelParam n e = refl
-no_item c kind.SwitchParam n e = refl
-no_item c (kind.ProcParam t) n e = refl
-no_item c kind.Label n e = refl
-no_item c kind.Switch n e = refl
-no_item c (kind.Proc t) n e = refl
-no_item c kind.ReadByte n e = refl
-no_item c kind.WriteByte n e = refl
-no_item c kind.Bounds n e = refl
 no_item c (kind.Answer t) n e = absurd (cc)
+no_item c _ n e = refl
 
 -- ---- the text
 

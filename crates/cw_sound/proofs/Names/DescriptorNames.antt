@@ -1,14 +1,14 @@
 -- The descriptors of a text have names, no two the same.
-use Rattle.std.proofs.Common.{◌≡◌, ◌≢◌, ◌⊎◌, inl, inr, ℕ, List, [], ◌∷◌, ◌++◌, map, Bool, true, false, cond, IsTrue, ◌&&◌, ◌||◌, not, ◌==◌, Option, Some, None, refl, sym, ap, ap₂, subst, ◌∙◌, arith, append_assoc}
+use Rattle.std.proofs.Common.{◌≡◌, ◌≢◌, ◌⊎◌, inl, inr, ℕ, List, [], ◌∷◌, ◌++◌, map, Bool, true, false, cond, IsTrue, ◌&&◌, ◌||◌, not, ◌==◌, Option, Some, None, refl, sym, ap, subst, ◌∙◌, append_assoc}
 use Rattle.std.specs.Prelude.{find}
 use Rattle.std.specs.Str.{bytes_eq}
-use Rattle.std.specs.Cmp.Lexicographic.{pointwise, bytes_decides}
+use Rattle.std.specs.Cmp.Lexicographic.{bytes_decides}
 use Rattle.std.proofs.lemmas.Bool.{eqb-true}
 use Rattle.std.proofs.lemmas.Option.{same_Some}
 use Rattle.std.specs.declared.result.Result.TheVariants as result
 use Rattle.cw_table.specs.declared.table.Row.{Row}
 use Rattle.cw_tree.specs.declared.leaf.RawName.{RawName}
-use Rattle.cw_facts.specs.declared.fact.Fact.{Fact, Fact-F, map-Fact, roll-Fact}
+use Rattle.cw_facts.specs.declared.fact.Fact.{Fact, Fact-F, map-Fact}
 use Rattle.cw_facts.specs.declared.fact.Fact.TheFolds.{fold-roll-Fact, ind-Fact}
 use Rattle.cw_facts.specs.declared.fact.Fact.TheOpen as layer
 use Rattle.cw_facts.specs.declared.fact.Fact.TheVariants as fact
@@ -26,7 +26,7 @@ use Rattle.cw_number.specs.declared.listed.Listing.{Listing}
 use Rattle.cw_unit.specs.declared.descriptor.Desc.{Desc}
 use Rattle.cw_built.specs.Listed.{is_empty, lists_name, are_named}
 use Rattle.cw_built.proofs.Apart.{name-equal}
-use Rattle.cw_sound.specs.Uses.Mentions.{In, Here, here, facts_mentions}
+use Rattle.cw_sound.specs.Uses.Mentions.{In, facts_mentions}
 use Rattle.cw_sound.specs.Names.Placed.{Placed, tokens, Each, Differ}
 use Rattle.cw_sound.proofs.Names.Lists.{in_left, in_right, in_either}
 use Rattle.cw_sound.proofs.Names.NoFaults.{parts, holds, facts_keep}
@@ -39,7 +39,7 @@ use Rattle.cw_sound.proofs.Names.Rows.{row, in_rows, facts_rows}
 use Rattle.cw_sound.proofs.Names.Resolving.{block_mentioned}
 use Rattle.cw_sound.proofs.Names.UsesFound.{no_faults}
 use Rattle.cw_sound.proofs.Names.ListedNumbers.{listed_differ, declarations_append, differ_parts, tokens_append}
-use Rattle.cw_sound.proofs.Names.ListedParts.{communicators_parts, Listed, none, also, used, stored, unlisted, label, switch, procedure, special}
+use Rattle.cw_sound.proofs.Names.ListedParts.{communicators_parts, Listed, also, stored, label, switch, procedure}
 
 -- ---- what is declared is declared once
 
@@ -49,11 +49,7 @@ Once s = (env : Environment) (d : Declaration) → In d s.declared → s.faults 
 once : (x : Fact-F Fact) → Once (said_step (map-Fact Fact Said said x))
 once (layer.Declares c) env d (inl e) f = subst (λ z. repeat_faults (declared_in (own_block env) z.name.name) z None ≡ None) e f
 once (layer.Declares c) env d (inr h) f = absurd h
-once (layer.Uses x) env d h f = absurd h
-once (layer.Specifies token s) env d h f = absurd h
-once (layer.Loop at) env d h f = absurd h
-once (layer.Text at n) env d h f = absurd h
-once (layer.Block owner xs) env d h f = absurd h
+once _ env d h f = absurd h
 
 fact_once : (f : Fact) → Once (said f)
 fact_once = ind-Fact (λ f. Once (said f)) (λ x y is. subst Once (sym (fold-roll-Fact Said said_step x)) (once x))
@@ -125,17 +121,14 @@ module _ (cs : List Declaration) where
   names_both (r ∷ rs) qs (d ∷ ds) es h k = (h.0, names_both rs qs ds es h.1 k)
 
   pub names_at : {fs : List Fact} {rs : List (Row Listing)} {ds : List Desc} → Listed fs rs ds → AllFirst fs → NamesAt rs ds
-  names_at none h = tt
   names_at (also {fs} {gs} {rs} {qs} {ds} {es} a b) h =
       let both_first = λ (d : Declaration) (i : In d (all_declared (map said fs) ++ all_declared (map said gs))). h d (subst (In d) (sym (declared_append fs gs)) i) in
       names_both rs qs ds es (names_at a (λ d i. both_first d (in_left d (all_declared (map said fs)) (all_declared (map said gs)) i))) (names_at b (λ d i. both_first d (in_right d (all_declared (map said fs)) (all_declared (map said gs)) i)))
-  names_at (used x) h = tt
   names_at (stored n k d e w) h = (subst (λ z. FirstAt z n.at.token) (sym w) (h (record { name = n; kind = k }) (declares_it n k [])), tt)
-  names_at (unlisted n k e) h = tt
   names_at (label n) h = (h (record { name = n; kind = kind.Label }) (declares_it n kind.Label []), tt)
   names_at (switch n) h = (h (record { name = n; kind = kind.Switch }) (declares_it n kind.Switch []), tt)
   names_at (procedure l s) h = (h (record { name = s.name; kind = kind.Proc s.answer }) (declares_it s.name (kind.Proc s.answer) (specifies s.name.at.token s.answer s.params ∷ [])), tt)
-  names_at (special k s e) h = tt
+  names_at _ h = tt
 
   other_name : (name : List ℕ) (t : ℕ) (x : Desc) (s : ℕ) → FirstAt name t → FirstAt x.name s → t ≢ s → (b : Bool) → bytes_eq name x.name ≡ b → b ≡ false
   other_name name t x s a c differ true e = absurd (differ (same_token name t s a (subst (λ n. FirstAt n s) (sym (name-equal name x.name e)) c)))

@@ -1,5 +1,5 @@
 -- Each element stands for one of a table that its body may name.
-use Rattle.std.proofs.Common.{◌≡◌, ◌⊎◌, inl, inr, ℕ, List, [], ◌∷◌, ◌++◌, true, false, IsTrue, Option, Some, None, refl, sym, ap, subst, ◌∙◌}
+use Rattle.std.proofs.Common.{◌≡◌, ◌⊎◌, inl, inr, ℕ, true, IsTrue, Option, Some, None, refl, sym, ap, subst}
 use Rattle.std.specs.Prelude.{option_map}
 use Rattle.std.specs.declared.result.Result.TheVariants as result
 use Rattle.cw_table.specs.Rows.{item_at}
@@ -16,10 +16,9 @@ use Rattle.cw_scale.specs.Kinds.{kind_in}
 use Rattle.cw_make_expr.specs.Parts.{kind_here}
 use Rattle.cw_make_items.specs.Lookup.{Numbers}
 use Rattle.cw_unit.specs.declared.unit.Unit.{Unit as SourceUnit}
-use Rattle.cw_sound.specs.Uses.Mentions.{In, Mention, Here, here, declares, text_mentions}
+use Rattle.cw_sound.specs.Uses.Mentions.{In, here, declares, text_mentions}
 use Rattle.cw_sound.specs.Uses.Stands.{StandsAs, IsTable, IsItem}
 use Rattle.cw_sound.specs.Names.Placed.{Placed}
-use Rattle.cw_sound.specs.Names.Found.{Refers}
 use Rattle.cw_sound.specs.Names.Standing.{is_item, is_element, StandsFrom, Stand, ItemsStand, IsItemFrom}
 use Rattle.cw_sound.proofs.Names.UsesFound.{is_declared}
 use Rattle.cw_sound.proofs.Names.TreeParts.{block_parts}
@@ -28,22 +27,7 @@ use Rattle.cw_sound.proofs.Names.Tables.{is_table, TabledKind, Tabled, tabled_bo
 table_item : (k : NameKind) → IsTrue (is_table k) → IsTrue (is_item k)
 table_item (kind.Table s) h = refl
 table_item (kind.TableParam s) h = refl
-table_item (kind.Single t) h = absurd (cc)
-table_item (kind.Array t b) h = absurd (cc)
-table_item (kind.Value t) h = absurd (cc)
-table_item (kind.Location t) h = absurd (cc)
-table_item (kind.ArrayParam t) h = absurd (cc)
-table_item (kind.Element t e) h = absurd (cc)
-table_item kind.LabelParam h = absurd (cc)
-table_item kind.SwitchParam h = absurd (cc)
-table_item (kind.ProcParam t) h = absurd (cc)
-table_item kind.Label h = absurd (cc)
-table_item kind.Switch h = absurd (cc)
-table_item (kind.Proc t) h = absurd (cc)
-table_item kind.ReadByte h = absurd (cc)
-table_item kind.WriteByte h = absurd (cc)
-table_item kind.Bounds h = absurd (cc)
-table_item (kind.Answer t) h = absurd (cc)
+table_item _ h = absurd (cc)
 
 module _ (named : Named) (numbers : Numbers) (u : SourceUnit) (resolves : Resolves named.raw.now (result.Ok named)) (placed : Placed named.raw.now) (items : ItemsStand named numbers u) where
   all_tabled : Tabled numbers (text_facts named.raw.now)
@@ -53,22 +37,7 @@ module _ (named : Named) (numbers : Numbers) (u : SourceUnit) (resolves : Resolv
   sized : (token : ℕ) (k : NameKind) → IsTrue (is_table k) → kind_here named token ≡ Some k → (s : RawSize) × ((kind_here named token ≡ Some (kind.Table s)) ⊎ (kind_here named token ≡ Some (kind.TableParam s)))
   sized token (kind.Table s) h e = (s, inl e)
   sized token (kind.TableParam s) h e = (s, inr e)
-  sized token (kind.Single t) h e = absurd (cc)
-  sized token (kind.Array t b) h e = absurd (cc)
-  sized token (kind.Element t x) h e = absurd (cc)
-  sized token (kind.Value t) h e = absurd (cc)
-  sized token (kind.Location t) h e = absurd (cc)
-  sized token (kind.ArrayParam t) h e = absurd (cc)
-  sized token kind.LabelParam h e = absurd (cc)
-  sized token kind.SwitchParam h e = absurd (cc)
-  sized token (kind.ProcParam t) h e = absurd (cc)
-  sized token kind.Label h e = absurd (cc)
-  sized token kind.Switch h e = absurd (cc)
-  sized token (kind.Proc t) h e = absurd (cc)
-  sized token kind.ReadByte h e = absurd (cc)
-  sized token kind.WriteByte h e = absurd (cc)
-  sized token kind.Bounds h e = absurd (cc)
-  sized token (kind.Answer t) h e = absurd (cc)
+  sized token _ h e = absurd (cc)
 
   -- the table of a name, in each body that may name it
   module _ (owner : Option ℕ) (table : Declaration) (i : In (here owner (declares table)) (text_mentions numbers named.raw.now)) (h : IsTrue (is_table table.kind)) where
@@ -86,23 +55,7 @@ module _ (named : Named) (numbers : Numbers) (u : SourceUnit) (resolves : Resolv
       let token_is : t.0.name.at.token ≡ table.at.token = ap (λ (n : RawName). n.at.token) t.2 in
       from_items owner t.0 t.1 t.3 owner (kind.Element table e) d is (items.declared owner t.0 (table_item t.0.kind t.3) t.1)
       (λ who x n. subst (IsTable named numbers u who) token_is x)
-  by_kind owner d (kind.Single t) is h x = absurd (cc)
-  by_kind owner d (kind.Array t b) is h x = absurd (cc)
-  by_kind owner d (kind.Table s) is h x = absurd (cc)
-  by_kind owner d (kind.Value t) is h x = absurd (cc)
-  by_kind owner d (kind.Location t) is h x = absurd (cc)
-  by_kind owner d (kind.ArrayParam t) is h x = absurd (cc)
-  by_kind owner d (kind.TableParam s) is h x = absurd (cc)
-  by_kind owner d kind.LabelParam is h x = absurd (cc)
-  by_kind owner d kind.SwitchParam is h x = absurd (cc)
-  by_kind owner d (kind.ProcParam t) is h x = absurd (cc)
-  by_kind owner d kind.Label is h x = absurd (cc)
-  by_kind owner d kind.Switch is h x = absurd (cc)
-  by_kind owner d (kind.Proc t) is h x = absurd (cc)
-  by_kind owner d kind.ReadByte is h x = absurd (cc)
-  by_kind owner d kind.WriteByte is h x = absurd (cc)
-  by_kind owner d kind.Bounds is h x = absurd (cc)
-  by_kind owner d (kind.Answer t) is h x = absurd (cc)
+  by_kind owner d _ is h x = absurd (cc)
 
   pub elements_stand : Stand named numbers u is_element (text_mentions numbers named.raw.now)
   elements_stand owner d h i = by_kind owner d d.kind refl h (all_tabled None (here owner (declares d)) i)

@@ -93,9 +93,6 @@ module _ (numbers : Numbers) where
   expression_rule (layer.Sum s) r = s.1 r
 
   primary_rule : (y : PrimaryParts known) → IsPlain (primary_step (primary_parts (primary_layer known y)))
-  primary_rule (layer.Number n) r = plain_nothing numbers
-  primary_rule (layer.Octal n) r = plain_nothing numbers
-  primary_rule (layer.Literal c) r = plain_nothing numbers
   primary_rule (layer.Text at cs) r = plain_text numbers at (length cs) [] (plain_nothing numbers)
   primary_rule (layer.Location at x) r = x.1 reading.Whole
   primary_rule (layer.Forced t e) r = e.1 reading.Value
@@ -103,6 +100,7 @@ module _ (numbers : Numbers) where
   primary_rule (layer.Ref x) r = x.1 r
   primary_rule (layer.Call n es) r =
       plain_use numbers (record { name = n; form = form.CallValue }) (each_for reading.Argument (map expression_uses (map (λ e. e.0) es))) (each_plain expression_uses es reading.Argument)
+  primary_rule _ r = plain_nothing numbers
 
   reference_rule : (y : RefParts known) → IsPlain (reference_step (reference_parts (ref_layer known y)))
   reference_rule (layer.Name n) r = plain_use numbers (record { name = n; form = form.Reference r 0 }) [] (plain_nothing numbers)

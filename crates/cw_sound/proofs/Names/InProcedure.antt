@@ -1,34 +1,26 @@
 -- What the parameters of a procedure stand for, by their places among all mentions of the outermost block.
-use Rattle.std.proofs.Common.{◌≡◌, ◌⊎◌, inl, inr, ℕ, suc, ◌+◌, ◌<◌, ◌≤◌, List, [], ◌∷◌, ◌++◌, map, length, Bool, true, false, cond, IsTrue, Option, Some, None, slice_get, refl, sym, ap, ap₂, subst, ◌∙◌, arith, append_assoc, append-nil, length-append}
+use Rattle.std.proofs.Common.{◌≡◌, ◌⊎◌, inl, inr, ℕ, suc, ◌+◌, ◌≤◌, List, [], ◌∷◌, ◌++◌, map, length, Bool, true, false, cond, IsTrue, Option, Some, None, slice_get, refl, sym, ap, subst, ◌∙◌, arith, length-append}
 use Rattle.cw_table.specs.declared.table.Row.{Row}
-use Rattle.cw_table.specs.Rows.{item_at}
-use Rattle.cw_tree.specs.declared.leaf.RawName.{RawName}
 use Rattle.cw_tree.specs.declared.leaf.RawType.{RawType}
-use Rattle.cw_tree.specs.declared.segment.RawPs.{RawPs}
 use Rattle.cw_tree.specs.declared.statement.RawParam.{RawParam}
 use Rattle.cw_tree.specs.declared.statement.RawParam.TheVariants as raw
-use Rattle.cw_tree.specs.declared.statement.RawProc.{RawProc, out-RawProc}
-use Rattle.cw_facts.specs.declared.fact.Fact.{Fact}
-use Rattle.cw_facts.specs.declared.fact.Fact.TheVariants as fact
-use Rattle.cw_facts.specs.declared.fact.Declaration.{Declaration}
 use Rattle.cw_facts.specs.declared.fact.Kind.{Kind as NameKind}
 use Rattle.cw_facts.specs.declared.fact.Kind.TheVariants as kind
 use Rattle.cw_facts.specs.declared.fact.Signature.{Signature}
-use Rattle.cw_facts.specs.Facts.{declares, specifies, each_declares, elements_facts, table_facts, parameter_facts, parameters_facts, answer_facts, answer_name, type_position}
+use Rattle.cw_facts.specs.Facts.{specifies, elements_facts, parameter_facts, parameters_facts, answer_facts, answer_name, type_position}
 use Rattle.cw_facts.specs.Signatures.{plain, flattened}
 use Rattle.cw_scope.specs.Resolved.{text_signatures}
 use Rattle.cw_number.specs.declared.numbers.Counts.{Counts}
-use Rattle.cw_number.specs.declared.numbered.Numbered.{Numbered}
 use Rattle.cw_number.specs.declared.numbered.Numbered.TheVariants as numbered
 use Rattle.cw_number.specs.Numbers.{next_to, own_number, counted}
 use Rattle.cw_make_items.specs.Lookup.{Numbers}
 use Rattle.cw_make.specs.Procedures.{params_of}
 use Rattle.cw_safety.specs.Kinds.{Kind, WordKind, LabelKind, SwitchKind, ProcedureKind, kind_of_param, control_kinds}
 use Rattle.cw_sound.specs.Uses.Stands.{kind_specified}
-use Rattle.cw_sound.specs.Uses.Mentions.{In, Mention, Here, here, declares as declared, uses, stores, facts_mentions}
-use Rattle.cw_sound.specs.Names.Standing.{is_control, is_own_procedure, counted_by, counted_from}
+use Rattle.cw_sound.specs.Uses.Mentions.{In, Mention, Here, declares as declared, uses, stores, facts_mentions}
+use Rattle.cw_sound.specs.Names.Standing.{is_control, counted_by, counted_from}
 use Rattle.cw_sound.proofs.Names.Lists.{Sub, in_either, in_left}
-use Rattle.cw_sound.proofs.Names.Picking.{pick, pick_append, picked_at, counted_below, Counts_it, Zip, zip_at}
+use Rattle.cw_sound.proofs.Names.Picking.{pick_append, picked_at, counted_below, Counts_it, Zip, zip_at}
 use Rattle.cw_sound.proofs.Names.Sorts.{of_kind}
 use Rattle.cw_sound.proofs.Names.MentionsOf.{Says, says_nothing, says_both, says_declared, says_each, says_elements, declared_first, specified_first}
 use Rattle.cw_sound.proofs.Names.Params.{kinds_as_specified, controls, ControlOf, all_controls}
@@ -93,21 +85,7 @@ pub control_number : (k : NameKind) (c : Counts) → is_control k ≡ true → o
 control_number kind.LabelParam c h = refl
 control_number kind.SwitchParam c h = refl
 control_number (kind.ProcParam t) c h = refl
-control_number (kind.Single t) c h = absurd (cc)
-control_number (kind.Array t b) c h = absurd (cc)
-control_number (kind.Table s) c h = absurd (cc)
-control_number (kind.Element t e) c h = absurd (cc)
-control_number (kind.Value t) c h = absurd (cc)
-control_number (kind.Location t) c h = absurd (cc)
-control_number (kind.ArrayParam t) c h = absurd (cc)
-control_number (kind.TableParam s) c h = absurd (cc)
-control_number kind.Label c h = absurd (cc)
-control_number kind.Switch c h = absurd (cc)
-control_number (kind.Proc t) c h = absurd (cc)
-control_number kind.ReadByte c h = absurd (cc)
-control_number kind.WriteByte c h = absurd (cc)
-control_number kind.Bounds c h = absurd (cc)
-control_number (kind.Answer t) c h = absurd (cc)
+control_number _ c h = absurd (cc)
 
 map_length : {A B : Type 0} (f : A → B) (xs : List A) → length (map f xs) ≡ length xs
 map_length f [] = refl

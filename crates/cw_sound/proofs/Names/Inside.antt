@@ -1,30 +1,26 @@
 -- What the declarations of a block stand for, part by part: each part with what the whole mentions before it and behind it, and with the
 -- procedures before it and behind it.
-use Rattle.std.proofs.Common.{◌≡◌, ◌⊎◌, inl, inr, ℕ, ◌+◌, ◌<◌, ◌≤◌, List, [], ◌∷◌, ◌++◌, map, length, Bool, true, false, cond, IsTrue, ◌||◌, nat_eq, Option, Some, None, slice_get, refl, sym, ap, ap₂, subst, ◌∙◌, arith, append_assoc, append-nil, length-append}
-use Rattle.cw_table.specs.declared.table.Row.{Row}
+use Rattle.std.proofs.Common.{◌≡◌, ℕ, List, [], map, Bool, true, false, IsTrue, Option, Some, None, slice_get, subst}
 use Rattle.cw_table.specs.Rows.{item_at}
 use Rattle.cw_tree.specs.declared.leaf.RawName.{RawName}
 use Rattle.cw_tree.specs.declared.leaf.RawType.{RawType}
 use Rattle.cw_tree.specs.declared.segment.RawIps.{RawIps}
 use Rattle.cw_tree.specs.declared.statement.RawProc.{RawProc, out-RawProc}
-use Rattle.cw_facts.specs.declared.fact.Declaration.{Declaration}
 use Rattle.cw_facts.specs.declared.fact.Kind.{Kind as NameKind}
 use Rattle.cw_facts.specs.declared.fact.Kind.TheVariants as kind
-use Rattle.cw_facts.specs.declared.fact.Signature.{Signature}
 use Rattle.cw_facts.specs.Signatures.{plain, flattened}
 use Rattle.cw_scope.specs.declared.resolve.Named.{Named}
-use Rattle.cw_number.specs.declared.numbered.Numbered.{Numbered}
 use Rattle.cw_number.specs.declared.numbered.Numbered.TheVariants as numbered
 use Rattle.cw_make_expr.specs.Parts.{label_in}
-use Rattle.cw_make_items.specs.Lookup.{Numbers, proc_here}
+use Rattle.cw_make_items.specs.Lookup.{Numbers}
 use Rattle.cw_make.specs.Procedures.{proc_of}
 use Rattle.cw_unit.specs.declared.unit.Unit.{Unit as SourceUnit}
 use Rattle.cw_unit.specs.declared.unit.Proc.{Proc}
 use Rattle.cw_safety.specs.Kinds.{Kind, LabelKind, SwitchKind, ProcedureKind}
 use Rattle.cw_safety.specs.WellFormed.{sets, sets_in_procedure, controls_in}
 use Rattle.cw_sound.specs.Uses.Stands.{taken_by_plain}
-use Rattle.cw_sound.specs.Uses.Mentions.{In, Mention, Here, here, declares, uses, stores}
-use Rattle.cw_sound.specs.Names.Standing.{is_control, FewParameters}
+use Rattle.cw_sound.specs.Uses.Mentions.{In, Mention, Here, declares, uses, stores}
+use Rattle.cw_sound.specs.Names.Standing.{FewParameters}
 use Rattle.cw_sound.proofs.Names.Params.{ControlOfKind}
 
 -- what asks for nothing here
@@ -101,18 +97,4 @@ module _ (named : Named) (numbers : Numbers) (u : SourceUnit) where
   from_control q n kind.LabelParam κ h c = subst (ControlWhere q n.at.token) h c
   from_control q n kind.SwitchParam κ h c = subst (ControlWhere q n.at.token) h c
   from_control q n (kind.ProcParam answer) κ h c = (h.0, subst (ControlWhere q n.at.token) h.1 c, h.2)
-  from_control q n (kind.Single t) κ h c = absurd h
-  from_control q n (kind.Array t b) κ h c = absurd h
-  from_control q n (kind.Table s) κ h c = absurd h
-  from_control q n (kind.Element t e) κ h c = absurd h
-  from_control q n (kind.Value t) κ h c = absurd h
-  from_control q n (kind.Location t) κ h c = absurd h
-  from_control q n (kind.ArrayParam t) κ h c = absurd h
-  from_control q n (kind.TableParam s) κ h c = absurd h
-  from_control q n kind.Label κ h c = absurd h
-  from_control q n kind.Switch κ h c = absurd h
-  from_control q n (kind.Proc t) κ h c = absurd h
-  from_control q n kind.ReadByte κ h c = absurd h
-  from_control q n kind.WriteByte κ h c = absurd h
-  from_control q n kind.Bounds κ h c = absurd h
-  from_control q n (kind.Answer t) κ h c = absurd h
+  from_control q n _ κ h c = absurd h

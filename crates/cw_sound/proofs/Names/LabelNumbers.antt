@@ -1,5 +1,5 @@
 -- The labels of a text, beside their declarations: each has the procedure in whose body it is declared.
-use Rattle.std.proofs.Common.{◌≡◌, ◌⊎◌, inl, inr, ℕ, List, [], ◌∷◌, ◌++◌, map, length, true, false, cond, IsTrue, Option, Some, None, slice_get, refl, sym, ap, subst, ◌∙◌}
+use Rattle.std.proofs.Common.{◌≡◌, ℕ, List, [], ◌∷◌, ◌++◌, map, cond, Option, refl, sym, subst}
 use Rattle.cw_facts.specs.declared.fact.Fact.{Fact, Fact-F, map-Fact, roll-Fact}
 use Rattle.cw_facts.specs.declared.fact.Fact.TheFolds.{fold-roll-Fact, ind-Fact}
 use Rattle.cw_facts.specs.declared.fact.Fact.TheOpen as layer
@@ -10,7 +10,7 @@ use Rattle.cw_scope.specs.NameRules.{is_own_label}
 use Rattle.cw_make_items.specs.Lookup.{Numbers, line_of}
 use Rattle.cw_make.specs.Labels.{Labels, proc_within, declared_label, labels_step, fact_labels, facts_labels}
 use Rattle.cw_unit.specs.declared.unit.Label.{Label}
-use Rattle.cw_sound.specs.Uses.Mentions.{In, Mention, Here, here, declares, uses, stores, Mentions, mentions_step, fact_mentions, facts_mentions}
+use Rattle.cw_sound.specs.Uses.Mentions.{Here, here, declares, Mentions, mentions_step, fact_mentions, facts_mentions}
 use Rattle.cw_sound.proofs.Names.Picking.{pick, pick_append, Zip, zip_both}
 use Rattle.cw_sound.proofs.Names.Sorts.{of_kind}
 
@@ -41,11 +41,8 @@ module _ (numbers : Numbers) where
 
   has_labels : (y : Fact-F ((f : Fact) × FactHasLabels f)) → let x : Fact-F Fact = map-Fact ((f : Fact) × FactHasLabels f) Fact (λ e. e.0) y in HasLabels (mentions_step numbers (map-Fact Fact Mentions (fact_mentions numbers) x)) (labels_step numbers (map-Fact Fact Labels (fact_labels numbers) x))
   has_labels (layer.Declares d) q = of_declaration q d (line_of d.name.at) d.kind
-  has_labels (layer.Uses x) q = tt
-  has_labels (layer.Specifies token s) q = tt
-  has_labels (layer.Loop at) q = tt
-  has_labels (layer.Text at n) q = tt
   has_labels (layer.Block owner es) q = all_labels es (proc_within numbers owner q)
+  has_labels _ q = tt
 
   fact_has_labels : (f : Fact) → FactHasLabels f
   fact_has_labels = ind-Fact FactHasLabels (λ x y is.

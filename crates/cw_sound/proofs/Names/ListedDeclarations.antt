@@ -1,5 +1,5 @@
 -- The descriptor of each label, switch and procedure that the communicators list.
-use Rattle.std.proofs.Common.{◌≡◌, ◌≢◌, ◌⊎◌, inl, inr, ℕ, zero, suc, ◌+◌, ◌<◌, ◌≤◌, List, [], ◌∷◌, ◌++◌, map, length, Bool, true, false, cond, IsTrue, Option, Some, None, slice_get, refl, sym, ap, ap₂, subst, ◌∙◌, arith, append_assoc, append-nil}
+use Rattle.std.proofs.Common.{◌≡◌, ◌⊎◌, inl, inr, ℕ, zero, suc, ◌+◌, List, [], ◌∷◌, ◌++◌, IsTrue, Option, Some, slice_get, refl, sym, ap, subst, ◌∙◌, append-nil}
 use Rattle.cw_table.specs.declared.table.Row.{Row}
 use Rattle.cw_tree.specs.declared.leaf.RawName.{RawName}
 use Rattle.cw_tree.specs.declared.leaf.RawType.{RawType}
@@ -7,11 +7,9 @@ use Rattle.cw_tree.specs.declared.segment.RawPs.{RawPs}
 use Rattle.cw_tree.specs.declared.segment.RawSpec.{RawSpec}
 use Rattle.cw_facts.specs.declared.fact.Fact.{Fact}
 use Rattle.cw_facts.specs.declared.fact.Fact.TheVariants as fact
-use Rattle.cw_facts.specs.declared.fact.Declaration.{Declaration}
 use Rattle.cw_facts.specs.declared.fact.Kind.{Kind as NameKind}
 use Rattle.cw_facts.specs.declared.fact.Kind.TheVariants as kind
 use Rattle.cw_facts.specs.declared.fact.Signature.{Signature}
-use Rattle.cw_facts.specs.declared.fact.Use.{Use}
 use Rattle.cw_facts.specs.Facts.{declares, specifies}
 use Rattle.cw_facts.specs.Text.{spec_facts}
 use Rattle.cw_scope.specs.Resolved.{text_signatures}
@@ -58,16 +56,9 @@ behind_append (x ∷ xs) ys i = ap (λ n. suc n) (behind_append xs ys i)
 
 -- there are as many descriptors
 same_places : {fs : List Fact} {rs : List (Row Listing)} {ds : List Desc} → Listed fs rs ds → (i : ℕ) → behind ds i ≡ behind rs i
-same_places none i = refl
 same_places (also {fs} {gs} {rs} {qs} {ds} {es} a b) i =
     behind_append ds es i ∙ ap (behind ds) (same_places b i) ∙ same_places a (behind qs i) ∙ sym (behind_append rs qs i)
-same_places (used x) i = refl
-same_places (stored n k d h w) i = refl
-same_places (unlisted n k h) i = refl
-same_places (label n) i = refl
-same_places (switch n) i = refl
-same_places (procedure l s) i = refl
-same_places (special k s h) i = refl
+same_places _ i = refl
 
 module _ (numbers : Numbers) (sigs : List (Row Signature)) where
   -- where what is declared is listed, and what its descriptor says

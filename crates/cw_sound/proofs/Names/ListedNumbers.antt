@@ -1,26 +1,23 @@
 -- The number of what the communicators list is its place among that.
-use Rattle.std.proofs.Common.{◌≡◌, ◌≢◌, ◌⊎◌, inl, inr, ℕ, zero, suc, ◌+◌, ◌<◌, ◌≤◌, min, List, [], ◌∷◌, ◌++◌, length, Bool, true, false, cond, nat_eq, IsTrue, Option, Some, None, slice_get, refl, sym, ap, ap₂, subst, ◌∙◌, arith, append_assoc, length-append}
-use Rattle.std.specs.Prelude.{option_map, find}
+use Rattle.std.proofs.Common.{◌≡◌, ◌≢◌, inl, inr, ℕ, zero, suc, ◌+◌, ◌≤◌, List, [], ◌∷◌, ◌++◌, length, Some, slice_get, refl, sym, ap, subst, ◌∙◌, arith, append_assoc, length-append}
 use Rattle.std.proofs.lemmas.Option.{same_Some}
 use Rattle.cw_table.specs.declared.table.Row.{Row}
-use Rattle.cw_table.specs.Rows.{item_at, stands_at, item_of}
+use Rattle.cw_table.specs.Rows.{item_at}
 use Rattle.cw_tree.specs.declared.leaf.RawName.{RawName}
 use Rattle.cw_facts.specs.declared.fact.Fact.{Fact}
-use Rattle.cw_facts.specs.declared.fact.Declaration.{Declaration}
 use Rattle.cw_facts.specs.declared.fact.Kind.{Kind as NameKind}
 use Rattle.cw_facts.specs.declared.fact.Kind.TheVariants as kind
 use Rattle.cw_facts.specs.Facts.{declares, specifies}
 use Rattle.cw_scope.specs.Resolved.{fact_declarations, text_declarations}
 use Rattle.cw_number.specs.declared.listed.Listing.{Listing}
-use Rattle.cw_number.specs.declared.listed.Listing.TheVariants as listing
 use Rattle.cw_number.specs.declared.numbered.Numbered.{Numbered}
 use Rattle.cw_number.specs.Listed.{row}
 use Rattle.cw_number.specs.Numbers.{row_if, listed_number, listed_rows, next_short}
 use Rattle.cw_unit.specs.declared.descriptor.Desc.{Desc}
 use Rattle.cw_sound.specs.Uses.Mentions.{In}
 use Rattle.cw_sound.specs.Names.Placed.{tokens, Each, Differ}
-use Rattle.cw_sound.proofs.Names.FoundRows.{eq_same, at_first, at_later, each_row}
-use Rattle.cw_sound.proofs.Names.ListedRows.{Rows, rows_first, rows_second, rows_both, said_first, said_second, said_name, declared_row}
+use Rattle.cw_sound.proofs.Names.FoundRows.{eq_same, at_first, each_row}
+use Rattle.cw_sound.proofs.Names.ListedRows.{rows_both, said_first, said_second, said_name, declared_row}
 use Rattle.cw_sound.proofs.Names.Counting.{skip}
 use Rattle.cw_sound.proofs.Names.ListedParts.{Listed, none, also, used, stored, unlisted, label, switch, procedure, special}
 
@@ -64,15 +61,12 @@ declarations_append [] ys = refl
 declarations_append (x ∷ xs) ys = ap (λ rs. fact_declarations x ++ rs) (declarations_append xs ys) ∙ sym (append_assoc (fact_declarations x) (text_declarations xs) (text_declarations ys))
 
 pub listed_each : {fs : List Fact} {rs : List (Row Listing)} {ds : List Desc} → Listed fs rs ds → (P : ℕ → Type 0) → Each P (tokens (text_declarations fs)) → Each P (tokens rs)
-listed_each none P h = tt
 listed_each (also {fs} {gs} {rs} {qs} a b) P h = rows_both P rs qs (listed_each a P (said_first P fs gs h)) (listed_each b P (said_second P fs gs h))
-listed_each (used x) P h = tt
 listed_each (stored n k d e w) P h = (said_name P n k [] h, tt)
-listed_each (unlisted n k e) P h = tt
 listed_each (label n) P h = (said_name P n kind.Label [] h, tt)
 listed_each (switch n) P h = (said_name P n kind.Switch [] h, tt)
 listed_each (procedure l s) P h = (said_name P s.name (kind.Proc s.answer) (specifies s.name.at.token s.answer s.params ∷ []) h, tt)
-listed_each (special k s e) P h = tt
+listed_each _ P h = tt
 
 pub listed_differ : {fs : List Fact} {rs : List (Row Listing)} {ds : List Desc} → Listed fs rs ds → Differ (tokens (text_declarations fs)) → Differ (tokens rs)
 listed_differ none h = tt
@@ -81,12 +75,9 @@ listed_differ (also {fs} {gs} {rs} {qs} a b) h =
     let inner = each_map (λ x. Each (λ y. x ≢ y) (tokens (text_declarations gs))) (λ x. Each (λ y. x ≢ y) (tokens qs)) (tokens (text_declarations fs)) (λ x k. listed_each b (λ y. x ≢ y) k) parts.2 in
     subst Differ (sym (tokens_append rs qs)) (differ_both (tokens rs) (tokens qs) (listed_differ a parts.0) (listed_differ b parts.1) (listed_each a (λ x. Each (λ y. x ≢ y) (tokens qs)) inner))
 listed_differ (used x) h = tt
-listed_differ (stored n k d e w) h = (tt, tt)
 listed_differ (unlisted n k e) h = tt
-listed_differ (label n) h = (tt, tt)
-listed_differ (switch n) h = (tt, tt)
-listed_differ (procedure l s) h = (tt, tt)
 listed_differ (special k s e) h = tt
+listed_differ _ h = (tt, tt)
 
 -- ---- there are no more of them than declarations
 
@@ -96,20 +87,17 @@ one_declared n k fs =
     omega (arith, same)
 
 pub listed_few : {fs : List Fact} {rs : List (Row Listing)} {ds : List Desc} → Listed fs rs ds → length rs ≤ length (text_declarations fs)
-listed_few none = omega arith
 listed_few (also {fs} {gs} {rs} {qs} a b) =
     let left = listed_few a in
     let right = listed_few b in
     let rows_so = length-append rs qs in
     let all_so = ap length (declarations_append fs gs) ∙ length-append (text_declarations fs) (text_declarations gs) in
     omega (arith, left, right, rows_so, all_so)
-listed_few (used x) = omega arith
 listed_few (stored n k d e w) = one_declared n k []
-listed_few (unlisted n k e) = omega arith
 listed_few (label n) = one_declared n kind.Label []
 listed_few (switch n) = one_declared n kind.Switch []
 listed_few (procedure l s) = one_declared s.name (kind.Proc s.answer) (specifies s.name.at.token s.answer s.params ∷ [])
-listed_few (special k s e) = omega arith
+listed_few _ = omega arith
 
 -- ---- numbers
 

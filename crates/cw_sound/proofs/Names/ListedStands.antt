@@ -5,7 +5,6 @@ use Rattle.cw_table.specs.declared.table.Row.{Row}
 use Rattle.cw_tree.specs.declared.leaf.RawName.{RawName}
 use Rattle.cw_tree.specs.declared.leaf.RawType.{RawType}
 use Rattle.cw_tree.specs.declared.segment.RawIps.{RawIps}
-use Rattle.cw_tree.specs.declared.segment.RawIps.TheVariants as inner
 use Rattle.cw_tree.specs.declared.segment.RawPs.{RawPs}
 use Rattle.cw_tree.specs.declared.segment.RawPs.TheVariants as ps
 use Rattle.cw_facts.specs.declared.fact.Declaration.{Declaration}
@@ -54,17 +53,14 @@ use Rattle.cw_sound.proofs.Names.Params.{all_taken_plain}
 use Rattle.cw_sound.proofs.Names.ListedDeclarations.{Told, ToldKind, told}
 use Rattle.cw_sound.proofs.Names.StandingNames.{number_here, signature_here, answer_same}
 use Rattle.cw_sound.proofs.Names.ListedTold as listed
+use Rattle.cw_tree.specs.declared.segment.RawIps.TheVariants as inner
 
 -- ---- what a specified procedure takes
 
 plain_kind : (p : RawIps) → kind_of_param (param_as (plain_taken p)) ≡ kind_specified (ps.Plain p)
 unfolding Rattle.cw_unit.specs.declared.descriptor.SpecParam.TheViews.out-SpecParam denote.Hole.Carrier.out
 plain_kind (inner.Value at t) = refl
-plain_kind (inner.Location at t) = refl
-plain_kind (inner.Array t) = refl
-plain_kind (inner.Table at s) = refl
-plain_kind (inner.Label at) = refl
-plain_kind (inner.Switch at) = refl
+plain_kind _ = refl
 
 procedure_kind : (answer : Option RawType) (params : List RawIps) → kind_of_param (param_as (takes.Proc (plain_spec answer params))) ≡ ProcedureKind (map taken_by_plain params)
 procedure_kind answer params =
@@ -121,21 +117,7 @@ module _ (named : Named) (numbers : Numbers) (u : SourceUnit) (resolves : Resolv
     by_kind kind.Label e h t who n r = subst (λ z. StandsAs named numbers u who z n) (sym e) (label_told (ap is_other e) t who n r)
     by_kind kind.Switch e h t who n r = subst (λ z. StandsAs named numbers u who z n) (sym e) (switch_told (ap is_other e) t who n r)
     by_kind (kind.Proc answer) e h t who n r = subst (λ z. StandsAs named numbers u who z n) (sym e) (procedure_told answer t.0 (ap is_other e) t.1 t.2 who n r)
-    by_kind (kind.Single t) e h x who n r = absurd (cc)
-    by_kind (kind.Array t b) e h x who n r = absurd (cc)
-    by_kind (kind.Table s) e h x who n r = absurd (cc)
-    by_kind (kind.Element t y) e h x who n r = absurd (cc)
-    by_kind (kind.Value t) e h x who n r = absurd (cc)
-    by_kind (kind.Location t) e h x who n r = absurd (cc)
-    by_kind (kind.ArrayParam t) e h x who n r = absurd (cc)
-    by_kind (kind.TableParam s) e h x who n r = absurd (cc)
-    by_kind kind.LabelParam e h x who n r = absurd (cc)
-    by_kind kind.SwitchParam e h x who n r = absurd (cc)
-    by_kind (kind.ProcParam t) e h x who n r = absurd (cc)
-    by_kind kind.ReadByte e h x who n r = absurd (cc)
-    by_kind kind.WriteByte e h x who n r = absurd (cc)
-    by_kind kind.Bounds e h x who n r = absurd (cc)
-    by_kind (kind.Answer t) e h x who n r = absurd (cc)
+    by_kind _ e h x who n r = absurd (cc)
 
     by_owner : (o : Option ℕ) → ((who : Option ℕ) → StandsIn named numbers u who d) → StandsFrom named numbers u o d
     by_owner None s = s

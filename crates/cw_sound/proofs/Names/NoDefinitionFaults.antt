@@ -1,5 +1,5 @@
 -- The judgement of definitions takes no fault away.
-use Rattle.std.proofs.Common.{◌≡◌, List, [], ◌∷◌, map, Option, Some, None, refl, sym, subst}
+use Rattle.std.proofs.Common.{List, [], ◌∷◌, map, Option, Some, None, sym, subst}
 use Rattle.cw_table.specs.declared.table.Row.{Row}
 use Rattle.cw_table.specs.Rows.{item_at}
 use Rattle.cw_tree.specs.declared.leaf.RawName.{RawName}
@@ -40,11 +40,8 @@ module _ (signatures : List (Row Signature)) where
         listed = λ cs. keeps_unless (fits_built_in_if d.kind (item_at signatures d.name.at.token)) rule.SpecDiffers d.name;
         own = λ cs. definition_keeps (declared_in cs d.name.name) d;
       }
-  defined_keeps (layer.Uses u) = record { listed = λ cs. keeps_fine; own = λ cs. keeps_fine }
-  defined_keeps (layer.Specifies token s) = record { listed = λ cs. keeps_fine; own = λ cs. keeps_fine }
-  defined_keeps (layer.Loop at) = record { listed = λ cs. keeps_fine; own = λ cs. keeps_fine }
-  defined_keeps (layer.Text at n) = record { listed = λ cs. keeps_fine; own = λ cs. keeps_fine }
   defined_keeps (layer.Block owner es) = record { listed = λ cs. own_keep es cs; own = λ cs. keeps_fine }
+  defined_keeps _ = record { listed = λ cs. keeps_fine; own = λ cs. keeps_fine }
 
   fact_keeps : (f : Fact) → FactKeeps f
   fact_keeps = ind-Fact FactKeeps (λ x y is.

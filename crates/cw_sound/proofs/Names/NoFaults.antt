@@ -63,10 +63,8 @@ all_keep (e ∷ es) env = keeps_both ((said e.0).faults env) (all_faults env (ma
 said_keeps : (y : Fact-F ((f : Fact) × FactKeeps f)) → SaidKeeps (said_step (map-Fact Fact Said said (map-Fact ((f : Fact) × FactKeeps f) Fact (λ e. e.0) y)))
 said_keeps (layer.Declares d) env = repeat_keeps (declared_in (own_block env) d.name.name) d
 said_keeps (layer.Uses u) env = use_keeps (declaration_of env u.name.name) u
-said_keeps (layer.Specifies token s) env = keeps_fine
-said_keeps (layer.Loop at) env = keeps_fine
-said_keeps (layer.Text at n) env = keeps_fine
 said_keeps (layer.Block owner es) env = all_keep es (within env (map said (map (λ e. e.0) es)))
+said_keeps _ env = keeps_fine
 
 fact_keeps : (f : Fact) → FactKeeps f
 fact_keeps = ind-Fact FactKeeps (λ x y is.

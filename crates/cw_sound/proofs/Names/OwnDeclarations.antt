@@ -1,21 +1,18 @@
 -- What the declarations of the outermost block stand for.
-use Rattle.std.proofs.Common.{◌≡◌, ◌⊎◌, inl, inr, ℕ, ◌<◌, List, [], ◌∷◌, ◌++◌, length, Bool, true, false, IsTrue, Option, Some, None, slice_get, refl, sym, ap, ap₂, subst, ◌∙◌, append-nil}
+use Rattle.std.proofs.Common.{◌≡◌, ℕ, [], ◌++◌, length, true, IsTrue, Option, Some, None, slice_get, refl, sym, ap, subst, ◌∙◌, append-nil}
 use Rattle.std.specs.declared.result.Result.TheVariants as result
-use Rattle.cw_table.specs.declared.table.Row.{Row}
 use Rattle.cw_table.specs.Rows.{item_at}
 use Rattle.cw_tree.specs.declared.leaf.RawName.{RawName}
 use Rattle.cw_facts.specs.declared.fact.Declaration.{Declaration}
 use Rattle.cw_facts.specs.declared.fact.Kind.{Kind as NameKind}
 use Rattle.cw_facts.specs.declared.fact.Kind.TheVariants as kind
-use Rattle.cw_facts.specs.declared.fact.Signature.{Signature}
 use Rattle.cw_facts.specs.Facts.{block_facts}
-use Rattle.cw_facts.specs.Text.{communicators_facts, text_facts}
+use Rattle.cw_facts.specs.Text.{communicators_facts}
 use Rattle.cw_scope.specs.declared.resolve.Named.{Named}
 use Rattle.cw_scope.specs.Outcome.{Resolves}
 use Rattle.cw_scope.specs.NameRules.{is_own_label}
 use Rattle.cw_scope.specs.Resolved.{text_signatures}
 use Rattle.cw_number.specs.declared.numbers.Counts.{Counts}
-use Rattle.cw_number.specs.declared.numbered.Numbered.{Numbered}
 use Rattle.cw_number.specs.declared.numbered.Numbered.TheVariants as numbered
 use Rattle.cw_number.specs.Numbers.{none_counted, own_number}
 use Rattle.cw_make_expr.specs.Parts.{label_in}
@@ -27,10 +24,10 @@ use Rattle.cw_make.specs.Switches.{block_switches}
 use Rattle.cw_unit.specs.declared.unit.Unit.{Unit as SourceUnit}
 use Rattle.cw_unit.specs.declared.unit.Label.{Label}
 use Rattle.cw_safety.specs.WellFormed.{sets}
-use Rattle.cw_sound.specs.Uses.Mentions.{In, Mention, Here, here, declares, facts_mentions, block_mentions}
+use Rattle.cw_sound.specs.Uses.Mentions.{In, Here, here, declares, block_mentions}
 use Rattle.cw_sound.specs.Names.Placed.{Placed, tokens, Differ}
 use Rattle.cw_sound.specs.Names.Standing.{is_own_procedure, is_control, counted_from, CountsOwn, FewParameters, Stand}
-use Rattle.cw_sound.proofs.Names.Lists.{Sub, in_right, split}
+use Rattle.cw_sound.proofs.Names.Lists.{in_right, split}
 use Rattle.cw_sound.proofs.Names.Picking.{pick, picked_at, Zip, zip_at}
 use Rattle.cw_sound.proofs.Names.Sorts.{of_kind, few_before, labels_before}
 use Rattle.cw_sound.proofs.Names.LabelNumbers.{LabelOf, facts_have_labels}
@@ -49,23 +46,7 @@ pub record Made (named : Named) (numbers : Numbers) (u : SourceUnit) : Type 0 wh
 
 numbered_label : (k : NameKind) (c : Counts) → IsTrue (is_own_label k) → own_number c k ≡ Some (numbered.Label c.labels)
 numbered_label kind.Label c h = refl
-numbered_label (kind.Single t) c h = absurd (cc)
-numbered_label (kind.Array t b) c h = absurd (cc)
-numbered_label (kind.Table s) c h = absurd (cc)
-numbered_label (kind.Element t e) c h = absurd (cc)
-numbered_label (kind.Value t) c h = absurd (cc)
-numbered_label (kind.Location t) c h = absurd (cc)
-numbered_label (kind.ArrayParam t) c h = absurd (cc)
-numbered_label (kind.TableParam s) c h = absurd (cc)
-numbered_label kind.LabelParam c h = absurd (cc)
-numbered_label kind.SwitchParam c h = absurd (cc)
-numbered_label (kind.ProcParam t) c h = absurd (cc)
-numbered_label kind.Switch c h = absurd (cc)
-numbered_label (kind.Proc t) c h = absurd (cc)
-numbered_label kind.ReadByte c h = absurd (cc)
-numbered_label kind.WriteByte c h = absurd (cc)
-numbered_label kind.Bounds c h = absurd (cc)
-numbered_label (kind.Answer t) c h = absurd (cc)
+numbered_label _ c h = absurd (cc)
 
 module _ (named : Named) (numbers : Numbers) (u : SourceUnit) (resolves : Resolves named.raw.now (result.Ok named)) (placed : Placed named.raw.now) (counts : CountsOwn named numbers) (made : Made named numbers u) where
   all_signatures : named.signatures ≡ text_signatures (communicators_facts named.raw.now.comms) ++ text_signatures (block_facts named.raw.now.block true)
@@ -90,23 +71,7 @@ module _ (named : Named) (numbers : Numbers) (u : SourceUnit) (resolves : Resolv
 
   set_goal : (owner : Option ℕ) (n : RawName) (k : NameKind) → IsTrue (is_own_label k) → Goal named numbers u owner n k → SetIn named numbers u owner (label_in (item_at numbers n.at.token))
   set_goal owner n kind.Label h g = g
-  set_goal owner n (kind.Single t) h g = absurd (cc)
-  set_goal owner n (kind.Array t b) h g = absurd (cc)
-  set_goal owner n (kind.Table s) h g = absurd (cc)
-  set_goal owner n (kind.Element t e) h g = absurd (cc)
-  set_goal owner n (kind.Value t) h g = absurd (cc)
-  set_goal owner n (kind.Location t) h g = absurd (cc)
-  set_goal owner n (kind.ArrayParam t) h g = absurd (cc)
-  set_goal owner n (kind.TableParam s) h g = absurd (cc)
-  set_goal owner n kind.LabelParam h g = absurd (cc)
-  set_goal owner n kind.SwitchParam h g = absurd (cc)
-  set_goal owner n (kind.ProcParam t) h g = absurd (cc)
-  set_goal owner n kind.Switch h g = absurd (cc)
-  set_goal owner n (kind.Proc t) h g = absurd (cc)
-  set_goal owner n kind.ReadByte h g = absurd (cc)
-  set_goal owner n kind.WriteByte h g = absurd (cc)
-  set_goal owner n kind.Bounds h g = absurd (cc)
-  set_goal owner n (kind.Answer t) h g = absurd (cc)
+  set_goal owner n _ h g = absurd (cc)
 
   pub label_at : (owner : Option ℕ) (d : Declaration) → IsTrue (is_own_label d.kind) → In (here owner (declares d)) (block_mentions numbers named.raw.now) → LabelAt named numbers u owner d.name
   label_at owner d h i =

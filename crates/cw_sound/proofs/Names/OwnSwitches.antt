@@ -1,7 +1,6 @@
 -- What the switches of the outermost block stand for.
-use Rattle.std.proofs.Common.{◌≡◌, ◌⊎◌, inl, inr, ℕ, ◌<◌, List, [], ◌∷◌, ◌++◌, length, Bool, true, false, IsTrue, ◌||◌, Option, Some, None, slice_get, refl, sym, ap, subst, ◌∙◌}
+use Rattle.std.proofs.Common.{◌≡◌, ◌⊎◌, inl, inr, ℕ, List, ◌++◌, length, true, IsTrue, Option, Some, None, slice_get, refl, sym, ap, subst, ◌∙◌}
 use Rattle.std.specs.Prelude.{option_and_then}
-use Rattle.std.specs.declared.result.Result.TheVariants as result
 use Rattle.cw_table.specs.Rows.{item_at}
 use Rattle.cw_tree.specs.declared.leaf.RawName.{RawName}
 use Rattle.cw_facts.specs.declared.fact.Declaration.{Declaration}
@@ -9,75 +8,43 @@ use Rattle.cw_facts.specs.declared.fact.Form.{Form}
 use Rattle.cw_facts.specs.declared.fact.Form.TheVariants as form
 use Rattle.cw_facts.specs.declared.fact.Kind.{Kind as NameKind}
 use Rattle.cw_facts.specs.declared.fact.Kind.TheVariants as kind
-use Rattle.cw_facts.specs.declared.fact.Use.{Use}
 use Rattle.cw_facts.specs.Facts.{block_facts}
 use Rattle.cw_facts.specs.Text.{communicators_facts}
 use Rattle.cw_scope.specs.declared.resolve.Named.{Named}
-use Rattle.cw_scope.specs.NameRules.{is_own_label, is_own_switch, fits}
+use Rattle.cw_scope.specs.NameRules.{is_own_label, is_own_switch}
 use Rattle.cw_number.specs.declared.numbers.Counts.{Counts}
-use Rattle.cw_number.specs.declared.numbered.Numbered.{Numbered}
 use Rattle.cw_number.specs.declared.numbered.Numbered.TheVariants as numbered
 use Rattle.cw_number.specs.Numbers.{none_counted, own_number}
 use Rattle.cw_make_expr.specs.Parts.{number_of}
-use Rattle.cw_make_items.specs.Lookup.{Numbers, goal_in}
+use Rattle.cw_make_items.specs.Lookup.{Numbers}
 use Rattle.cw_make.specs.Switches.{block_switches}
 use Rattle.cw_unit.specs.declared.unit.Unit.{Unit as SourceUnit}
 use Rattle.cw_unit.specs.declared.unit.Switch.{Switch}
-use Rattle.cw_unit.specs.Step.{label_of_goal, goals_of}
-use Rattle.cw_safety.specs.WellFormed.{reaches, reaches_list}
+use Rattle.cw_unit.specs.Step.{goals_of}
+use Rattle.cw_safety.specs.WellFormed.{reaches_list}
 use Rattle.cw_built.specs.Built.{alone, at_work}
-use Rattle.cw_sound.specs.Uses.Mentions.{In, Mention, Here, here, declares, uses, stores, facts_mentions, listed_mentions, block_mentions, text_mentions}
-use Rattle.cw_sound.specs.Uses.Stands.{StandsAs, IsLabel, IsSwitch}
+use Rattle.cw_sound.specs.Uses.Mentions.{In, Mention, here, declares, uses, stores, listed_mentions, block_mentions, text_mentions}
+use Rattle.cw_sound.specs.Uses.Stands.{StandsAs, IsSwitch}
 use Rattle.cw_sound.specs.Names.Placed.{Placed}
-use Rattle.cw_sound.specs.Names.Found.{Refers, Found, UsesFound}
+use Rattle.cw_sound.specs.Names.Found.{Found, UsesFound}
 use Rattle.cw_sound.specs.Names.Standing.{counted_from, CountsOwn, StandsIn, StandsFrom, Stand, is_common}
 use Rattle.cw_sound.proofs.Names.Lists.{in_either, in_right, split}
 use Rattle.cw_sound.proofs.Names.Rows.{mentions_append}
-use Rattle.cw_sound.proofs.Names.Picking.{pick, picked_at, Zip, zip_at}
+use Rattle.cw_sound.proofs.Names.Picking.{picked_at, Zip, zip_at}
 use Rattle.cw_sound.proofs.Names.Sorts.{of_kind, few_before, switches_before}
 use Rattle.cw_sound.proofs.Names.OwnDeclarations.{Made}
-use Rattle.cw_sound.proofs.Names.SwitchNumbers.{AllReached, all_everywhere, LabelReached, FormReached, MentionReached, AllMentionsReached, SwitchOf, switches_in, in_switches}
+use Rattle.cw_sound.proofs.Names.SwitchNumbers.{number_reached, AllReached, all_everywhere, LabelReached, FormReached, MentionReached, AllMentionsReached, SwitchOf, switches_in, in_switches}
 use Rattle.cw_sound.proofs.Names.TreeParts.{block_parts}
 
 numbered_switch : (k : NameKind) (c : Counts) → IsTrue (is_own_switch k) → own_number c k ≡ Some (numbered.Switch c.switches)
 numbered_switch kind.Switch c h = refl
-numbered_switch (kind.Single t) c h = absurd (cc)
-numbered_switch (kind.Array t b) c h = absurd (cc)
-numbered_switch (kind.Table s) c h = absurd (cc)
-numbered_switch (kind.Element t e) c h = absurd (cc)
-numbered_switch (kind.Value t) c h = absurd (cc)
-numbered_switch (kind.Location t) c h = absurd (cc)
-numbered_switch (kind.ArrayParam t) c h = absurd (cc)
-numbered_switch (kind.TableParam s) c h = absurd (cc)
-numbered_switch kind.LabelParam c h = absurd (cc)
-numbered_switch kind.SwitchParam c h = absurd (cc)
-numbered_switch (kind.ProcParam t) c h = absurd (cc)
-numbered_switch kind.Label c h = absurd (cc)
-numbered_switch (kind.Proc t) c h = absurd (cc)
-numbered_switch kind.ReadByte c h = absurd (cc)
-numbered_switch kind.WriteByte c h = absurd (cc)
-numbered_switch kind.Bounds c h = absurd (cc)
-numbered_switch (kind.Answer t) c h = absurd (cc)
+numbered_switch _ c h = absurd (cc)
 
 label_common : (k : NameKind) → IsTrue (is_own_label k) → IsTrue (is_common k)
 label_common kind.Label h = refl
-label_common (kind.Single t) h = absurd (cc)
-label_common (kind.Array t b) h = absurd (cc)
-label_common (kind.Table s) h = absurd (cc)
-label_common (kind.Element t e) h = absurd (cc)
-label_common (kind.Value t) h = absurd (cc)
-label_common (kind.Location t) h = absurd (cc)
-label_common (kind.ArrayParam t) h = absurd (cc)
-label_common (kind.TableParam s) h = absurd (cc)
-label_common kind.LabelParam h = absurd (cc)
-label_common kind.SwitchParam h = absurd (cc)
-label_common (kind.ProcParam t) h = absurd (cc)
 label_common kind.Switch h = refl
 label_common (kind.Proc t) h = refl
-label_common kind.ReadByte h = absurd (cc)
-label_common kind.WriteByte h = absurd (cc)
-label_common kind.Bounds h = absurd (cc)
-label_common (kind.Answer t) h = absurd (cc)
+label_common _ h = absurd (cc)
 
 module _ (named : Named) (numbers : Numbers) (u : SourceUnit) (placed : Placed named.raw.now) (counts : CountsOwn named numbers) (made : Made named numbers u) (found : UsesFound named numbers)
     (labels : Stand named numbers u is_own_label (block_mentions numbers named.raw.now)) (listed : Stand named numbers u is_common (listed_mentions numbers named.raw.now)) where
@@ -96,38 +63,9 @@ module _ (named : Named) (numbers : Numbers) (u : SourceUnit) (placed : Placed n
       own None t = t None
       own (Some p) t = t
 
-  of_number : (who : Option ℕ) (o : Option Numbered) → IsLabel named numbers u who o → IsTrue (reaches (alone u) (at_work who) (label_of_goal (alone u) 0 (goal_in o)))
-  of_number who None h = absurd h
-  of_number who (Some (numbered.Label l)) h = h
-  of_number who (Some (numbered.CommonLabel d)) h = h
-  of_number who (Some (numbered.Item i)) h = absurd h
-  of_number who (Some (numbered.Switch s)) h = absurd h
-  of_number who (Some (numbered.CommonSwitch d)) h = absurd h
-  of_number who (Some (numbered.Proc p)) h = absurd h
-  of_number who (Some (numbered.CommonProc d)) h = absurd h
-  of_number who (Some (numbered.Control c)) h = absurd h
-  of_number who (Some numbered.ReadByte) h = absurd h
-  of_number who (Some numbered.WriteByte) h = absurd h
-
   of_kinds : (who : Option ℕ) (n : RawName) (k : NameKind) → IsTrue (is_own_label k) → StandsAs named numbers u who k n → LabelReached named numbers u who n
-  of_kinds who n kind.Label h s = of_number who (number_of named numbers n) s
-  of_kinds who n (kind.Single t) h s = absurd (cc)
-  of_kinds who n (kind.Array t b) h s = absurd (cc)
-  of_kinds who n (kind.Table z) h s = absurd (cc)
-  of_kinds who n (kind.Element t e) h s = absurd (cc)
-  of_kinds who n (kind.Value t) h s = absurd (cc)
-  of_kinds who n (kind.Location t) h s = absurd (cc)
-  of_kinds who n (kind.ArrayParam t) h s = absurd (cc)
-  of_kinds who n (kind.TableParam z) h s = absurd (cc)
-  of_kinds who n kind.LabelParam h s = absurd (cc)
-  of_kinds who n kind.SwitchParam h s = absurd (cc)
-  of_kinds who n (kind.ProcParam t) h s = absurd (cc)
-  of_kinds who n kind.Switch h s = absurd (cc)
-  of_kinds who n (kind.Proc t) h s = absurd (cc)
-  of_kinds who n kind.ReadByte h s = absurd (cc)
-  of_kinds who n kind.WriteByte h s = absurd (cc)
-  of_kinds who n kind.Bounds h s = absurd (cc)
-  of_kinds who n (kind.Answer t) h s = absurd (cc)
+  of_kinds who n kind.Label h s = number_reached named numbers u who (number_of named numbers n) s
+  of_kinds who n _ h s = absurd (cc)
 
   listed_use : (who : Option ℕ) (n : RawName) → Found named numbers who (record { name = n; form = form.Listed }) → LabelReached named numbers u who n
   listed_use who n f =
@@ -137,13 +75,7 @@ module _ (named : Named) (numbers : Numbers) (u : SourceUnit) (placed : Placed n
 
   use_reached : (who : Option ℕ) (n : RawName) (g : Form) → In (here who (uses (record { name = n; form = g }))) (text_mentions numbers named.raw.now) → FormReached named numbers u who n g
   use_reached who n form.Listed i = listed_use who n (found who (record { name = n; form = form.Listed }) i)
-  use_reached who n (form.Reference r k) i = tt
-  use_reached who n form.CallValue i = tt
-  use_reached who n form.Call i = tt
-  use_reached who n form.Goto i = tt
-  use_reached who n form.GotoSwitch i = tt
-  use_reached who n form.Base i = tt
-  use_reached who n form.Answer i = tt
+  use_reached who n _ i = tt
 
   mention_reached : (who : Option ℕ) (m : Mention) → In (here who m) (text_mentions numbers named.raw.now) → MentionReached named numbers u who m
   mention_reached who (declares d) i = tt
@@ -166,23 +98,7 @@ module _ (named : Named) (numbers : Numbers) (u : SourceUnit) (placed : Placed n
 
   as_switch : (who : Option ℕ) (n : RawName) (k : NameKind) → IsTrue (is_own_switch k) → StandsAs named numbers u who kind.Switch n → StandsAs named numbers u who k n
   as_switch who n kind.Switch e x = x
-  as_switch who n (kind.Single t) e x = absurd (cc)
-  as_switch who n (kind.Array t b) e x = absurd (cc)
-  as_switch who n (kind.Table s) e x = absurd (cc)
-  as_switch who n (kind.Element t y) e x = absurd (cc)
-  as_switch who n (kind.Value t) e x = absurd (cc)
-  as_switch who n (kind.Location t) e x = absurd (cc)
-  as_switch who n (kind.ArrayParam t) e x = absurd (cc)
-  as_switch who n (kind.TableParam s) e x = absurd (cc)
-  as_switch who n kind.LabelParam e x = absurd (cc)
-  as_switch who n kind.SwitchParam e x = absurd (cc)
-  as_switch who n (kind.ProcParam t) e x = absurd (cc)
-  as_switch who n kind.Label e x = absurd (cc)
-  as_switch who n (kind.Proc t) e x = absurd (cc)
-  as_switch who n kind.ReadByte e x = absurd (cc)
-  as_switch who n kind.WriteByte e x = absurd (cc)
-  as_switch who n kind.Bounds e x = absurd (cc)
-  as_switch who n (kind.Answer t) e x = absurd (cc)
+  as_switch who n _ e x = absurd (cc)
 
   module _ (d : Declaration) (h : IsTrue (is_own_switch d.kind)) (k : ℕ) (s : Switch) (is : item_at numbers d.name.at.token ≡ Some (numbered.Switch k)) (there : slice_get u.switches k ≡ Some s) where
     in_body : (who : Option ℕ) → AllReached u who s.list → StandsIn named numbers u who d

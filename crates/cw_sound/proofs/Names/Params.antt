@@ -1,30 +1,26 @@
 -- The control parameters of a procedure, beside their declarations.
-use Rattle.std.proofs.Common.{◌≡◌, ◌⊎◌, inl, inr, ℕ, List, [], ◌∷◌, ◌++◌, map, length, true, false, cond, Option, Some, None, refl, sym, ap, ap₂, subst, subst₂, ◌∙◌, append-nil}
+use Rattle.std.proofs.Common.{◌≡◌, inl, ℕ, List, [], ◌∷◌, ◌++◌, map, false, cond, Option, refl, sym, ap, ap₂, subst, subst₂, ◌∙◌}
 use Rattle.cw_table.specs.declared.table.Row.{Row}
 use Rattle.cw_tree.specs.declared.leaf.RawName.{RawName}
 use Rattle.cw_tree.specs.declared.leaf.RawType.{RawType}
 use Rattle.cw_tree.specs.declared.leaf.Position.{Position}
 use Rattle.cw_tree.specs.declared.items.RawElem.{RawElem}
-use Rattle.cw_tree.specs.declared.items.RawTable.{RawTable}
 use Rattle.cw_tree.specs.declared.segment.RawIps.{RawIps}
 use Rattle.cw_tree.specs.declared.segment.RawIps.TheVariants as inner
-use Rattle.cw_tree.specs.declared.segment.RawPs.{RawPs}
-use Rattle.cw_tree.specs.declared.segment.RawPs.TheVariants as ps
 use Rattle.cw_tree.specs.declared.statement.RawParam.{RawParam}
 use Rattle.cw_tree.specs.declared.statement.RawParam.TheVariants as raw
 use Rattle.cw_facts.specs.declared.fact.Fact.{Fact}
-use Rattle.cw_facts.specs.declared.fact.Declaration.{Declaration}
 use Rattle.cw_facts.specs.declared.fact.Kind.{Kind as NameKind}
 use Rattle.cw_facts.specs.declared.fact.Kind.TheVariants as kind
 use Rattle.cw_facts.specs.declared.fact.Signature.{Signature}
-use Rattle.cw_facts.specs.Facts.{declares, specifies, each_declares, element_name, elements_facts, table_facts, procedure_parameter_facts, parameter_facts, parameters_facts}
+use Rattle.cw_facts.specs.Facts.{declares, specifies, each_declares, element_name, elements_facts, table_facts, parameter_facts, parameters_facts}
 use Rattle.cw_facts.specs.Signatures.{plain, same_for, flat, flattened}
 use Rattle.cw_scope.specs.Resolved.{text_signatures}
-use Rattle.cw_make_items.specs.Lookup.{Numbers, item_here, control_here}
-use Rattle.cw_make_items.specs.Types.{each_plain_taken, plain_taken, plain_spec}
-use Rattle.cw_make.specs.Procedures.{param_of, each_param, params_in, params_of}
-use Rattle.cw_safety.specs.Kinds.{Kind, WordKind, LabelKind, SwitchKind, ProcedureKind, Taken, taken_by, kind_of_param, control_kinds}
-use Rattle.cw_sound.specs.Uses.Stands.{kind_of_plain, taken_by_plain, kind_specified}
+use Rattle.cw_make_items.specs.Lookup.{Numbers}
+use Rattle.cw_make_items.specs.Types.{each_plain_taken, plain_taken}
+use Rattle.cw_make.specs.Procedures.{each_param, params_in, params_of}
+use Rattle.cw_safety.specs.Kinds.{Kind, WordKind, LabelKind, SwitchKind, ProcedureKind, taken_by, kind_of_param, control_kinds}
+use Rattle.cw_sound.specs.Uses.Stands.{taken_by_plain, kind_specified}
 use Rattle.cw_sound.specs.Uses.Mentions.{In, Mention, Here, here, declares as declared, uses, stores, facts_mentions}
 use Rattle.cw_sound.specs.Names.Standing.{is_control}
 use Rattle.cw_sound.proofs.Names.Lists.{Sub, sub_left, sub_right}
@@ -38,11 +34,7 @@ use Rattle.cw_sound.proofs.Names.MentionsOf.{declared_first, specified_first, de
 taken_plain : (p : RawIps) → taken_by (plain_taken p) ≡ taken_by_plain p
 unfolding Rattle.cw_unit.specs.declared.descriptor.SpecParam.TheViews.out-SpecParam denote.Hole.Carrier.out
 taken_plain (inner.Value at t) = refl
-taken_plain (inner.Location at t) = refl
-taken_plain (inner.Array t) = refl
-taken_plain (inner.Table at s) = refl
-taken_plain (inner.Label at) = refl
-taken_plain (inner.Switch at) = refl
+taken_plain _ = refl
 
 pub all_taken_plain : (ps : List RawIps) → map taken_by (each_plain_taken ps) ≡ map taken_by_plain ps
 all_taken_plain [] = refl

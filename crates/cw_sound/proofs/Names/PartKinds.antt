@@ -1,5 +1,5 @@
 -- What the parts of a block declare by themselves.
-use Rattle.std.proofs.Common.{◌≡◌, ◌⊎◌, inl, inr, ℕ, suc, ◌+◌, List, [], ◌∷◌, ◌++◌, length, Bool, true, false, cond, IsTrue, Option, Some, None, refl, sym, ap, ap₂, subst, ◌∙◌, arith, append_assoc, append-nil, length-append}
+use Rattle.std.proofs.Common.{◌≡◌, ℕ, suc, ◌+◌, List, [], ◌∷◌, ◌++◌, length, Bool, true, false, IsTrue, Option, Some, None, refl, sym, ap, ap₂, ◌∙◌, append_assoc, length-append}
 use Rattle.cw_tree.specs.declared.leaf.RawName.{RawName}
 use Rattle.cw_tree.specs.declared.leaf.RawType.{RawType}
 use Rattle.cw_tree.specs.declared.items.RawGroup.{RawGroup}
@@ -11,15 +11,15 @@ use Rattle.cw_facts.specs.declared.fact.Fact.TheVariants as fact
 use Rattle.cw_facts.specs.declared.fact.Form.TheVariants as form
 use Rattle.cw_facts.specs.declared.fact.Kind.{Kind as NameKind}
 use Rattle.cw_facts.specs.declared.fact.Kind.TheVariants as kind
-use Rattle.cw_facts.specs.Facts.{declares, specifies, each_declares, each_uses, elements_facts, groups_facts, data_facts, parameters_facts, answer_facts}
+use Rattle.cw_facts.specs.Facts.{specifies, each_declares, each_uses, elements_facts, groups_facts, data_facts, parameters_facts, answer_facts}
 use Rattle.cw_facts.specs.Signatures.{flattened}
 use Rattle.cw_scope.specs.declared.resolve.Named.{Named}
 use Rattle.cw_make_items.specs.Lookup.{Numbers, proc_here}
 use Rattle.cw_unit.specs.declared.unit.Proc.{Proc}
 use Rattle.cw_unit.specs.declared.unit.Switch.{Switch}
-use Rattle.cw_sound.specs.Uses.Mentions.{In, Mention, Here, here, declares as declared, uses, stores, facts_mentions}
+use Rattle.cw_sound.specs.Uses.Mentions.{Mention, Here, here, declares as declared, facts_mentions}
 use Rattle.cw_sound.specs.Names.Standing.{is_own_procedure}
-use Rattle.cw_sound.proofs.Names.Parts.{Part, Plain, is_plain, empty, both, plain, items as data_items, label, switch, block, procedure, more, procedure_with}
+use Rattle.cw_sound.proofs.Names.Parts.{Part, is_plain, empty, both, plain, items as data_items, label, switch, block, procedure, more, procedure_with}
 use Rattle.cw_sound.proofs.Names.Rows.{mentions_append}
 use Rattle.cw_sound.proofs.Names.Picking.{pick, pick_append, none_picked}
 use Rattle.cw_sound.proofs.Names.Sorts.{of_kind}
@@ -54,6 +54,20 @@ module _ (numbers : Numbers) where
   uses_say [] = says_nothing numbers IsPlain
   uses_say (n ∷ ns) = says_use numbers IsPlain (record { name = n; form = form.Listed }) (each_uses ns) refl (uses_say ns)
 
+-- ---- mentions of which none is of a sort
+
+pub data_not : (is : NameKind → Bool) → ((k : NameKind) → IsTrue (is_data k) → is k ≡ false) → (m : Mention) → IsData m → of_kind is m ≡ false
+data_not is never (declared d) h = never d.kind h
+data_not is never _ h = refl
+
+pub parameter_not : (is : NameKind → Bool) → ((k : NameKind) → IsTrue (is_parameter k) → is k ≡ false) → (m : Mention) → IsParameter m → of_kind is m ≡ false
+parameter_not is never (declared d) h = never d.kind h
+parameter_not is never _ h = refl
+
+pub plain_not : (is : NameKind → Bool) (m : Mention) → IsPlain m → of_kind is m ≡ false
+plain_not is (declared d) h = absurd (cc)
+plain_not is _ h = refl
+
 -- ---- none of these is a procedure
 
 data_kind : (k : NameKind) → IsTrue (is_data k) → is_own_procedure k ≡ false
@@ -63,21 +77,6 @@ data_kind _ h = refl
 parameter_kind : (k : NameKind) → IsTrue (is_parameter k) → is_own_procedure k ≡ false
 parameter_kind (kind.Proc t) h = absurd (cc)
 parameter_kind _ h = refl
-
-data_no_procedure : (m : Mention) → IsData m → of_kind is_own_procedure m ≡ false
-data_no_procedure (declared d) h = data_kind d.kind h
-data_no_procedure (uses x) h = refl
-data_no_procedure (stores token n) h = refl
-
-parameter_no_procedure : (m : Mention) → IsParameter m → of_kind is_own_procedure m ≡ false
-parameter_no_procedure (declared d) h = parameter_kind d.kind h
-parameter_no_procedure (uses x) h = refl
-parameter_no_procedure (stores token n) h = refl
-
-plain_no_procedure : (m : Mention) → IsPlain m → of_kind is_own_procedure m ≡ false
-plain_no_procedure (declared d) h = absurd (cc)
-plain_no_procedure (uses x) h = refl
-plain_no_procedure (stores token n) h = refl
 
 abbrev pub procs_in : List Here → List Here
 procs_in = pick (of_kind is_own_procedure)
@@ -117,8 +116,8 @@ module _ (named : Named) (numbers : Numbers) where
     no_procs_before =
         pick_append (of_kind is_own_procedure) answers params
         ∙ ap₂ (λ a b. a ++ b)
-        (none_picked (of_kind is_own_procedure) answers (λ m i. parameter_no_procedure m.mention (answer_says numbers (out-RawProc p).answer within_it m i).1))
-        (none_picked (of_kind is_own_procedure) params (λ m i. parameter_no_procedure m.mention (parameters_say numbers (out-RawProc p).params within_it m i).1))
+        (none_picked (of_kind is_own_procedure) answers (λ m i. parameter_not is_own_procedure parameter_kind m.mention (answer_says numbers (out-RawProc p).answer within_it m i).1))
+        (none_picked (of_kind is_own_procedure) params (λ m i. parameter_not is_own_procedure parameter_kind m.mention (parameters_say numbers (out-RawProc p).params within_it m i).1))
 
     pub inner_procs : procs_in (answers ++ (params ++ body)) ≡ procs_in body
     inner_procs =
@@ -132,12 +131,12 @@ module _ (named : Named) (numbers : Numbers) where
       ∙ ap length (pick_append (of_kind is_own_procedure) (facts_mentions numbers fs q) (facts_mentions numbers gs q))
       ∙ length-append (procs_in (facts_mentions numbers fs q)) (procs_in (facts_mentions numbers gs q))
       ∙ ap₂ (λ m n. m + n) (part_procs a q) (part_procs b q) ∙ sym (length-append ps qs)
-  part_procs (plain {fs} h) q = ap length (none_picked (of_kind is_own_procedure) (facts_mentions numbers fs q) (λ m i. plain_no_procedure m.mention (h.mentions q m i).1))
-  part_procs (data_items d) q = ap length (none_picked (of_kind is_own_procedure) (facts_mentions numbers (data_facts d) q) (λ m i. data_no_procedure m.mention (data_say numbers d q m i).1))
+  part_procs (plain {fs} h) q = ap length (none_picked (of_kind is_own_procedure) (facts_mentions numbers fs q) (λ m i. plain_not is_own_procedure m.mention (h.mentions q m i).1))
+  part_procs (data_items d) q = ap length (none_picked (of_kind is_own_procedure) (facts_mentions numbers (data_facts d) q) (λ m i. data_not is_own_procedure data_kind m.mention (data_say numbers d q m i).1))
   part_procs (label n) q = ap (λ ms. length (procs_in ms)) (declared_first numbers n kind.Label [] q)
   part_procs (switch n labels) q =
       ap (λ ms. length (procs_in ms)) (declared_first numbers n kind.Switch (each_uses labels) q)
-      ∙ ap length (none_picked (of_kind is_own_procedure) (facts_mentions numbers (each_uses labels) q) (λ m i. plain_no_procedure m.mention (uses_say numbers labels q m i).1))
+      ∙ ap length (none_picked (of_kind is_own_procedure) (facts_mentions numbers (each_uses labels) q) (λ m i. plain_not is_own_procedure m.mention (uses_say numbers labels q m i).1))
   part_procs (block {fs} a) q = ap (λ ms. length (procs_in ms)) (block_alone numbers None fs q) ∙ part_procs a q
   part_procs (procedure p {fs} {ws} {ps} a) q =
       ap (λ ms. length (procs_in ms)) (shape p fs q) ∙ ap (λ ms. length (first_mention p fs q ∷ ms)) (inner_procs p fs q)

@@ -1,5 +1,5 @@
 -- Each use of a name in a text without faults refers to a declaration that is near and allows it.
-use Rattle.std.proofs.Common.{◌≡◌, ◌⊎◌, inl, inr, ℕ, List, [], ◌∷◌, ◌++◌, map, Bool, true, false, IsTrue, ◌&&◌, not, Option, Some, None, refl, sym, ap, ap₂, subst, ◌∙◌}
+use Rattle.std.proofs.Common.{◌≡◌, ◌⊎◌, inl, inr, ℕ, List, [], ◌∷◌, ◌++◌, map, Bool, true, false, IsTrue, ◌&&◌, not, Option, Some, None, refl, sym, ap, subst}
 use Rattle.cw_table.specs.declared.table.Row.{Row}
 use Rattle.cw_facts.specs.declared.fact.Fact.{Fact, Fact-F, map-Fact, roll-Fact}
 use Rattle.cw_facts.specs.declared.fact.Fact.TheFolds.{fold-roll-Fact, ind-Fact}
@@ -7,13 +7,12 @@ use Rattle.cw_facts.specs.declared.fact.Fact.TheOpen as layer
 use Rattle.cw_facts.specs.declared.fact.Declaration.{Declaration}
 use Rattle.cw_facts.specs.declared.fact.Use.{Use}
 use Rattle.cw_scope.specs.declared.fault.Rule.TheVariants as rule
-use Rattle.cw_scope.specs.Faults.{unless, wrong}
 use Rattle.cw_scope.specs.Scope.{Environment, declaration_of}
-use Rattle.cw_scope.specs.NameRules.{Said, said, said_step, all_declared, all_faults, all_resolved, within, fits, use_faults, resolutions, undeclared_rule}
-use Rattle.cw_make_items.specs.Lookup.{Numbers, proc_here}
+use Rattle.cw_scope.specs.NameRules.{Said, said, said_step, all_declared, all_faults, all_resolved, within, fits, use_faults, resolutions}
+use Rattle.cw_make_items.specs.Lookup.{Numbers}
 use Rattle.cw_make.specs.Labels.{proc_within}
-use Rattle.cw_sound.specs.Uses.Mentions.{In, Mention, Here, here, declares, uses, stores, Mentions, mentions_step, fact_mentions, facts_mentions, joined}
-use Rattle.cw_sound.specs.Names.Placed.{all_so, apart_step, fact_apart, tokens, all_tokens, used_step, fact_used}
+use Rattle.cw_sound.specs.Uses.Mentions.{In, Mention, Here, here, declares, uses, stores, Mentions, mentions_step, fact_mentions, facts_mentions}
+use Rattle.cw_sound.specs.Names.Placed.{all_so, apart_step, fact_apart}
 use Rattle.cw_sound.proofs.Names.Lists.{in_left, in_right, in_either, Sub, sub_left, sub_right}
 use Rattle.cw_sound.proofs.Names.NoFaults.{parts, holds, facts_keep}
 use Rattle.cw_sound.proofs.Names.Nearness.{Near, BlockNear, AllNear, near_within, near_inwards, near_found}
@@ -39,11 +38,7 @@ module _ (numbers : Numbers) where
   mentioned : (x : Fact-F Fact) → Mentioned (said_step (map-Fact Fact Said said x)) (mentions_step numbers (map-Fact Fact Mentions (fact_mentions numbers) x))
   mentioned (layer.Declares c) q d (inl e) = inl (ap (λ y. here q (declares y)) e)
   mentioned (layer.Declares c) q d (inr h) = absurd h
-  mentioned (layer.Uses x) q d h = absurd h
-  mentioned (layer.Specifies token s) q d h = absurd h
-  mentioned (layer.Loop at) q d h = absurd h
-  mentioned (layer.Text at n) q d h = absurd h
-  mentioned (layer.Block owner xs) q d h = absurd h
+  mentioned _ q d h = absurd h
 
   fact_mentioned : (f : Fact) → Mentioned (said f) (fact_mentions numbers f)
   fact_mentioned = ind-Fact (λ f. Mentioned (said f) (fact_mentions numbers f)) (λ x y is.

@@ -1,5 +1,5 @@
 -- What is kept of the names of a text, by its mentions, and the tokens of what is used.
-use Rattle.std.proofs.Common.{◌≡◌, ◌⊎◌, inl, inr, ℕ, List, [], ◌∷◌, ◌++◌, map, Option, Some, None, refl, sym, ap, ap₂, subst, ◌∙◌, append_assoc}
+use Rattle.std.proofs.Common.{◌≡◌, inl, inr, ℕ, List, [], ◌∷◌, ◌++◌, map, Option, Some, None, refl, sym, ap, ap₂, subst, ◌∙◌, append_assoc}
 use Rattle.cw_table.specs.declared.table.Row.{Row}
 use Rattle.cw_facts.specs.declared.fact.Fact.{Fact, Fact-F, map-Fact, roll-Fact}
 use Rattle.cw_facts.specs.declared.fact.Fact.TheFolds.{fold-roll-Fact, ind-Fact}
@@ -7,11 +7,11 @@ use Rattle.cw_facts.specs.declared.fact.Fact.TheOpen as layer
 use Rattle.cw_facts.specs.declared.fact.Declaration.{Declaration}
 use Rattle.cw_facts.specs.declared.fact.Use.{Use}
 use Rattle.cw_scope.specs.Scope.{Environment, declaration_of}
-use Rattle.cw_scope.specs.NameRules.{Said, said, said_step, all_declared, all_faults, all_resolved, within, use_faults, resolutions}
+use Rattle.cw_scope.specs.NameRules.{Said, said, said_step, all_faults, all_resolved, within, use_faults, resolutions}
 use Rattle.cw_scope.specs.Resolved.{all_rows, declarations_step, fact_declarations, text_declarations}
 use Rattle.cw_make_items.specs.Lookup.{Numbers}
 use Rattle.cw_make.specs.Labels.{proc_within}
-use Rattle.cw_sound.specs.Uses.Mentions.{In, Mention, Here, here, declares, uses, stores, Mentions, joined, mentions_step, fact_mentions, facts_mentions}
+use Rattle.cw_sound.specs.Uses.Mentions.{In, Mention, Here, here, declares, uses, stores, Mentions, mentions_step, fact_mentions, facts_mentions}
 use Rattle.cw_sound.specs.Names.Placed.{tokens, all_tokens, used_step, fact_used, text_used}
 use Rattle.cw_sound.proofs.Names.NoFaults.{parts, facts_keep}
 
@@ -55,12 +55,8 @@ module _ (numbers : Numbers) where
   all_have (e ∷ es) q = rows_append (fact_mentions numbers e.0 q) (facts_mentions numbers (map (λ z. z.0) es) q) ∙ ap₂ (λ a b. a ++ b) (e.1 q) (all_have es q)
 
   have_rows : (y : Fact-F ((f : Fact) × FactRows f)) → let x : Fact-F Fact = map-Fact ((f : Fact) × FactRows f) Fact (λ e. e.0) y in HasRows (mentions_step numbers (map-Fact Fact Mentions (fact_mentions numbers) x)) (declarations_step (map-Fact Fact (List (Row Declaration)) fact_declarations x))
-  have_rows (layer.Declares d) q = refl
-  have_rows (layer.Uses x) q = refl
-  have_rows (layer.Specifies token s) q = refl
-  have_rows (layer.Loop at) q = refl
-  have_rows (layer.Text at n) q = refl
   have_rows (layer.Block owner es) q = all_have es (proc_within numbers owner q)
+  have_rows _ q = refl
 
   fact_rows : (f : Fact) → FactRows f
   fact_rows = ind-Fact FactRows (λ x y is.
@@ -101,12 +97,9 @@ all_used (x ∷ xs) env e =
     tokens_append ((said x.0).resolved env) (all_resolved env (map said fs)) ∙ ap₂ (λ a b. a ++ b) (x.1 env free.0) (all_used xs env free.1)
 
 used_at : (y : Fact-F ((f : Fact) × FactUsed f)) → let x : Fact-F Fact = map-Fact ((f : Fact) × FactUsed f) Fact (λ e. e.0) y in UsedAt (said_step (map-Fact Fact Said said x)) (used_step (map-Fact Fact (List ℕ) fact_used x))
-used_at (layer.Declares d) env e = refl
 used_at (layer.Uses x) env e = use_token (declaration_of env x.name.name) x e
-used_at (layer.Specifies token s) env e = refl
-used_at (layer.Loop at) env e = refl
-used_at (layer.Text at n) env e = refl
 used_at (layer.Block owner es) env e = all_used es (within env (map said (map (λ z. z.0) es))) e
+used_at _ env e = refl
 
 fact_used_at : (f : Fact) → FactUsed f
 fact_used_at = ind-Fact FactUsed (λ x y is.

@@ -1,5 +1,5 @@
 -- Each specification is of a procedure that is declared.
-use Rattle.std.proofs.Common.{◌≡◌, ◌≢◌, ◌⊎◌, inl, inr, ℕ, List, [], ◌∷◌, ◌++◌, map, Bool, true, false, IsTrue, Option, Some, None, refl, sym, ap, ap₂, subst, ◌∙◌, append-nil}
+use Rattle.std.proofs.Common.{◌≡◌, ◌⊎◌, inl, inr, ℕ, List, [], ◌∷◌, ◌++◌, Bool, true, false, IsTrue, Option, Some, None, refl, sym, ap, ap₂, subst, ◌∙◌, append-nil}
 use Rattle.cw_table.specs.declared.table.Row.{Row}
 use Rattle.cw_tree.specs.declared.leaf.RawName.{RawName}
 use Rattle.cw_tree.specs.declared.leaf.RawType.{RawType}
@@ -9,9 +9,8 @@ use Rattle.cw_tree.specs.declared.items.RawData.{RawData}
 use Rattle.cw_tree.specs.declared.items.RawData.TheVariants as items
 use Rattle.cw_tree.specs.declared.statement.RawParam.{RawParam}
 use Rattle.cw_tree.specs.declared.statement.RawParam.TheVariants as raw
-use Rattle.cw_tree.specs.declared.statement.RawProc.{RawProc, out-RawProc}
+use Rattle.cw_tree.specs.declared.statement.RawProc.{out-RawProc}
 use Rattle.cw_tree.specs.declared.segment.RawPs.{RawPs}
-use Rattle.cw_tree.specs.declared.segment.RawSpec.{RawSpec}
 use Rattle.cw_make.specs.Labels.{proc_within}
 use Rattle.cw_facts.specs.declared.fact.Fact.{Fact}
 use Rattle.cw_facts.specs.declared.fact.Fact.TheVariants as fact
@@ -20,10 +19,8 @@ use Rattle.cw_facts.specs.declared.fact.Declaration.{Declaration}
 use Rattle.cw_facts.specs.declared.fact.Kind.{Kind as NameKind}
 use Rattle.cw_facts.specs.declared.fact.Kind.TheVariants as kind
 use Rattle.cw_facts.specs.declared.fact.Signature.{Signature}
-use Rattle.cw_facts.specs.declared.fact.Use.{Use}
 use Rattle.cw_facts.specs.Facts.{declares, specifies, each_declares, each_uses, element_name, elements_facts, groups_facts, data_facts, parameter_facts, parameters_facts, answer_facts, answer_name, type_position}
 use Rattle.cw_facts.specs.Signatures.{plain, flattened}
-use Rattle.cw_facts.specs.Text.{spec_facts}
 use Rattle.cw_scope.specs.declared.resolve.Named.{Named}
 use Rattle.cw_scope.specs.Resolved.{fact_signatures, text_signatures}
 use Rattle.cw_make_items.specs.Lookup.{Numbers}
@@ -31,13 +28,13 @@ use Rattle.cw_number.specs.declared.listed.Listing.{Listing}
 use Rattle.cw_unit.specs.declared.unit.Proc.{Proc}
 use Rattle.cw_unit.specs.declared.unit.Switch.{Switch}
 use Rattle.cw_unit.specs.declared.descriptor.Desc.{Desc}
-use Rattle.cw_sound.specs.Uses.Mentions.{In, Mention, Here, here, declares as declared, facts_mentions}
+use Rattle.cw_sound.specs.Uses.Mentions.{In, Here, here, declares as declared, facts_mentions}
 use Rattle.cw_sound.proofs.Names.Parts as part
-use Rattle.cw_sound.proofs.Names.Parts.{Part, Plain, procedure_with}
+use Rattle.cw_sound.proofs.Names.Parts.{Part}
 use Rattle.cw_sound.proofs.Names.Lists.{in_left, in_right, in_either}
 use Rattle.cw_sound.proofs.Names.Rows.{mentions_append}
 use Rattle.cw_sound.proofs.Names.MentionsOf.{declared_first, specified_first, block_alone, signatures_use, signatures_block, signatures_append, declared_before, specified_before}
-use Rattle.cw_sound.proofs.Names.PartKinds.{shape, answers, params, body, first_mention, within_it, inner_facts}
+use Rattle.cw_sound.proofs.Names.PartKinds.{params}
 use Rattle.cw_sound.proofs.Names.ListedParts as listed
 use Rattle.cw_sound.proofs.Names.ListedParts.{Listed, is_special}
 
@@ -141,19 +138,7 @@ module _ (numbers : Numbers) where
   special_kind kind.Bounds h = refl
   special_kind (kind.Proc t) h = refl
   special_kind (kind.ProcParam t) h = refl
-  special_kind (kind.Single t) h = absurd (cc)
-  special_kind (kind.Array t b) h = absurd (cc)
-  special_kind (kind.Table s) h = absurd (cc)
-  special_kind (kind.Element t e) h = absurd (cc)
-  special_kind (kind.Value t) h = absurd (cc)
-  special_kind (kind.Location t) h = absurd (cc)
-  special_kind (kind.ArrayParam t) h = absurd (cc)
-  special_kind (kind.TableParam s) h = absurd (cc)
-  special_kind kind.LabelParam h = absurd (cc)
-  special_kind kind.SwitchParam h = absurd (cc)
-  special_kind kind.Label h = absurd (cc)
-  special_kind kind.Switch h = absurd (cc)
-  special_kind (kind.Answer t) h = absurd (cc)
+  special_kind _ h = absurd (cc)
 
   pub listed_specified : {fs : List Fact} {rs : List (Row Listing)} {ds : List Desc} → Listed fs rs ds → AllSpecified fs
   listed_specified listed.none = without [] refl

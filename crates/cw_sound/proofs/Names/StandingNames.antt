@@ -1,14 +1,11 @@
 -- From what a declaration stands for to the names that refer to it.
-use Rattle.std.proofs.Common.{◌≡◌, ◌⊎◌, inl, inr, ℕ, List, [], ◌∷◌, ◌++◌, map, length, Bool, true, false, IsTrue, ◌&&◌, nat_eq, Option, Some, None, slice_get, refl, sym, ap, ap₂, subst, ◌∙◌}
+use Rattle.std.proofs.Common.{◌≡◌, ℕ, map, IsTrue, ◌&&◌, Option, Some, None, slice_get, refl, sym, ap, subst, ◌∙◌}
 use Rattle.std.specs.Prelude.{option_map, option_and_then}
-use Rattle.cw_table.specs.declared.table.Row.{Row}
 use Rattle.cw_table.specs.Rows.{item_at}
 use Rattle.cw_tree.specs.declared.leaf.RawName.{RawName}
 use Rattle.cw_tree.specs.declared.leaf.RawType.{RawType}
 use Rattle.cw_tree.specs.declared.leaf.RawType.TheVariants as type
-use Rattle.cw_tree.specs.declared.segment.RawIps.{RawIps}
-use Rattle.cw_tree.specs.declared.segment.RawPs.{RawPs}
-use Rattle.cw_tree.specs.declared.statement.RawProc.{RawProc, out-RawProc}
+use Rattle.cw_tree.specs.declared.statement.RawProc.{out-RawProc}
 use Rattle.cw_facts.specs.declared.fact.Declaration.{Declaration}
 use Rattle.cw_facts.specs.declared.fact.Kind.{Kind as NameKind}
 use Rattle.cw_facts.specs.declared.fact.Kind.TheVariants as kind
@@ -17,11 +14,10 @@ use Rattle.cw_facts.specs.Signatures.{plain, flattened}
 use Rattle.cw_scope.specs.declared.resolve.Named.{Named}
 use Rattle.cw_scope.specs.NameRules.{is_own_label}
 use Rattle.cw_scale.specs.Kinds.{kind_in, kind_of, signature_of, answer_fraction}
-use Rattle.cw_number.specs.declared.numbered.Numbered.{Numbered}
 use Rattle.cw_number.specs.declared.numbered.Numbered.TheVariants as numbered
-use Rattle.cw_make_expr.specs.Parts.{Numbers, number_of, target_of, answer_of as control_answer, scale_of as control_scale, label_in}
-use Rattle.cw_make_items.specs.Types.{scale_of, answer_of}
-use Rattle.cw_make.specs.Procedures.{proc_of, params_of}
+use Rattle.cw_make_expr.specs.Parts.{Numbers, number_of, target_of, answer_of as control_answer}
+use Rattle.cw_make_items.specs.Types.{answer_of}
+use Rattle.cw_make.specs.Procedures.{proc_of}
 use Rattle.cw_unit.specs.declared.unit.Unit.{Unit as SourceUnit}
 use Rattle.cw_unit.specs.declared.unit.Proc.{Proc}
 use Rattle.cw_unit.specs.declared.unit.Label.{Label}
@@ -29,7 +25,7 @@ use Rattle.cw_unit.specs.Scales.{answer_scale, fraction_of, fraction_of_proc}
 use Rattle.cw_safety.specs.Kinds.{Kind, LabelKind, SwitchKind, ProcedureKind}
 use Rattle.cw_safety.specs.WellFormed.{sets, sets_in_procedure, is_at, reaches_label}
 use Rattle.cw_built.specs.Built.{at_work}
-use Rattle.cw_sound.specs.Uses.Stands.{StandsAs, IsItem, IsLabel, IsControl, IsProcedure, Called, taken_by_plain, kind_specified}
+use Rattle.cw_sound.specs.Uses.Stands.{StandsAs, IsItem, IsLabel, IsControl, IsProcedure, taken_by_plain}
 use Rattle.cw_sound.specs.Uses.Mentions.{In}
 use Rattle.cw_sound.specs.Names.Placed.{tokens, Differ}
 use Rattle.cw_sound.specs.Names.Found.{Refers}
@@ -141,42 +137,14 @@ module _ (named : Named) (numbers : Numbers) (u : SourceUnit) where
         is = (x.0, refl, control_here p d n (ProcedureKind (map taken_by_plain x.0)) r (x.1 few));
         scale = ap (λ o. answer_scale u (target_of (kind_of named n) o)) (number_here n d r ∙ (x.1 few).1) ∙ ap (λ o. fraction_of (control_answer o)) (kind_here n d r ∙ ap (λ y. Some y) (sym is)) ∙ control_answer_same answer;
       }
-  control_stands p d n few differ r (kind.Single t) is e x = absurd (cc)
-  control_stands p d n few differ r (kind.Array t b) is e x = absurd (cc)
-  control_stands p d n few differ r (kind.Table s) is e x = absurd (cc)
-  control_stands p d n few differ r (kind.Element t y) is e x = absurd (cc)
-  control_stands p d n few differ r (kind.Value t) is e x = absurd (cc)
-  control_stands p d n few differ r (kind.Location t) is e x = absurd (cc)
-  control_stands p d n few differ r (kind.ArrayParam t) is e x = absurd (cc)
-  control_stands p d n few differ r (kind.TableParam s) is e x = absurd (cc)
-  control_stands p d n few differ r kind.Label is e x = absurd (cc)
-  control_stands p d n few differ r kind.Switch is e x = absurd (cc)
-  control_stands p d n few differ r (kind.Proc t) is e x = absurd (cc)
-  control_stands p d n few differ r kind.ReadByte is e x = absurd (cc)
-  control_stands p d n few differ r kind.WriteByte is e x = absurd (cc)
-  control_stands p d n few differ r kind.Bounds is e x = absurd (cc)
-  control_stands p d n few differ r (kind.Answer t) is e x = absurd (cc)
+  control_stands p d n few differ r _ is e x = absurd (cc)
 
   -- outside of procedures there are none
   nowhere : FewParameters named → (n : RawName) (k : NameKind) → IsTrue (is_control k) → Goal named numbers u None n k → ⊥
   nowhere few n kind.LabelParam e x = let none = (x few).2 in cc
   nowhere few n kind.SwitchParam e x = let none = (x few).2 in cc
   nowhere few n (kind.ProcParam answer) e x = let none = (x.1 few).2 in cc
-  nowhere few n (kind.Single t) e x = cc
-  nowhere few n (kind.Array t b) e x = cc
-  nowhere few n (kind.Table s) e x = cc
-  nowhere few n (kind.Element t y) e x = cc
-  nowhere few n (kind.Value t) e x = cc
-  nowhere few n (kind.Location t) e x = cc
-  nowhere few n (kind.ArrayParam t) e x = cc
-  nowhere few n (kind.TableParam s) e x = cc
-  nowhere few n kind.Label e x = cc
-  nowhere few n kind.Switch e x = cc
-  nowhere few n (kind.Proc t) e x = cc
-  nowhere few n kind.ReadByte e x = cc
-  nowhere few n kind.WriteByte e x = cc
-  nowhere few n kind.Bounds e x = cc
-  nowhere few n (kind.Answer t) e x = cc
+  nowhere few n _ e x = cc
 
   pub control_from : FewParameters named → (owner : Option ℕ) (d : Declaration) → IsTrue (is_control d.kind) → Differ (tokens named.signatures) → Goal named numbers u owner d.name d.kind → StandsFrom named numbers u owner d
   control_from few None d h differ g = absurd (nowhere few d.name d.kind h g)
@@ -213,23 +181,7 @@ module _ (named : Named) (numbers : Numbers) (u : SourceUnit) where
 
   as_label : (who : Option ℕ) (n : RawName) (k : NameKind) → IsTrue (is_own_label k) → StandsAs named numbers u who kind.Label n → StandsAs named numbers u who k n
   as_label who n kind.Label e x = x
-  as_label who n (kind.Single t) e x = absurd (cc)
-  as_label who n (kind.Array t b) e x = absurd (cc)
-  as_label who n (kind.Table s) e x = absurd (cc)
-  as_label who n (kind.Element t y) e x = absurd (cc)
-  as_label who n (kind.Value t) e x = absurd (cc)
-  as_label who n (kind.Location t) e x = absurd (cc)
-  as_label who n (kind.ArrayParam t) e x = absurd (cc)
-  as_label who n (kind.TableParam s) e x = absurd (cc)
-  as_label who n kind.LabelParam e x = absurd (cc)
-  as_label who n kind.SwitchParam e x = absurd (cc)
-  as_label who n (kind.ProcParam t) e x = absurd (cc)
-  as_label who n kind.Switch e x = absurd (cc)
-  as_label who n (kind.Proc t) e x = absurd (cc)
-  as_label who n kind.ReadByte e x = absurd (cc)
-  as_label who n kind.WriteByte e x = absurd (cc)
-  as_label who n kind.Bounds e x = absurd (cc)
-  as_label who n (kind.Answer t) e x = absurd (cc)
+  as_label who n _ e x = absurd (cc)
 
   pub label_from : (owner : Option ℕ) (d : Declaration) → IsTrue (is_own_label d.kind) → LabelAt owner d.name → StandsFrom named numbers u owner d
   label_from None d h a = λ who n r. as_label who n d.kind h (label_in_body None who d n r a a.is_set)

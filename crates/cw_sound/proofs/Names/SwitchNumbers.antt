@@ -1,11 +1,8 @@
 -- The switches of a text, beside their declarations: each of its labels is reached in the body where the switch is declared.
-use Rattle.std.proofs.Common.{◌≡◌, ◌⊎◌, inl, inr, ℕ, List, [], ◌∷◌, ◌++◌, map, length, Bool, true, false, cond, IsTrue, ◌&&◌, Option, Some, None, slice_get, refl, sym, ap, ap₂, subst, ◌∙◌}
-use Rattle.cw_table.specs.Rows.{item_at}
+use Rattle.std.proofs.Common.{◌≡◌, inl, inr, ℕ, List, [], ◌∷◌, ◌++◌, Bool, true, false, IsTrue, ◌&&◌, Option, Some, None, slice_get, refl, sym, ap, subst, ◌∙◌}
 use Rattle.cw_tree.specs.declared.leaf.RawName.{RawName}
 use Rattle.cw_tree.specs.declared.statement.RawProc.{out-RawProc}
 use Rattle.cw_facts.specs.declared.fact.Fact.{Fact}
-use Rattle.cw_facts.specs.declared.fact.Fact.TheVariants as fact
-use Rattle.cw_facts.specs.declared.fact.Declaration.{Declaration}
 use Rattle.cw_facts.specs.declared.fact.Form.{Form}
 use Rattle.cw_facts.specs.declared.fact.Form.TheVariants as form
 use Rattle.cw_facts.specs.declared.fact.Kind.{Kind as NameKind}
@@ -15,7 +12,7 @@ use Rattle.cw_scope.specs.declared.resolve.Named.{Named}
 use Rattle.cw_scope.specs.NameRules.{is_own_switch}
 use Rattle.cw_number.specs.declared.numbered.Numbered.{Numbered}
 use Rattle.cw_number.specs.declared.numbered.Numbered.TheVariants as numbered
-use Rattle.cw_make_items.specs.Lookup.{Numbers, goal_of}
+use Rattle.cw_make_items.specs.Lookup.{Numbers, goal_in, goal_of}
 use Rattle.cw_make.specs.Switches.{goals_of}
 use Rattle.cw_unit.specs.declared.unit.Unit.{Unit as SourceUnit}
 use Rattle.cw_unit.specs.declared.unit.Proc.{Proc}
@@ -26,14 +23,15 @@ use Rattle.cw_unit.specs.Step.{label_of_goal}
 use Rattle.cw_safety.specs.WellFormed.{reaches, reaches_unit, reaches_label, reaches_goals}
 use Rattle.cw_built.specs.Built.{alone, at_work}
 use Rattle.cw_sound.specs.Uses.Mentions.{In, Mention, Here, here, declares as declared, uses, stores, facts_mentions}
+use Rattle.cw_sound.specs.Uses.Stands.{IsLabel}
 use Rattle.cw_sound.proofs.Names.Parts.{Part, empty, both, plain, items as data_items, label, switch, block, procedure, more}
 use Rattle.cw_sound.proofs.Names.Lists.{in_left, in_right}
 use Rattle.cw_sound.proofs.Names.Rows.{mentions_append}
 use Rattle.cw_sound.proofs.Names.Picking.{pick, pick_append, none_picked, Zip, zip_both}
 use Rattle.cw_sound.proofs.Names.Sorts.{of_kind}
 use Rattle.cw_sound.proofs.Names.MentionsOf.{declared_first, block_alone, of_use}
-use Rattle.cw_sound.proofs.Names.InProcedure.{IsParameter, is_parameter, parameters_say, answer_says}
-use Rattle.cw_sound.proofs.Names.PartKinds.{IsData, IsPlain, is_data, data_say, uses_say, shape, first_mention, answers, params, body, within_it}
+use Rattle.cw_sound.proofs.Names.InProcedure.{is_parameter, parameters_say, answer_says}
+use Rattle.cw_sound.proofs.Names.PartKinds.{is_data, data_say, uses_say, shape, answers, params, body, within_it, data_not, parameter_not, plain_not}
 
 -- ---- none of these is a switch
 
@@ -44,21 +42,6 @@ data_kind _ h = refl
 parameter_kind : (k : NameKind) → IsTrue (is_parameter k) → is_own_switch k ≡ false
 parameter_kind kind.Switch h = absurd (cc)
 parameter_kind _ h = refl
-
-data_no_switch : (m : Mention) → IsData m → of_kind is_own_switch m ≡ false
-data_no_switch (declared d) h = data_kind d.kind h
-data_no_switch (uses x) h = refl
-data_no_switch (stores token n) h = refl
-
-parameter_no_switch : (m : Mention) → IsParameter m → of_kind is_own_switch m ≡ false
-parameter_no_switch (declared d) h = parameter_kind d.kind h
-parameter_no_switch (uses x) h = refl
-parameter_no_switch (stores token n) h = refl
-
-plain_no_switch : (m : Mention) → IsPlain m → of_kind is_own_switch m ≡ false
-plain_no_switch (declared d) h = absurd (cc)
-plain_no_switch (uses x) h = refl
-plain_no_switch (stores token n) h = refl
 
 abbrev pub switches_in : List Here → List Here
 switches_in = pick (of_kind is_own_switch)
@@ -138,21 +121,21 @@ module _ (named : Named) (numbers : Numbers) (u : SourceUnit) where
       let parted = subst AllMentionsReached (mentions_append numbers fs gs q) h in
       subst (λ zs. Zip SwitchOf zs (ws q ++ xs q)) (sym (ap switches_in (mentions_append numbers fs gs q) ∙ pick_append (of_kind is_own_switch) f g))
       (zip_both SwitchOf (switches_in f) (switches_in g) (ws q) (xs q) (in_switches a q (λ m i. parted m (in_left m f g i))) (in_switches b q (λ m i. parted m (in_right m f g i))))
-  in_switches (plain {fs} p) q h = none_here (facts_mentions numbers fs q) (none_picked (of_kind is_own_switch) (facts_mentions numbers fs q) (λ m i. plain_no_switch m.mention (p.mentions q m i).1))
-  in_switches (data_items d) q h = none_here (facts_mentions numbers (data_facts d) q) (none_picked (of_kind is_own_switch) (facts_mentions numbers (data_facts d) q) (λ m i. data_no_switch m.mention (data_say numbers d q m i).1))
+  in_switches (plain {fs} p) q h = none_here (facts_mentions numbers fs q) (none_picked (of_kind is_own_switch) (facts_mentions numbers fs q) (λ m i. plain_not is_own_switch m.mention (p.mentions q m i).1))
+  in_switches (data_items d) q h = none_here (facts_mentions numbers (data_facts d) q) (none_picked (of_kind is_own_switch) (facts_mentions numbers (data_facts d) q) (λ m i. data_not is_own_switch data_kind m.mention (data_say numbers d q m i).1))
   in_switches (label n) q h = subst (λ ms. Zip SwitchOf (switches_in ms) []) (sym (declared_first numbers n kind.Label [] q)) tt
   in_switches (switch n labels) q h =
       let parted = subst AllMentionsReached (declared_first numbers n kind.Switch (each_uses labels) q) h in
       subst (λ ms. Zip SwitchOf (switches_in ms) (record { proc = q; list = goals_of named numbers labels } ∷ [])) (sym (declared_first numbers n kind.Switch (each_uses labels) q))
-      (goals_reached labels q (λ m i. parted m (inr i)), none_here (facts_mentions numbers (each_uses labels) q) (none_picked (of_kind is_own_switch) (facts_mentions numbers (each_uses labels) q) (λ m i. plain_no_switch m.mention (uses_say numbers labels q m i).1)))
+      (goals_reached labels q (λ m i. parted m (inr i)), none_here (facts_mentions numbers (each_uses labels) q) (none_picked (of_kind is_own_switch) (facts_mentions numbers (each_uses labels) q) (λ m i. plain_not is_own_switch m.mention (uses_say numbers labels q m i).1)))
   in_switches (block {fs} {ws} a) q h =
       subst (λ ms. Zip SwitchOf (switches_in ms) (ws q)) (sym (block_alone numbers None fs q)) (in_switches a q (subst AllMentionsReached (block_alone numbers None fs q) h))
   in_switches (procedure p {fs} {ws} {ps} a) q h =
       let who : Option ℕ = within_it named numbers p fs q in
       let rest : List Here = params named numbers p fs q ++ body named numbers p fs q in
       let parted = subst AllMentionsReached (shape named numbers p fs q) h in
-      let no_answers = none_picked (of_kind is_own_switch) (answers named numbers p fs q) (λ m i. parameter_no_switch m.mention (answer_says numbers (out-RawProc p).answer who m i).1) in
-      let no_params = none_picked (of_kind is_own_switch) (params named numbers p fs q) (λ m i. parameter_no_switch m.mention (parameters_say numbers (out-RawProc p).params who m i).1) in
+      let no_answers = none_picked (of_kind is_own_switch) (answers named numbers p fs q) (λ m i. parameter_not is_own_switch parameter_kind m.mention (answer_says numbers (out-RawProc p).answer who m i).1) in
+      let no_params = none_picked (of_kind is_own_switch) (params named numbers p fs q) (λ m i. parameter_not is_own_switch parameter_kind m.mention (parameters_say numbers (out-RawProc p).params who m i).1) in
       let same : switches_in (answers named numbers p fs q ++ rest) ≡ switches_in (body named numbers p fs q) =
       pick_append (of_kind is_own_switch) (answers named numbers p fs q) rest ∙ ap (λ zs. zs ++ switches_in rest) no_answers
       ∙ pick_append (of_kind is_own_switch) (params named numbers p fs q) (body named numbers p fs q) ∙ ap (λ zs. zs ++ switches_in (body named numbers p fs q)) no_params in
@@ -160,3 +143,17 @@ module _ (named : Named) (numbers : Numbers) (u : SourceUnit) where
       (subst (λ zs. Zip SwitchOf zs (ws who)) (sym same)
       (in_switches a who (λ m i. parted m (inr (in_right m (answers named numbers p fs q) rest (in_right m (params named numbers p fs q) (body named numbers p fs q) i))))))
   in_switches (more k a) q h = in_switches a q h
+
+-- a number of a label that a body may jump to
+pub number_reached : (named : Named) (numbers : Numbers) (u : SourceUnit) (who : Option ℕ) (o : Option Numbered) → IsLabel named numbers u who o → IsTrue (reaches (alone u) (at_work who) (label_of_goal (alone u) 0 (goal_in o)))
+number_reached named numbers u who None h = absurd h
+number_reached named numbers u who (Some (numbered.Label l)) h = h
+number_reached named numbers u who (Some (numbered.CommonLabel d)) h = h
+number_reached named numbers u who (Some (numbered.Item i)) h = absurd h
+number_reached named numbers u who (Some (numbered.Switch s)) h = absurd h
+number_reached named numbers u who (Some (numbered.CommonSwitch d)) h = absurd h
+number_reached named numbers u who (Some (numbered.Proc p)) h = absurd h
+number_reached named numbers u who (Some (numbered.CommonProc d)) h = absurd h
+number_reached named numbers u who (Some (numbered.Control c)) h = absurd h
+number_reached named numbers u who (Some numbered.ReadByte) h = absurd h
+number_reached named numbers u who (Some numbered.WriteByte) h = absurd h

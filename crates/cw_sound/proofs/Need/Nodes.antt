@@ -65,20 +65,7 @@ nothing_depth = expression_rolled (layer.Num (record { whole = 0; digits = 0; pl
 
 part_in : (e : Expr) (x : Expr-F Arg Cond Expr Spot Ref) (k : ℕ) → expression_layer x ≤ k → operand_depth e ≤ k → operand_depth (whole_part_in e x) ≤ k
 part_in e (layer.Num n) k h l = subst (λ (d : ℕ). d ≤ k) (sym (expression_rolled (layer.Num (record { whole = n.whole; digits = 0; places = 0 })))) h
-part_in e (layer.Const z) k h l = l
-part_in e (layer.Text i) k h l = l
-part_in e (layer.Read r) k h l = l
-part_in e (layer.Call t args) k h l = l
-part_in e (layer.Force f x) k h l = l
-part_in e (layer.Locate r) k h l = l
-part_in e (layer.Bits t b x) k h l = l
-part_in e (layer.Logic op a b) k h l = l
-part_in e (layer.Sum a b) k h l = l
-part_in e (layer.Less a b) k h l = l
-part_in e (layer.Minus a) k h l = l
-part_in e (layer.Times a b) k h l = l
-part_in e (layer.Over a b) k h l = l
-part_in e (layer.Choice c a b) k h l = l
+part_in e _ k h l = l
 
 pub part_within : (operand : Bool) (e : Expr) (k : ℕ) → operand_depth e ≤ k → operand_depth (whole_part_if operand e) ≤ k
 part_within true e k h = part_in e (out-Expr e) k (subst (λ (d : ℕ). d ≤ k) (expression_out e) h) h
@@ -104,20 +91,7 @@ value_given e f k h = given_of (layer.Value e f) k (record { most = operand_dept
 
 place_given_in : (e : Expr) (f k : ℕ) (x : Expr-F Arg Cond Expr Spot Ref) → expression_layer x ≤ k → operand_depth e ≤ k → Given (place_in e f x) k
 place_given_in e f k (layer.Read r) h l = given_of (layer.Place r) k (record { most = address_depth r; kept = 1 }) refl h (omega arith)
-place_given_in e f k (layer.Num n) h l = value_given e f k l
-place_given_in e f k (layer.Const z) h l = value_given e f k l
-place_given_in e f k (layer.Text i) h l = value_given e f k l
-place_given_in e f k (layer.Call t args) h l = value_given e f k l
-place_given_in e f k (layer.Force g x) h l = value_given e f k l
-place_given_in e f k (layer.Locate r) h l = value_given e f k l
-place_given_in e f k (layer.Bits t b x) h l = value_given e f k l
-place_given_in e f k (layer.Logic op a b) h l = value_given e f k l
-place_given_in e f k (layer.Sum a b) h l = value_given e f k l
-place_given_in e f k (layer.Less a b) h l = value_given e f k l
-place_given_in e f k (layer.Minus a) h l = value_given e f k l
-place_given_in e f k (layer.Times a b) h l = value_given e f k l
-place_given_in e f k (layer.Over a b) h l = value_given e f k l
-place_given_in e f k (layer.Choice c a b) h l = value_given e f k l
+place_given_in e f k _ h l = value_given e f k l
 
 pub place_given : (e : Expr) (f k : ℕ) → operand_depth e ≤ k → Given (place_argument e f) k
 place_given e f k h = place_given_in e f k (out-Expr e) (subst (λ (d : ℕ). d ≤ k) (expression_out e) h) h

@@ -40,7 +40,6 @@ use Rattle.cw_word.specs.Word.{signed}
 use Rattle.cw_scope.specs.declared.resolve.Named.{Named}
 use Rattle.cw_scale.specs.Kinds.{fraction_of}
 use Rattle.cw_number.specs.declared.numbered.Numbered.{Numbered}
-use Rattle.cw_number.specs.declared.numbered.Numbered.TheVariants as numbered
 use Rattle.cw_make_expr.specs.Parts.{Numbers, within, item_here, number_of}
 use Rattle.cw_make_expr.specs.Nodes.{call, choice, comparator, comparison, constant, force, locate, number, string}
 use Rattle.cw_make_expr.specs.Made as made
@@ -63,6 +62,7 @@ use Rattle.cw_sound.proofs.Need.Nodes.{expression_rolled, condition_rolled, stat
 use Rattle.cw_sound.proofs.Need.Rules.{Shallow, ShallowPlace, ShallowTest, Each, lifted, no_argument_small, simple_shallow, logic_shallow, term_shallow, sum_shallow, prim_shallow, all_shallow, any_shallow}
 use Rattle.cw_sound.proofs.Need.Calls.{mapped_depths, call_depth, name_shallow, one_shallow, two_shallow, bare_shallow}
 use Rattle.cw_sound.proofs.Need.Layers.{expression_is, primary_is, reference_is, BodiesWithin, Kept, form_is, simple_is, block_is, statement_is, declaration_is, procedure_is}
+use Rattle.cw_number.specs.declared.numbered.Numbered.TheVariants as numbered
 
 -- ---- words by levels
 
@@ -118,14 +118,10 @@ largest_within k (s ∷ ss) h =
 
 jump_is : (o : Option Numbered) → jump_depth (goal_of o) ≡ 0
 jump_is (Some (numbered.Label l)) = refl
-jump_is (Some (numbered.CommonLabel d)) = refl
-jump_is (Some (numbered.Control c)) = refl
 jump_is _ = refl
 
 switch_is : (o : Option Numbered) (e : Expr) → jump_depth (switch_of o e) ≡ operand_depth e
 switch_is (Some (numbered.Switch s)) e = refl
-switch_is (Some (numbered.CommonSwitch d)) e = refl
-switch_is (Some (numbered.Control c)) e = refl
 switch_is _ e = refl
 
 module _ (named : Named) (numbers : Numbers) (few : FewParameters named) where

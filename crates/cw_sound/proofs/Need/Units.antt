@@ -14,7 +14,7 @@ use Rattle.cw_unit.specs.declared.unit.Stmt.{Stmt}
 use Rattle.cw_unit.specs.StackBound.{body_depth, body_need, procedures_need}
 use Rattle.cw_sound.specs.Uses.Mentions.{In}
 use Rattle.cw_sound.specs.Statements.Bodies.{Body, Bodies, block_bodies}
-use Rattle.cw_sound.proofs.Names.Parts.{Switches, Part, empty, both, plain, items, label, switch, block, procedure, more}
+use Rattle.cw_sound.proofs.Names.Parts.{Switches, Part, both, block, procedure, more}
 use Rattle.cw_sound.proofs.Names.TreeParts.{block_parts}
 use Rattle.cw_sound.proofs.Need.Rules.{Each}
 use Rattle.cw_sound.proofs.Need.Trees.{each_append}
@@ -37,15 +37,11 @@ HasFew q = q.specials ≤ 255
 
 module _ (named : Named) (numbers : Numbers) where
   few_controls : {fs : List Fact} {ws : Switches} {qs : List Proc} {s : ℕ → Bool} → Part named numbers fs ws qs s → Each HasFew qs
-  few_controls empty = tt
   few_controls (both {ps = ps} {qs = qs} a b) = each_append HasFew ps qs (few_controls a) (few_controls b)
-  few_controls (plain h) = tt
-  few_controls (items d) = tt
-  few_controls (label n) = tt
-  few_controls (switch n labels) = tt
   few_controls (block a) = few_controls a
   few_controls (procedure p a) = (controls_within 0 (params_of numbers (out-RawProc p).params) (omega arith), few_controls a)
   few_controls (more h a) = few_controls a
+  few_controls _ = tt
 
   -- ---- records
 

@@ -160,11 +160,7 @@ module _ (sites : List (Row Site)) where
 
   fact_free : (o : Option Owner) (y : Fact-F Fact) → Each IsFree (fact_texts o y)
   fact_free o (fact.Text at n) = (refl, tt)
-  fact_free o (fact.Declares d) = tt
-  fact_free o (fact.Uses u) = tt
-  fact_free o (fact.Specifies token s) = tt
-  fact_free o (fact.Loop at) = tt
-  fact_free o (fact.Block owner fs) = tt
+  fact_free o _ = tt
 
   texts_free : (o : Option Owner) (fs : List Fact) → Each IsFree (texts o fs)
   texts_free o [] = tt

@@ -5,8 +5,7 @@ use Rattle.cw_tree.specs.declared.leaf.RawSign.{RawSign}
 use Rattle.cw_tree.specs.declared.leaf.RawFactorSign.{RawFactorSign}
 use Rattle.cw_tree.specs.declared.expression.RawBits.{RawBits}
 use Rattle.cw_tree.specs.declared.expression.RawExpr.TheOpen as layer
-use Rattle.cw_tree.specs.declared.expression.RawExpr.TheOpen.{RawPrimary-F}
-use Rattle.cw_tree.specs.declared.expression.RawExpr.{RawExpr, RawExpr-F, out-RawExpr, map-RawExpr, fold_out-RawExpr}
+use Rattle.cw_tree.specs.declared.expression.RawExpr.{RawExpr, out-RawExpr, map-RawExpr, fold_out-RawExpr}
 use Rattle.cw_tree.specs.declared.expression.RawPrimary.{RawPrimary, out-RawPrimary, map-RawPrimary, fold_out-RawPrimary}
 use Rattle.cw_tree.specs.declared.expression.RawRef.{RawRef}
 use Rattle.cw_tree.specs.declared.expression.RawCand.{RawCand}
@@ -21,6 +20,7 @@ use Rattle.cw_tree.specs.declared.expression.RawUnion.{RawUnion, out-RawUnion}
 use Rattle.cw_grammar.specs.Trees.{sole, ◌>>-◌, Operands, extended, first_of, as_sum, sole_term, as_term, as_differ, as_union, as_mask, as_prim, bracket_primary, bracket_prim, bracket_mask, bracket_union, bracket_differ, bracket_term, bracket_sum, mask_start, union_start, differ_start, term_start, mask_tree, union_tree, differ_tree, term_tree, Terms, sum_tree, terms_of, sum_start, more_terms, expr_or, expr_of, prim_or, prim_of}
 use Rattle.cw_preset.specs.Strings.{Rows, joined, expression_step, primary_step, reference_step, conjunction_step, comparison_step, condition_step, differ_step, mask_step, prim_step, sum_step, term_step, union_step, expression_rows, primary_rows, reference_rows, conjunction_rows, comparison_rows, condition_rows, differ_rows, mask_rows, prim_rows, sum_rows, term_rows, union_rows}
 use Rattle.cw_derived.proofs.Held.{not_none, same_some, both_steps, both_of}
+use Rattle.cw_derived.proofs.Layers.{ExprLayer, PrimaryLayer, held}
 use Rattle.cw_sound.proofs.Presets.Layers.{differ_layer, mask_layer, union_layer, prim_layer, sum_layer, term_layer, mask_made, union_made, differ_made, term_made, sum_made, prim_made, expr_sum}
 
 -- ---- what one step or two steps give
@@ -54,9 +54,6 @@ joined_extended f ops (x ∷ more) =
     ∙ append_assoc (joined (map f ops.0)) (f x.1) (joined (map (λ z. f z.1) more))
 
 -- ---- an expression that is a tree of a narrower rule
-
-abbrev ExprLayer : Type 0
-ExprLayer = RawExpr-F RawExpr RawPrimary RawRef RawCand RawCmp RawCond RawDiffer RawMask RawPrim RawSum RawTerm RawUnion
 
 abbrev summed : ExprLayer → Option RawSum
 summed y = elim y [ layer.Choice at c a b ↦ None | layer.Sum s ↦ Some s ]
@@ -110,35 +107,12 @@ as_prim_keeps e t q = then_keeps (expression_rows e) mask_rows prim_rows (as_mas
 
 -- ---- what a bracket alone holds
 
-abbrev PrimaryLayer : Type 0
-PrimaryLayer = RawPrimary-F RawExpr RawPrimary RawRef RawCand RawCmp RawCond RawDiffer RawMask RawPrim RawSum RawTerm RawUnion
-
-abbrev held : PrimaryLayer → Option RawExpr
-held y = elim y [
-  | layer.Number n ↦ None
-  | layer.Octal n ↦ None
-  | layer.Literal c ↦ None
-  | layer.Text at cs ↦ None
-  | layer.Location at r ↦ None
-  | layer.Forced t e ↦ None
-  | layer.Bracket at e ↦ Some e
-  | layer.Ref r ↦ None
-  | layer.Call f xs ↦ None
-]
-
 abbrev primary_layer : PrimaryLayer → Rows
 primary_layer x = primary_step (map-RawPrimary RawExpr RawPrimary RawRef RawCand RawCmp RawCond RawDiffer RawMask RawPrim RawSum RawTerm RawUnion Rows Rows Rows Rows Rows Rows Rows Rows Rows Rows Rows Rows expression_rows primary_rows reference_rows conjunction_rows comparison_rows condition_rows differ_rows mask_rows prim_rows sum_rows term_rows union_rows x)
 
 held_in_layer : (x : PrimaryLayer) (e : RawExpr) → held x ≡ Some e → expression_rows e ≡ primary_layer x
-held_in_layer (layer.Number n) e q = absurd (not_none q)
-held_in_layer (layer.Octal n) e q = absurd (not_none q)
-held_in_layer (layer.Literal c) e q = absurd (not_none q)
-held_in_layer (layer.Text at cs) e q = absurd (not_none q)
-held_in_layer (layer.Location at r) e q = absurd (not_none q)
-held_in_layer (layer.Forced t x) e q = absurd (not_none q)
 held_in_layer (layer.Bracket at x) e q = ap expression_rows (sym (same_some q))
-held_in_layer (layer.Ref r) e q = absurd (not_none q)
-held_in_layer (layer.Call f xs) e q = absurd (not_none q)
+held_in_layer _ e q = absurd (not_none q)
 
 primary_held : Keeps primary_rows expression_rows bracket_primary
 primary_held x e q = held_in_layer (out-RawPrimary x) e q ∙ sym (fold_out-RawPrimary Rows Rows Rows Rows Rows Rows Rows Rows Rows Rows Rows Rows expression_step primary_step reference_step conjunction_step comparison_step condition_step differ_step mask_step prim_step sum_step term_step union_step x)

@@ -75,12 +75,7 @@ unquoted_bytes (b ∷ c ∷ w) h =
 
 pub characters_bytes : (k : TokenKind) (w : List ℕ) → AreBytes w → AreBytes (characters k w)
 characters_bytes kinds.BodyText w h = All-take (λ b. b < 256) _ (drop 2 w) (All-drop (λ b. b < 256) 2 w h)
-characters_bytes kinds.Text w h = unquoted_bytes (drop 1 w) (All-drop (λ b. b < 256) 1 w h)
-characters_bytes kinds.Name w h = unquoted_bytes (drop 1 w) (All-drop (λ b. b < 256) 1 w h)
-characters_bytes kinds.Number w h = unquoted_bytes (drop 1 w) (All-drop (λ b. b < 256) 1 w h)
-characters_bytes kinds.Literal w h = unquoted_bytes (drop 1 w) (All-drop (λ b. b < 256) 1 w h)
-characters_bytes (kinds.Word z) w h = unquoted_bytes (drop 1 w) (All-drop (λ b. b < 256) 1 w h)
-characters_bytes (kinds.Symbol z) w h = unquoted_bytes (drop 1 w) (All-drop (λ b. b < 256) 1 w h)
+characters_bytes _ w h = unquoted_bytes (drop 1 w) (All-drop (λ b. b < 256) 1 w h)
 
 -- ---- places
 

@@ -8,7 +8,7 @@ use Rattle.cw_lex.specs.Lexical.{Lexeme, Place, Lexes, at_end, a_gap, a_token, T
 use Rattle.cw_macro.specs.Expansion.{quote_length, HasBody, Expands}
 use Rattle.cw_macro.specs.Premises.{Each}
 use Rattle.cw_sound.specs.Presets.Bytes.{AreBytes, HasBytes}
-use Rattle.cw_sound.proofs.Presets.Carried.{expanded_each}
+use Rattle.cw_spelled.proofs.Carried.{expanded_each}
 
 abbrev IsByte : ℕ → Type 0
 IsByte b = b < 256
@@ -36,4 +36,4 @@ all_of [] h = All-nil HasBytes
 all_of (t ∷ ts) h = All-cons HasBytes t ts h.0 (all_of ts h.1)
 
 pub expanded_bytes : (text : List ℕ) (tokens expanded : List Lexeme) → AreBytes text → Tokenizes Source first_place text tokens → Expands tokens expanded → All HasBytes expanded
-expanded_bytes text tokens expanded h d l = all_of expanded (expanded_each HasBytes (λ t line z. z) body_bytes tokens expanded (tokens_bytes d h) l)
+expanded_bytes text tokens expanded h d l = all_of expanded (expanded_each HasBytes HasBytes (λ t h. h) (λ call t p h. h) body_bytes tokens expanded (tokens_bytes d h) l)

@@ -1,5 +1,5 @@
 -- The parts of statements that are expressions, conditions, references, calls and jumps.
-use Rattle.std.proofs.Common.{ℕ, ◌≤◌, List, [], ◌∷◌, ◌++◌, map, Bool, IsTrue, ◌&&◌, nat_le, Option, Some, refl, arith}
+use Rattle.std.proofs.Common.{ℕ, ◌≤◌, List, [], ◌∷◌, ◌++◌, map, Bool, IsTrue, ◌&&◌, nat_le, Option, refl, arith, Some}
 use Rattle.cw_tree.specs.declared.leaf.Position.{Position}
 use Rattle.cw_tree.specs.declared.leaf.RawName.{RawName}
 use Rattle.cw_tree.specs.declared.expression.RawExpr.{RawExpr}
@@ -19,7 +19,6 @@ use Rattle.cw_scale.specs.TypeRules.{expression, condition, reference, call_faul
 use Rattle.cw_judge.specs.Operators.{few_operators, few_each, expression_operators, condition_operators, reference_operators}
 use Rattle.cw_judge.specs.Judged.{expression_judged, condition_judged, reference_judged, felem_judged, felems_judged}
 use Rattle.cw_number.specs.declared.numbered.Numbered.{Numbered}
-use Rattle.cw_number.specs.declared.numbered.Numbered.TheVariants as numbered
 use Rattle.cw_make_expr.specs.Parts.{Numbers}
 use Rattle.cw_make_expr.specs.Made.{expression_of, condition_of, reference_of, call_of}
 use Rattle.cw_make_stmt.specs.Made.{line_of, goal_of, switch_of, felem_of}
@@ -44,6 +43,7 @@ use Rattle.cw_sound.specs.Statements.Levels.{element_levels}
 use Rattle.cw_sound.specs.Statements.Regular.{is_regular_element}
 use Rattle.cw_sound.proofs.Statements.Keeping.{whole_keeps, test_keeps, elements_keep}
 use Rattle.cw_sound.proofs.Items.Keeping.{keeps_few, keeps_few_each}
+use Rattle.cw_number.specs.declared.numbered.Numbered.TheVariants as numbered
 
 -- ---- lines
 
@@ -54,14 +54,10 @@ line_good at = lt_true (line_of at) 65536 (omega arith)
 
 pub jump_ranged : (u : SourceUnit) (number : Option Numbered) → IsTrue (is_ranged_jump u (goal_of number))
 jump_ranged u (Some (numbered.Label l)) = refl
-jump_ranged u (Some (numbered.CommonLabel d)) = refl
-jump_ranged u (Some (numbered.Control c)) = refl
 jump_ranged u _ = refl
 
 pub switch_ranged : (u : SourceUnit) (e : Expr) → IsTrue (is_ranged_expression u e 0) → (number : Option Numbered) → IsTrue (is_ranged_jump u (switch_of number e))
 switch_ranged u e h (Some (numbered.Switch s)) = h
-switch_ranged u e h (Some (numbered.CommonSwitch d)) = h
-switch_ranged u e h (Some (numbered.Control c)) = h
 switch_ranged u e h _ = h
 
 module _ (named : Named) (numbers : Numbers) (u : SourceUnit) (who : Option ℕ) (declared : DeclarationsInRange named) where

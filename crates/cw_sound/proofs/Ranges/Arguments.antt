@@ -104,11 +104,7 @@ module _ (u : SourceUnit) (who : Option ℕ) where
       argument_keeps : (p : RawPs) → IsTrue (takes named p j.shape) → Keeps (argument_faults named p j)
       argument_keeps (ps.Plain (inner.Value at t)) h = (s.valued h).keeps (fraction_of t)
       argument_keeps (ps.Plain (inner.Location at t)) h = (s.valued (s.whole_value (parts j.shape.whole (j.shape.natural == fraction_of t) h).0)).keeps 0
-      argument_keeps (ps.Plain (inner.Array t)) h = keeps_fine
-      argument_keeps (ps.Plain (inner.Table at z)) h = keeps_fine
-      argument_keeps (ps.Plain (inner.Label at)) h = keeps_fine
-      argument_keeps (ps.Plain (inner.Switch at)) h = keeps_fine
-      argument_keeps (ps.Proc answer at params) h = keeps_fine
+      argument_keeps _ h = keeps_fine
 
       argument_given : (p : RawPs) → IsTrue (takes named p j.shape) → l ≤ most_levels → NoFault (argument_faults named p j) → Given (argument_for p m)
       argument_given (ps.Plain (inner.Value at t)) h few free =
@@ -121,11 +117,7 @@ module _ (u : SourceUnit) (who : Option ℕ) where
           let g = v.good 0 (omega arith) few free in
           let p = v.place w in
           read_given (m.made false) p.0 (fraction_of t) p.1 g.at
-      argument_given (ps.Plain (inner.Array t)) h few free = s.handed_on
-      argument_given (ps.Plain (inner.Table at z)) h few free = s.handed_on
-      argument_given (ps.Plain (inner.Label at)) h few free = s.handed_on
-      argument_given (ps.Plain (inner.Switch at)) h few free = s.handed_on
-      argument_given (ps.Proc answer at params) h few free = s.handed_on
+      argument_given _ h few free = s.handed_on
 
     -- ---- all arguments
 

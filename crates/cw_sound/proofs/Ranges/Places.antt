@@ -26,7 +26,7 @@ use Rattle.cw_amount.specs.Amounts.{place_sint}
 use Rattle.cw_tree.specs.declared.leaf.RawSint.{RawSint}
 use Rattle.cw_make_expr.specs.Parts.{bound_in, field_of, element_field}
 use Rattle.cw_writable.specs.Coded.RangedExpressions as ranged
-use Rattle.cw_writable.specs.Coded.RangedExpressions.{RangedValue, RangedReference, in_range, are_bounds, is_field, ranged_reference, is_ranged_spot}
+use Rattle.cw_writable.specs.Coded.RangedExpressions.{RangedValue, RangedReference, are_bounds, is_field, ranged_reference, is_ranged_spot}
 use Rattle.cw_writable.proofs.Coded.RangedLayers.{ranged_spot_layer, ranged_reference_layer}
 use Rattle.cw_scale.specs.Kinds.{kind_of, kind_in}
 use Rattle.cw_sound.specs.Ranges.Declared.{has_ranges, is_row, is_size, DeclarationsInRange}
@@ -65,23 +65,7 @@ kind_ranges named d n k e = kind_declared named d k (item_at named.uses n.at.tok
 
 pub field_ranges : (k : NameKind) → IsTrue (has_ranges k) → IsTrue (is_field (field_of (Some k)))
 field_ranges (kind.Element table e) h = (parts (nat_lt (element_word e) 32768) (is_field (element_field e)) h).1
-field_ranges (kind.Single t) h = refl
-field_ranges (kind.Array t b) h = refl
-field_ranges (kind.Table s) h = refl
-field_ranges (kind.Value t) h = refl
-field_ranges (kind.Location t) h = refl
-field_ranges (kind.ArrayParam t) h = refl
-field_ranges (kind.TableParam s) h = refl
-field_ranges kind.LabelParam h = refl
-field_ranges kind.SwitchParam h = refl
-field_ranges (kind.ProcParam t) h = refl
-field_ranges kind.Label h = refl
-field_ranges kind.Switch h = refl
-field_ranges (kind.Proc t) h = refl
-field_ranges kind.ReadByte h = refl
-field_ranges kind.WriteByte h = refl
-field_ranges kind.Bounds h = refl
-field_ranges (kind.Answer t) h = refl
+field_ranges _ h = refl
 
 module _ (u : SourceUnit) (who : Option ℕ) where
   spot_rolled : (x : Spot-F Arg Cond Expr Spot Ref) → is_ranged_spot u (roll-Spot x) ≡ ranged_spot_layer u x
@@ -121,24 +105,8 @@ module _ (u : SourceUnit) (who : Option ℕ) where
   bare_place e x = place_of (layer.Bare e) x
 
   pub named_place : (k : NameKind) (i : ℕ) → Place (named_spot (Some k) i)
-  named_place (kind.Single t) i = place_of (layer.Direct i) refl
-  named_place (kind.Array t b) i = place_of (layer.Direct i) refl
-  named_place (kind.Table s) i = place_of (layer.Direct i) refl
-  named_place (kind.Element table e) i = place_of (layer.Direct i) refl
-  named_place (kind.Value t) i = place_of (layer.Direct i) refl
   named_place (kind.Location t) i = place_of (layer.Through i) refl
-  named_place (kind.ArrayParam t) i = place_of (layer.Direct i) refl
-  named_place (kind.TableParam s) i = place_of (layer.Direct i) refl
-  named_place kind.LabelParam i = place_of (layer.Direct i) refl
-  named_place kind.SwitchParam i = place_of (layer.Direct i) refl
-  named_place (kind.ProcParam t) i = place_of (layer.Direct i) refl
-  named_place kind.Label i = place_of (layer.Direct i) refl
-  named_place kind.Switch i = place_of (layer.Direct i) refl
-  named_place (kind.Proc t) i = place_of (layer.Direct i) refl
-  named_place kind.ReadByte i = place_of (layer.Direct i) refl
-  named_place kind.WriteByte i = place_of (layer.Direct i) refl
-  named_place kind.Bounds i = place_of (layer.Direct i) refl
-  named_place (kind.Answer t) i = place_of (layer.Direct i) refl
+  named_place _ i = place_of (layer.Direct i) refl
 
   double_place : (first : RawRange) (second : Option RawRange) (i : ℕ) (e g : Expr) → IsTrue (2 == dimensions (record { first = first; second = second })) → IsTrue (is_row second) → Index e → Index g → Place (double_spot first second i e g)
   double_place first None i e g h row x y = no h
@@ -182,36 +150,8 @@ module _ (u : SourceUnit) (who : Option ℕ) where
     one_place (kind.Table s) n e x d h y = word_made s (item_in (number_of named numbers n)) false e d y
     one_place (kind.TableParam s) n e x d h y = word_made s (item_in (number_of named numbers n)) true e d y
     one_place (kind.Element table z) n e x d h y = table_place table.at.token (element_word z) e x (parts (nat_lt (element_word z) 32768) (is_field (element_field z)) d).0 y
-    one_place (kind.Single t) n e x d h y = no h
-    one_place (kind.Value t) n e x d h y = no h
-    one_place (kind.Location t) n e x d h y = no h
-    one_place kind.LabelParam n e x d h y = no h
-    one_place kind.SwitchParam n e x d h y = no h
-    one_place (kind.ProcParam t) n e x d h y = no h
-    one_place kind.Label n e x d h y = no h
-    one_place kind.Switch n e x d h y = no h
-    one_place (kind.Proc t) n e x d h y = no h
-    one_place kind.ReadByte n e x d h y = no h
-    one_place kind.WriteByte n e x d h y = no h
-    one_place kind.Bounds n e x d h y = no h
-    one_place (kind.Answer t) n e x d h y = no h
+    one_place _ n e x d h y = no h
 
   pub two_place : (k : NameKind) (i : ℕ) (e g : Expr) → IsTrue (has_ranges k) → IsTrue (is_reference k 2) → Index e → Index g → Place (twice_indexed_spot (Some k) i e g)
   two_place (kind.Array t b) i e g d h y z = double_place b.first b.second i e g h d y z
-  two_place (kind.ArrayParam t) i e g d h y z = no h
-  two_place (kind.Table s) i e g d h y z = no h
-  two_place (kind.TableParam s) i e g d h y z = no h
-  two_place (kind.Element table w) i e g d h y z = no h
-  two_place (kind.Single t) i e g d h y z = no h
-  two_place (kind.Value t) i e g d h y z = no h
-  two_place (kind.Location t) i e g d h y z = no h
-  two_place kind.LabelParam i e g d h y z = no h
-  two_place kind.SwitchParam i e g d h y z = no h
-  two_place (kind.ProcParam t) i e g d h y z = no h
-  two_place kind.Label i e g d h y z = no h
-  two_place kind.Switch i e g d h y z = no h
-  two_place (kind.Proc t) i e g d h y z = no h
-  two_place kind.ReadByte i e g d h y z = no h
-  two_place kind.WriteByte i e g d h y z = no h
-  two_place kind.Bounds i e g d h y z = no h
-  two_place (kind.Answer t) i e g d h y z = no h
+  two_place _ i e g d h y z = no h

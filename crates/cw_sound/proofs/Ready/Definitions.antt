@@ -18,19 +18,12 @@ use Rattle.cw_writable.proofs.Coded.Numbers.{le_true}
 use Rattle.cw_writable.specs.Back.Ready.{are_rising}
 use Rattle.cw_sound.specs.Items.Derived.{HasRisingTokens}
 use Rattle.cw_sound.proofs.Items.Naming.{few-descriptors}
-use Rattle.cw_sound.proofs.Names.ListedParts.{Listed, none, also, used, stored, unlisted, label, switch, procedure, special, communicators_parts}
+use Rattle.cw_sound.proofs.Names.ListedParts.{Listed, also, communicators_parts}
 
 -- a row for each descriptor
 same_length : {fs : List Fact} {rs : List (Row Listing)} {ds : List Desc} → Listed fs rs ds → length rs ≡ length ds
-same_length none = refl
 same_length (also {fs} {gs} {rs} {qs} {ds} {es} a b) = length-append rs qs ∙ ap₂ (λ m n. m + n) (same_length a) (same_length b) ∙ sym (length-append ds es)
-same_length (used x) = refl
-same_length (stored n k d h e) = refl
-same_length (unlisted n k h) = refl
-same_length (label n) = refl
-same_length (switch n) = refl
-same_length (procedure library s) = refl
-same_length (special k s h) = refl
+same_length _ = refl
 
 module _ (named : Named) (numbers : Numbers) (own : List Declaration) where
   by_definition : (low d next : ℕ) (rs : List (Row Listing)) (x : Option Def) → low ≤ d → IsTrue (are_rising low (defs_from named numbers own next rs)) → IsTrue (are_rising (d + 1) (defs_from named numbers own next rs)) → IsTrue (are_rising low (def_if d x ++ defs_from named numbers own next rs))

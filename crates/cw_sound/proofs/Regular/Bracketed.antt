@@ -17,7 +17,8 @@ use Rattle.cw_sound.specs.Expressions.Regular as regular
 use Rattle.cw_sound.proofs.Expressions.Truth.{parts}
 use Rattle.cw_derived.proofs.Held.{not_none, same_some, both_steps, both_of}
 use Rattle.cw_sound.proofs.Regular.Lists.{sole_fits}
-use Rattle.cw_sound.proofs.Regular.Fits.{ExprLayer, ExprFits, ExprLayerFits, expr_opened, PrimaryLayer, PrimaryFits, PrimaryLayerFits, primary_opened, DifferFits, differ_opened, MaskFits, mask_opened, PrimFits, prim_opened, SumFits, sum_opened, TermFits, term_opened, UnionFits, union_opened}
+use Rattle.cw_derived.proofs.Layers.{ExprLayer, PrimaryLayer, held}
+use Rattle.cw_sound.proofs.Regular.Fits.{ExprFits, ExprLayerFits, PrimaryFits, PrimaryLayerFits, DifferFits, MaskFits, PrimFits, SumFits, TermFits, UnionFits, opened}
 
 -- ---- an expression that is a tree of a narrower rule
 
@@ -29,7 +30,7 @@ layer_sum (layer.Choice at c a b) s h q = absurd (not_none q)
 layer_sum (layer.Sum x) s h q = subst SumFits (same_some q) h
 
 pub sum_in : (e : RawExpr) (s : RawSum) → ExprFits e → as_sum e ≡ Some s → SumFits s
-sum_in e s h q = layer_sum (out-RawExpr e) s (expr_opened e h) q
+sum_in e s h q = layer_sum (out-RawExpr e) s (opened.expr e h) q
 
 abbrev unsigned : Option RawSign → List RawTerm → Option RawTerm
 unsigned o xs = elim o [ None ↦ sole xs | Some sign ↦ None ]
@@ -40,23 +41,23 @@ terms_in (Some sign) xs n t h k q = absurd (not_none q)
 
 term_in : (s : RawSum) (t : RawTerm) → SumFits s → sole_term s ≡ Some t → TermFits t
 term_in s t h q =
-    let k = sum_opened s h in
+    let k = opened.sum s h in
     terms_in (out-RawSum s).sign (out-RawSum s).operands (suc (length (out-RawSum s).operators)) t k.right k.some q
 
 differ_in : (t : RawTerm) (d : RawDiffer) → TermFits t → sole (out-RawTerm t).operands ≡ Some d → DifferFits d
 differ_in t d h q =
-    let k = term_opened t h in
+    let k = opened.term t h in
     let xs = (out-RawTerm t).operands in
     sole_fits regular.is_regular_differ tokens.differ_tokens xs d (parts (nat_le (length (map regular.is_regular_differ xs)) (suc (length (out-RawTerm t).operators))) (regular.all (map regular.is_regular_differ xs)) k.right).1 k.some q
 
 union_in : (d : RawDiffer) (u : RawUnion) → DifferFits d → sole (out-RawDiffer d).operands ≡ Some u → UnionFits u
-union_in d u h q = let k = differ_opened d h in sole_fits regular.is_regular_union tokens.union_tokens (out-RawDiffer d).operands u k.right k.some q
+union_in d u h q = let k = opened.differ d h in sole_fits regular.is_regular_union tokens.union_tokens (out-RawDiffer d).operands u k.right k.some q
 
 mask_in : (u : RawUnion) (m : RawMask) → UnionFits u → sole (out-RawUnion u).operands ≡ Some m → MaskFits m
-mask_in u m h q = let k = union_opened u h in sole_fits regular.is_regular_mask tokens.mask_tokens (out-RawUnion u).operands m k.right k.some q
+mask_in u m h q = let k = opened.union u h in sole_fits regular.is_regular_mask tokens.mask_tokens (out-RawUnion u).operands m k.right k.some q
 
 prim_in : (m : RawMask) (p : RawPrim) → MaskFits m → sole (out-RawMask m).operands ≡ Some p → PrimFits p
-prim_in m p h q = let k = mask_opened m h in sole_fits regular.is_regular_prim tokens.prim_tokens (out-RawMask m).operands p k.right k.some q
+prim_in m p h q = let k = opened.mask m h in sole_fits regular.is_regular_prim tokens.prim_tokens (out-RawMask m).operands p k.right k.some q
 
 pub as_term_in : (e : RawExpr) (t : RawTerm) → ExprFits e → as_term e ≡ Some t → TermFits t
 as_term_in e t h q = elim (both_of (as_sum e) sole_term t q) [ both_steps y u v ↦ term_in y t (sum_in e y h u) v ]
@@ -75,32 +76,12 @@ as_prim_in e d h q = elim (both_of (as_mask e) (λ y. sole (out-RawMask y).opera
 
 -- ---- what a bracket alone holds
 
-abbrev held : PrimaryLayer → Option RawExpr
-held y = elim y [
-  | layer.Number n ↦ None
-  | layer.Octal n ↦ None
-  | layer.Literal c ↦ None
-  | layer.Text at cs ↦ None
-  | layer.Location at r ↦ None
-  | layer.Forced t e ↦ None
-  | layer.Bracket at e ↦ Some e
-  | layer.Ref r ↦ None
-  | layer.Call f xs ↦ None
-]
-
 layer_held : (l : PrimaryLayer) (e : RawExpr) → PrimaryLayerFits l → held l ≡ Some e → ExprFits e
-layer_held (layer.Number n) e h q = absurd (not_none q)
-layer_held (layer.Octal n) e h q = absurd (not_none q)
-layer_held (layer.Literal c) e h q = absurd (not_none q)
-layer_held (layer.Text at cs) e h q = absurd (not_none q)
-layer_held (layer.Location at r) e h q = absurd (not_none q)
-layer_held (layer.Forced t x) e h q = absurd (not_none q)
 layer_held (layer.Bracket at x) e h q = subst ExprFits (same_some q) h
-layer_held (layer.Ref r) e h q = absurd (not_none q)
-layer_held (layer.Call f xs) e h q = absurd (not_none q)
+layer_held _ e h q = absurd (not_none q)
 
 pub primary_held : (x : RawPrimary) (e : RawExpr) → PrimaryFits x → bracket_primary x ≡ Some e → ExprFits e
-primary_held x e h q = layer_held (out-RawPrimary x) e (primary_opened x h) q
+primary_held x e h q = layer_held (out-RawPrimary x) e (opened.primary x h) q
 
 abbrev bare : List RawBits → RawPrimary → Option RawExpr
 bare bits x = elim bits [ [] ↦ bracket_primary x | b ∷ bs ↦ None ]
@@ -110,7 +91,7 @@ bits_held [] x e h k q = primary_held x e (record { right = h; some = omega (ari
 bits_held (b ∷ bs) x e h k q = absurd (not_none q)
 
 pub prim_held : (p : RawPrim) (e : RawExpr) → PrimFits p → bracket_prim p ≡ Some e → ExprFits e
-prim_held p e h q = let k = prim_opened p h in bits_held (out-RawPrim p).bits (out-RawPrim p).primary e k.right k.some q
+prim_held p e h q = let k = opened.prim p h in bits_held (out-RawPrim p).bits (out-RawPrim p).primary e k.right k.some q
 
 pub mask_held : (m : RawMask) (e : RawExpr) → MaskFits m → bracket_mask m ≡ Some e → ExprFits e
 mask_held m e h q = elim (both_of (sole (out-RawMask m).operands) bracket_prim e q) [ both_steps y u v ↦ prim_held y e (prim_in m y h u) v ]

@@ -23,7 +23,7 @@ use Rattle.cw_sound.specs.Expressions.Regular as regular
 use Rattle.cw_sound.proofs.Expressions.Truth.{both, parts, le_true, le_of}
 use Rattle.cw_derived.proofs.Held.{both_steps, both_of}
 use Rattle.cw_sound.proofs.Regular.Lists.{Behind, all_more, count_more, IsEven, even_more}
-use Rattle.cw_sound.proofs.Regular.Fits.{Fits, ExprFits, expr_rolled, PrimaryFits, DifferFits, differ_rolled, differ_opened, MaskFits, mask_rolled, mask_opened, PrimFits, prim_rolled, prim_opened, SumFits, sum_rolled, sum_opened, TermFits, term_rolled, term_opened, UnionFits, union_rolled, union_opened, CandFits, cand_rolled, CondFits, cond_rolled, CmpFits, cmp_rolled}
+use Rattle.cw_sound.proofs.Regular.Fits.{Fits, ExprFits, expr_rolled, PrimaryFits, DifferFits, differ_rolled, MaskFits, mask_rolled, PrimFits, prim_rolled, SumFits, sum_rolled, TermFits, term_rolled, UnionFits, union_rolled, CandFits, cand_rolled, CondFits, cond_rolled, CmpFits, cmp_rolled, opened}
 use Rattle.cw_sound.proofs.Regular.Bracketed.{sum_in, as_term_in, as_differ_in, as_union_in, as_mask_in, as_prim_in, primary_held, prim_held, mask_held, union_held, differ_held, term_held, sum_held}
 
 -- operands that are regular and count a token at least
@@ -54,7 +54,7 @@ pub mask_made : (x : RawPrim) (rest : List (Position × RawPrim)) → PrimFits x
 mask_made x rest h r =
     let start : Ops regular.is_regular_prim tokens.prim_tokens (mask_start x) =
     begun (Ops regular.is_regular_prim tokens.prim_tokens) mask_parts (bracket_prim x) as_mask x (alone regular.is_regular_prim tokens.prim_tokens x h)
-    (λ y m u v. let k = mask_opened m (as_mask_in y m (prim_held x y h u) v) in record { right = k.right; some = k.some }) in
+    (λ y m u v. let k = opened.mask m (as_mask_in y m (prim_held x y h u) v) in record { right = k.right; some = k.some }) in
     let k = more regular.is_regular_prim tokens.prim_tokens (mask_start x) rest start r in
     let ops : Operands RawPrim Position = extended (mask_start x) rest in
     mask_rolled (record { operands = ops.0; operators = ops.1 }) (record { right = k.right; some = k.some })
@@ -66,7 +66,7 @@ pub union_made : (x : RawMask) (rest : List (Position × RawMask)) → MaskFits 
 union_made x rest h r =
     let start : Ops regular.is_regular_mask tokens.mask_tokens (union_start x) =
     begun (Ops regular.is_regular_mask tokens.mask_tokens) union_parts (bracket_mask x) as_union x (alone regular.is_regular_mask tokens.mask_tokens x h)
-    (λ y m u v. let k = union_opened m (as_union_in y m (mask_held x y h u) v) in record { right = k.right; some = k.some }) in
+    (λ y m u v. let k = opened.union m (as_union_in y m (mask_held x y h u) v) in record { right = k.right; some = k.some }) in
     let k = more regular.is_regular_mask tokens.mask_tokens (union_start x) rest start r in
     let ops : Operands RawMask Position = extended (union_start x) rest in
     union_rolled (record { operands = ops.0; operators = ops.1 }) (record { right = k.right; some = k.some })
@@ -78,7 +78,7 @@ pub differ_made : (x : RawUnion) (rest : List (Position × RawUnion)) → UnionF
 differ_made x rest h r =
     let start : Ops regular.is_regular_union tokens.union_tokens (differ_start x) =
     begun (Ops regular.is_regular_union tokens.union_tokens) differ_parts (bracket_union x) as_differ x (alone regular.is_regular_union tokens.union_tokens x h)
-    (λ y m u v. let k = differ_opened m (as_differ_in y m (union_held x y h u) v) in record { right = k.right; some = k.some }) in
+    (λ y m u v. let k = opened.differ m (as_differ_in y m (union_held x y h u) v) in record { right = k.right; some = k.some }) in
     let k = more regular.is_regular_union tokens.union_tokens (differ_start x) rest start r in
     let ops : Operands RawUnion Position = extended (differ_start x) rest in
     differ_rolled (record { operands = ops.0; operators = ops.1 }) (record { right = k.right; some = k.some })
@@ -105,7 +105,7 @@ term_made x rest h r =
     let start : TermOps (term_start x) =
     begun TermOps term_parts (bracket_differ x) as_term x (alone regular.is_regular_differ tokens.differ_tokens x h, omega arith)
     (λ y t u v.
-    let k = term_opened t (as_term_in y t (differ_held x y h u) v) in
+    let k = opened.term t (as_term_in y t (differ_held x y h u) v) in
     let p = halves regular.is_regular_differ (term_parts t) k.right in
     (record { right = p.1; some = k.some }, is_even regular.is_regular_differ (term_parts t) p.0)) in
     let k = more regular.is_regular_differ tokens.differ_tokens (term_start x) rest start.0 r in
@@ -123,7 +123,7 @@ sum_parts s = ((out-RawSum s).operands, (out-RawSum s).operators)
 
 sum_taken : (s : RawSum) → SumFits s → SumOps ((out-RawSum s).sign, sum_parts s)
 sum_taken s h =
-    let k = sum_opened s h in
+    let k = opened.sum s h in
     let p = halves regular.is_regular_term (sum_parts s) k.right in
     record { right = p.1; some = k.some; even = is_even regular.is_regular_term (sum_parts s) p.0 }
 
@@ -163,7 +163,7 @@ prim_made bits x h =
       | None ↦ λ e. prim_rolled (record { bits = bits; primary = x }) (record { right = h.right; some = omega (arith, h.some) })
       | Some q ↦ λ e. elim (both_of (bracket_primary x) as_prim q e) [
         | both_steps y u v ↦
-            let k = prim_opened q (as_prim_in y q (primary_held x y h u) v) in
+            let k = opened.prim q (as_prim_in y q (primary_held x y h u) v) in
             prim_rolled (record { bits = bits ++ (out-RawPrim q).bits; primary = (out-RawPrim q).primary }) (record { right = k.right; some = omega (arith, k.some, length-append bits (out-RawPrim q).bits) })
       ]
     ] refl

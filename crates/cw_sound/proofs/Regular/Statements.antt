@@ -37,7 +37,7 @@ use Rattle.cw_sound.specs.Statements.Levels.{statement_levels}
 use Rattle.cw_sound.specs.Statements.Regular as regular
 use Rattle.cw_sound.proofs.Regular.Lists.{all_each, two_each}
 use Rattle.cw_sound.proofs.Regular.Fits.{Fits, ExprFits, CondFits, RefFits}
-use Rattle.cw_sound.proofs.Regular.Smalls.{BodyFits, Sound, SimpleSmall, simple_rolled, FormSmall, form_rolled, StmtSmall, stmt_rolled, stmt_opened, BlockSmall, block_rolled, DeclSmall, decl_rolled, ProcSmall, proc_rolled}
+use Rattle.cw_sound.proofs.Regular.Smalls.{BodyFits, Sound, stmt_opened, small, rolled}
 use Rattle.cw_sound.proofs.Regular.Expressions.{name_fits, index_fits, bare_fits, reference_keeps, condition_keeps, expr_keeps}
 use Rattle.cw_sound.proofs.Regular.Good.{Keeps, given_good}
 use Rattle.cw_sound.proofs.Kept.{OfOption}
@@ -65,42 +65,42 @@ module _ (m : ℕ) where
   none_in : (is : Bool) → IsTrue is → Sound m is []
   none_in is h = record { right = h; inner = tt }
 
-  empty_small : SimpleSmall m simple_tree.Empty
-  empty_small = subst (SimpleSmall m) simple_tree.rolls-Empty (simple_rolled m layer.Empty (λ few. none_in true refl))
+  empty_small : (small m).Simple simple_tree.Empty
+  empty_small = subst ((small m).Simple) simple_tree.rolls-Empty ((rolled m).simple layer.Empty (λ few. none_in true refl))
 
-  assign_small : (r : RawRef) (x : RawExpr) → RefFits r → ExprFits x → SimpleSmall m (simple_tree.Assign r x)
+  assign_small : (r : RawRef) (x : RawExpr) → RefFits r → ExprFits x → (small m).Simple (simple_tree.Assign r x)
   assign_small r x h k =
-      subst (SimpleSmall m) (simple_tree.rolls-Assign r x)
-      (simple_rolled m (layer.Assign r x) (λ few. none_in (expressions.is_regular_reference r && expressions.is_regular x) (both (expressions.is_regular_reference r) (expressions.is_regular x) h.right k.right)))
+      subst ((small m).Simple) (simple_tree.rolls-Assign r x)
+      ((rolled m).simple (layer.Assign r x) (λ few. none_in (expressions.is_regular_reference r && expressions.is_regular x) (both (expressions.is_regular_reference r) (expressions.is_regular x) h.right k.right)))
 
-  assign_bits_small : (z : RawBits) (r : RawRef) (x : RawExpr) → RefFits r → ExprFits x → SimpleSmall m (simple_tree.AssignBits z r x)
+  assign_bits_small : (z : RawBits) (r : RawRef) (x : RawExpr) → RefFits r → ExprFits x → (small m).Simple (simple_tree.AssignBits z r x)
   assign_bits_small z r x h k =
-      subst (SimpleSmall m) (simple_tree.rolls-AssignBits z r x)
-      (simple_rolled m (layer.AssignBits z r x) (λ few. none_in (expressions.is_regular_reference r && expressions.is_regular x) (both (expressions.is_regular_reference r) (expressions.is_regular x) h.right k.right)))
+      subst ((small m).Simple) (simple_tree.rolls-AssignBits z r x)
+      ((rolled m).simple (layer.AssignBits z r x) (λ few. none_in (expressions.is_regular_reference r && expressions.is_regular x) (both (expressions.is_regular_reference r) (expressions.is_regular x) h.right k.right)))
 
-  jump_small : (t : Item) (f : RawName) (o : Option (Item × RawExpr)) → OfOption (λ y. Unit {0} × ExprFits y.1) o → SimpleSmall m (jump t f o)
-  jump_small t f None h = subst (SimpleSmall m) (simple_tree.rolls-Goto (position t) f) (simple_rolled m (layer.Goto (position t) f) (λ few. none_in true refl))
+  jump_small : (t : Item) (f : RawName) (o : Option (Item × RawExpr)) → OfOption (λ y. Unit {0} × ExprFits y.1) o → (small m).Simple (jump t f o)
+  jump_small t f None h = subst ((small m).Simple) (simple_tree.rolls-Goto (position t) f) ((rolled m).simple (layer.Goto (position t) f) (λ few. none_in true refl))
   jump_small t f (Some y) h =
-      subst (SimpleSmall m) (simple_tree.rolls-GotoSwitch (position t) f y.1) (simple_rolled m (layer.GotoSwitch (position t) f y.1) (λ few. none_in (expressions.is_regular y.1) h.1.right))
+      subst ((small m).Simple) (simple_tree.rolls-GotoSwitch (position t) f y.1) ((rolled m).simple (layer.GotoSwitch (position t) f y.1) (λ few. none_in (expressions.is_regular y.1) h.1.right))
 
-  call_small : (f : RawName) (xs : List RawExpr) → Each ExprFits xs → SimpleSmall m (simple_tree.Call f xs)
+  call_small : (f : RawName) (xs : List RawExpr) → Each ExprFits xs → (small m).Simple (simple_tree.Call f xs)
   call_small f xs h =
-      subst (SimpleSmall m) (simple_tree.rolls-Call f xs)
-      (simple_rolled m (layer.Call f xs) (λ few. none_in (expressions.all (map expressions.is_regular xs)) (all_each expressions.is_regular tokens.expr_tokens xs h)))
+      subst ((small m).Simple) (simple_tree.rolls-Call f xs)
+      ((rolled m).simple (layer.Call f xs) (λ few. none_in (expressions.all (map expressions.is_regular xs)) (all_each expressions.is_regular tokens.expr_tokens xs h)))
 
-  answer_small : (at : Position) (x : RawExpr) → ExprFits x → SimpleSmall m (simple_tree.Answer at x)
-  answer_small at x h = subst (SimpleSmall m) (simple_tree.rolls-Answer at x) (simple_rolled m (layer.Answer at x) (λ few. none_in (expressions.is_regular x) h.right))
+  answer_small : (at : Position) (x : RawExpr) → ExprFits x → (small m).Simple (simple_tree.Answer at x)
+  answer_small at x h = subst ((small m).Simple) (simple_tree.rolls-Answer at x) ((rolled m).simple (layer.Answer at x) (λ few. none_in (expressions.is_regular x) h.right))
 
-  block_small : (b : RawBlock) → BlockSmall m b → SimpleSmall m (simple_tree.Block b)
-  block_small b h = subst (SimpleSmall m) (simple_tree.rolls-Block b) (simple_rolled m (layer.Block b) h)
+  block_small : (b : RawBlock) → (small m).Block b → (small m).Simple (simple_tree.Block b)
+  block_small b h = subst ((small m).Simple) (simple_tree.rolls-Block b) ((rolled m).simple (layer.Block b) h)
 
-  simple_small : (s : RawSimple) → SimpleSmall m s → FormSmall m (form_tree.Simple s)
-  simple_small s h = subst (FormSmall m) (form_tree.rolls-Simple s) (form_rolled m (layer.Simple s) h)
+  simple_small : (s : RawSimple) → (small m).Simple s → (small m).Form (form_tree.Simple s)
+  simple_small s h = subst ((small m).Form) (form_tree.rolls-Simple s) ((rolled m).form (layer.Simple s) h)
 
-  if_small : (at : Position) (c : RawCond) (ls : List RawName) (s : RawSimple) (o : Option RawStmt) → CondFits c → SimpleSmall m s → OfOption (λ y. StmtSmall m y) o → FormSmall m (form_tree.If at c ls s o)
+  if_small : (at : Position) (c : RawCond) (ls : List RawName) (s : RawSimple) (o : Option RawStmt) → CondFits c → (small m).Simple s → OfOption (λ y. (small m).Stmt y) o → (small m).Form (form_tree.If at c ls s o)
   if_small at c ls s None h k l =
-      subst (FormSmall m) (form_tree.rolls-If at c ls s None)
-      (form_rolled m (layer.If at c ls s None) (λ few.
+      subst ((small m).Form) (form_tree.rolls-If at c ls s None)
+      ((rolled m).form (layer.If at c ls s None) (λ few.
       let count : 2 + (tokens.cond_tokens c + ((2 * length ls + tokens.simple_tokens s) + 0)) ≤ 65535 = few in
       let p = k (omega (arith, count)) in
       record {
@@ -108,8 +108,8 @@ module _ (m : ℕ) where
         inner = each-append (BodyFits m) (bodies.simple_bodies s) [] p.inner tt;
       }))
   if_small at c ls s (Some x) h k l =
-      subst (FormSmall m) (form_tree.rolls-If at c ls s (Some x))
-      (form_rolled m (layer.If at c ls s (Some x)) (λ few.
+      subst ((small m).Form) (form_tree.rolls-If at c ls s (Some x))
+      ((rolled m).form (layer.If at c ls s (Some x)) (λ few.
       let count : 2 + (tokens.cond_tokens c + ((2 * length ls + tokens.simple_tokens s) + tokens.stmt_tokens x)) ≤ 65535 = few in
       let p = k (omega (arith, count)) in
       let q = l (omega (arith, count)) in
@@ -119,10 +119,10 @@ module _ (m : ℕ) where
       }))
 
   -- A FOR has two tokens for each element, and more.
-  for_small : (at : Position) (r : RawRef) (xs : List RawFelem) (s : RawStmt) → RefFits r → Each ElementFits xs → StmtSmall m s → FormSmall m (form_tree.For at r xs s)
+  for_small : (at : Position) (r : RawRef) (xs : List RawFelem) (s : RawStmt) → RefFits r → Each ElementFits xs → (small m).Stmt s → (small m).Form (form_tree.For at r xs s)
   for_small at r xs s h k l =
-      subst (FormSmall m) (form_tree.rolls-For at r xs s)
-      (form_rolled m (layer.For at r xs s) (λ few.
+      subst ((small m).Form) (form_tree.rolls-For at r xs s)
+      ((rolled m).form (layer.For at r xs s) (λ few.
       let count : 2 + (tokens.ref_tokens r + (separated (map tokens.felem_tokens xs) + tokens.stmt_tokens s)) ≤ 65535 = few in
       let p = l (omega (arith, count)) in
       let all_of = expressions.all (map regular.is_regular_element xs) in
@@ -135,23 +135,23 @@ module _ (m : ℕ) where
         inner = p.inner;
       }))
 
-  stmt_small : (ls : List RawName) (f : RawForm) → FormSmall m f → StmtSmall m (stmt_tree ls f)
-  stmt_small ls f h = stmt_rolled m (record { labels = ls; form = f }) (λ few. let count : 2 * length ls + tokens.form_tokens f ≤ 65535 = few in let p = h (omega (arith, count)) in record { right = p.right; inner = p.inner })
+  stmt_small : (ls : List RawName) (f : RawForm) → (small m).Form f → (small m).Stmt (stmt_tree ls f)
+  stmt_small ls f h = (rolled m).stmt (record { labels = ls; form = f }) (λ few. let count : 2 * length ls + tokens.form_tokens f ≤ 65535 = few in let p = h (omega (arith, count)) in record { right = p.right; inner = p.inner })
 
-  labelled_small : (n : RawName) (s : RawStmt) → StmtSmall m s → StmtSmall m (with_label n s)
+  labelled_small : (n : RawName) (s : RawStmt) → (small m).Stmt s → (small m).Stmt (with_label n s)
   labelled_small n s h =
       let k = stmt_opened m s h in
-      stmt_rolled m (record { labels = n ∷ (out-RawStmt s).labels; form = (out-RawStmt s).form }) (λ few. let count : 2 * suc (length (out-RawStmt s).labels) + tokens.form_tokens (out-RawStmt s).form ≤ 65535 = few in let p = k (omega (arith, count)) in record { right = p.right; inner = p.inner })
+      (rolled m).stmt (record { labels = n ∷ (out-RawStmt s).labels; form = (out-RawStmt s).form }) (λ few. let count : 2 * suc (length (out-RawStmt s).labels) + tokens.form_tokens (out-RawStmt s).form ≤ 65535 = few in let p = k (omega (arith, count)) in record { right = p.right; inner = p.inner })
 
-  form_alone : (f : RawForm) → FormSmall m f → StmtSmall m (stmt_tree [] f)
+  form_alone : (f : RawForm) → (small m).Form f → (small m).Stmt (stmt_tree [] f)
   form_alone f h = stmt_small [] f h
 
-  simple_alone : (s : RawSimple) → SimpleSmall m s → StmtSmall m (simple_stmt s)
+  simple_alone : (s : RawSimple) → (small m).Simple s → (small m).Stmt (simple_stmt s)
   simple_alone s h = form_alone (form_tree.Simple s) (simple_small s h)
 
   -- ---- blocks and procedures
 
-  statements_in : (ss : List RawStmt) → Each (StmtSmall m) ss → separated (map tokens.stmt_tokens ss) ≤ 65535 → Sound m (expressions.all (map regular.is_regular_statement ss)) (bodies.joined (map (λ s. (s, bodies.statement_bodies s)) ss))
+  statements_in : (ss : List RawStmt) → Each ((small m).Stmt) ss → separated (map tokens.stmt_tokens ss) ≤ 65535 → Sound m (expressions.all (map regular.is_regular_statement ss)) (bodies.joined (map (λ s. (s, bodies.statement_bodies s)) ss))
   statements_in [] h few = none_in true refl
   statements_in (s ∷ ss) h few =
       let p = h.0 (omega (arith, few)) in
@@ -161,14 +161,14 @@ module _ (m : ℕ) where
         inner = each-append (BodyFits m) (bodies.statement_bodies s) (bodies.joined (map (λ z. (z, bodies.statement_bodies z)) ss)) p.inner q.inner;
       }
 
-  declarations_in : (ds : List RawDecl) → Each (DeclSmall m) ds → tokens.total (map tokens.decl_tokens ds) ≤ 65535 → Each (BodyFits m) (bodies.joined (map (λ d. (d, bodies.declaration_bodies d)) ds))
+  declarations_in : (ds : List RawDecl) → Each ((small m).Decl) ds → tokens.total (map tokens.decl_tokens ds) ≤ 65535 → Each (BodyFits m) (bodies.joined (map (λ d. (d, bodies.declaration_bodies d)) ds))
   declarations_in [] h few = tt
   declarations_in (d ∷ ds) h few =
       each-append (BodyFits m) (bodies.declaration_bodies d) (bodies.joined (map (λ z. (z, bodies.declaration_bodies z)) ds)) (h.0 (omega (arith, few))).inner (declarations_in ds h.1 (omega (arith, few)))
 
-  whole_small : (t : Item) (ds : List RawDecl) (ss : List RawStmt) → Each (DeclSmall m) ds → Each (StmtSmall m) ss → BlockSmall m (block_tree t ds ss)
+  whole_small : (t : Item) (ds : List RawDecl) (ss : List RawStmt) → Each ((small m).Decl) ds → Each ((small m).Stmt) ss → (small m).Block (block_tree t ds ss)
   whole_small t ds ss h k =
-      block_rolled m (record { at = position t; decls = ds; stmts = ss }) (λ few.
+      (rolled m).block (record { at = position t; decls = ds; stmts = ss }) (λ few.
       let count : suc (tokens.total (map tokens.decl_tokens ds) + separated (map tokens.stmt_tokens ss)) ≤ 65535 = few in
       let p = statements_in ss k (omega (arith, count)) in
       record {
@@ -176,23 +176,23 @@ module _ (m : ℕ) where
         inner = each-append (BodyFits m) (bodies.joined (map (λ d. (d, bodies.declaration_bodies d)) ds)) (bodies.joined (map (λ s. (s, bodies.statement_bodies s)) ss)) (declarations_in ds h (omega (arith, count))) p.inner;
       })
 
-  data_small : (d : RawData) → DeclSmall m (decl_tree.Data d)
-  data_small d = subst (DeclSmall m) (decl_tree.rolls-Data d) (decl_rolled m (layer.Data d) (λ few. none_in true refl))
+  data_small : (d : RawData) → (small m).Decl (decl_tree.Data d)
+  data_small d = subst ((small m).Decl) (decl_tree.rolls-Data d) ((rolled m).decl (layer.Data d) (λ few. none_in true refl))
 
-  overlay_small : (at : Position) (b : RawBase) (d : RawData) → DeclSmall m (decl_tree.Overlay at b d)
-  overlay_small at b d = subst (DeclSmall m) (decl_tree.rolls-Overlay at b d) (decl_rolled m (layer.Overlay at b d) (λ few. none_in true refl))
+  overlay_small : (at : Position) (b : RawBase) (d : RawData) → (small m).Decl (decl_tree.Overlay at b d)
+  overlay_small at b d = subst ((small m).Decl) (decl_tree.rolls-Overlay at b d) ((rolled m).decl (layer.Overlay at b d) (λ few. none_in true refl))
 
-  switch_small : (at : Position) (f : RawName) (xs : List RawName) → DeclSmall m (decl_tree.Switch at f xs)
-  switch_small at f xs = subst (DeclSmall m) (decl_tree.rolls-Switch at f xs) (decl_rolled m (layer.Switch at f xs) (λ few. none_in true refl))
+  switch_small : (at : Position) (f : RawName) (xs : List RawName) → (small m).Decl (decl_tree.Switch at f xs)
+  switch_small at f xs = subst ((small m).Decl) (decl_tree.rolls-Switch at f xs) ((rolled m).decl (layer.Switch at f xs) (λ few. none_in true refl))
 
-  proc_small : (o : Option RawType) (g : RawPtag) (f : RawName) (ps : List RawParam) (s : RawStmt) → StmtSmall m s → statement_levels s ≤ m → DeclSmall m (decl_tree.Proc (proc_tree o g f ps s))
+  proc_small : (o : Option RawType) (g : RawPtag) (f : RawName) (ps : List RawParam) (s : RawStmt) → (small m).Stmt s → statement_levels s ≤ m → (small m).Decl (decl_tree.Proc (proc_tree o g f ps s))
   proc_small o g f ps s h l =
-      let made : ProcSmall m (proc_tree o g f ps s) =
-      proc_rolled m (record { answer = o; tag = g; name = f; params = ps; body = s }) (λ few.
+      let made : (small m).Proc (proc_tree o g f ps s) =
+      (rolled m).proc (record { answer = o; tag = g; name = f; params = ps; body = s }) (λ few.
       let count : 4 + (tokens.total (map tokens.param_tokens ps) + tokens.stmt_tokens s) ≤ 65535 = few in
       let p = h (omega (arith, count)) in
       record { right = p.right; inner = (record { right = p.right; few = l }, p.inner) }) in
-      subst (DeclSmall m) (decl_tree.rolls-Proc (proc_tree o g f ps s)) (decl_rolled m (layer.Proc (proc_tree o g f ps s)) (λ few. let p = made few in record { right = refl; inner = p.inner }))
+      subst ((small m).Decl) (decl_tree.rolls-Proc (proc_tree o g f ps s)) ((rolled m).decl (layer.Proc (proc_tree o g f ps s)) (λ few. let p = made few in record { right = refl; inner = p.inner }))
 
   -- ---- rules
 

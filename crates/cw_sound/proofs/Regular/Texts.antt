@@ -59,10 +59,7 @@ kind_byte : (k : TokenKind) (w : List ℕ) → IsProperAs k w → same k kinds.L
 kind_byte kinds.Literal w p h = byte_is w p
 kind_byte (kinds.Symbol s) w p h = absurd (not_three (symbol_code s) (symbol_after s) h)
 kind_byte (kinds.Word k) w p h = absurd (not_three (word_code k) (word_after k) h)
-kind_byte kinds.Name w p h = absurd cc
-kind_byte kinds.Number w p h = absurd cc
-kind_byte kinds.Text w p h = absurd cc
-kind_byte kinds.BodyText w p h = absurd cc
+kind_byte _ w p h = absurd cc
 
 bytes : (n : ℕ) (ts : List Lexeme) → Each IsProperToken ts → Each IsByte (numbered n ts)
 bytes n [] h = tt

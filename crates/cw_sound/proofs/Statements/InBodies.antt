@@ -1,15 +1,10 @@
 -- What stands in a text stands in the bodies of its procedures, and where the text has no fault none of them has one.
 use Rattle.std.proofs.Common.{inl, inr, ℕ, List, [], ◌∷◌, ◌++◌, length, map, Bool, false, not, ◌||◌, ◌==◌, Option, Some, None, sym, subst}
 use Rattle.cw_table.specs.declared.table.Row.{Row}
-use Rattle.cw_tree.specs.declared.statement.RawDecl.{RawDecl, RawDecl-F, roll-RawDecl, map-RawDecl, fold-roll-RawDecl}
+use Rattle.cw_tree.specs.declared.statement.RawDecl.{RawDecl}
 use Rattle.cw_tree.specs.declared.statement.RawDecl.TheOpen as layer
-use Rattle.cw_tree.specs.declared.statement.RawDecl.TheOpen.{RawForm-F, RawSimple-F, RawBlock-F, RawProc-F, RawStmt-F}
-use Rattle.cw_tree.specs.declared.statement.RawDecl.TheFolds.{para-roll-RawDecl, para-roll-RawForm, para-roll-RawSimple, para-roll-RawBlock, para-roll-RawProc, para-roll-RawStmt}
-use Rattle.cw_tree.specs.declared.statement.RawForm.{RawForm, roll-RawForm, map-RawForm, fold-roll-RawForm}
-use Rattle.cw_tree.specs.declared.statement.RawSimple.{RawSimple, roll-RawSimple, map-RawSimple, fold-roll-RawSimple}
-use Rattle.cw_tree.specs.declared.statement.RawBlock.{RawBlock, roll-RawBlock, map-RawBlock, fold-roll-RawBlock}
-use Rattle.cw_tree.specs.declared.statement.RawProc.{RawProc, roll-RawProc, map-RawProc, fold-roll-RawProc}
-use Rattle.cw_tree.specs.declared.statement.RawStmt.{RawStmt, roll-RawStmt, map-RawStmt, fold-roll-RawStmt}
+use Rattle.cw_tree.specs.declared.statement.RawBlock.{RawBlock}
+use Rattle.cw_tree.specs.declared.statement.RawStmt.{RawStmt}
 use Rattle.cw_facts.specs.declared.fact.Fact.{Fact}
 use Rattle.cw_facts.specs.declared.fact.Fact.TheVariants as fact
 use Rattle.cw_facts.specs.declared.fact.Kind.TheVariants as kind
@@ -35,6 +30,8 @@ use Rattle.cw_sound.specs.Statements.Bodies as bodies
 use Rattle.cw_sound.proofs.Statements.Keeping.{elements_keep, declaration_keeps, simple_keeps, statement_keeps, all_keep}
 use Rattle.cw_sound.proofs.Statements.Parts.{Stood, halves_of, opened}
 use Rattle.cw_sound.proofs.Statements.Layers.{Known, WithDecl, WithStmt, DeclParts, FormParts, SimpleParts, BlockParts, ProcParts, StmtParts, decl_layer, form_layer, simple_layer, block_layer, proc_layer, stmt_layer, Rules, each_block}
+use Rattle.cw_sound.proofs.Statements.Passes.{walked_layer, walk_rolls, bodies_walk, LayersKnown, Rolled, rules_of}
+use Rattle.cw_sound.proofs.Statements.Folds.{decl_layer_facts, form_layer_facts, simple_layer_facts, block_layer_facts, proc_layer_facts, stmt_layer_facts, facts_decl, facts_form, facts_simple, facts_block, facts_proc, facts_stmt, decl_layer_judged, form_layer_judged, simple_layer_judged, block_layer_judged, proc_layer_judged, stmt_layer_judged, judged_decl, judged_form, judged_simple, judged_block, judged_proc, judged_stmt}
 
 module _ (named : Named) (sites : List (Row Site)) (numbers : Numbers) (u : SourceUnit) where
   -- what is said of a body
@@ -50,68 +47,36 @@ module _ (named : Named) (sites : List (Row Site)) (numbers : Numbers) (u : Sour
   two_right : (bs cs : Bodies) → AllRight bs → AllRight cs → AllRight (bs ++ cs)
   two_right bs cs h k b i = elim (in_either b bs cs i) [ inl x ↦ h b x | inr x ↦ k b x ]
 
-  abbrev DeclarationRight : RawDecl → Type 0
-  DeclarationRight x = (who : Option ℕ) → Stood named numbers u who (facts.declaration_facts x) → NoFault (judged.declaration_judged named sites x) → AllRight (bodies.declaration_bodies x)
+  -- what is said of the bodies in a tree
+  abbrev pub known : Known
+  known = record {
+    Decl = λ x. (who : Option ℕ) → Stood named numbers u who (facts.declaration_facts x) → NoFault (judged.declaration_judged named sites x) → AllRight (bodies.declaration_bodies x);
+    Form = λ x. (who : Option ℕ) → Stood named numbers u who (facts.form_facts x) → NoFault (judged.form_judged named sites x) → AllRight (bodies.form_bodies x);
+    Simple = λ x. (who : Option ℕ) → Stood named numbers u who (facts.simple_facts x) → NoFault (judged.simple_judged named sites x) → AllRight (bodies.simple_bodies x);
+    Block = λ x. (who : Option ℕ) (outermost : Bool) → Stood named numbers u who (facts.block_facts x outermost) → NoFault (judged.block_judged named sites x) → AllRight (bodies.block_bodies x);
+    Proc = λ x. (who : Option ℕ) → Stood named numbers u who (facts.procedure_facts x) → NoFault (judged.procedure_judged named sites x) → AllRight (bodies.procedure_bodies x);
+    Stmt = λ x. (who : Option ℕ) → Stood named numbers u who (facts.statement_facts x) → NoFault (judged.statement_judged named sites x) → AllRight (bodies.statement_bodies x);
+  }
 
-  abbrev DeclarationLayerRight : RawDecl-F RawDecl RawForm RawSimple RawBlock RawProc RawStmt → Type 0
-  DeclarationLayerRight x = (who : Option ℕ) → Stood named numbers u who (facts.declaration_step (map-RawDecl RawDecl RawForm RawSimple RawBlock RawProc RawStmt (List Fact) (List Fact) (List Fact) BlockFacts (List Fact) (List Fact) facts.declaration_facts facts.form_facts facts.simple_facts facts.block_facts facts.procedure_facts facts.statement_facts x)) → NoFault (judged.declaration_step named sites (map-RawDecl RawDecl RawForm RawSimple RawBlock RawProc RawStmt Judgement Judgement Judgement Judgement Judgement Judgement (judged.declaration_judged named sites) (judged.form_judged named sites) (judged.simple_judged named sites) (judged.block_judged named sites) (judged.procedure_judged named sites) (judged.statement_judged named sites) x)) → AllRight (bodies.declaration_step (map-RawDecl RawDecl RawForm RawSimple RawBlock RawProc RawStmt (RawDecl × Bodies) (RawForm × Bodies) (RawSimple × Bodies) (RawBlock × Bodies) (RawProc × Bodies) (RawStmt × Bodies) (λ z. (z, bodies.declaration_bodies z)) (λ z. (z, bodies.form_bodies z)) (λ z. (z, bodies.simple_bodies z)) (λ z. (z, bodies.block_bodies z)) (λ z. (z, bodies.procedure_bodies z)) (λ z. (z, bodies.statement_bodies z)) x))
+  abbrev layers : LayersKnown
+  layers = record {
+    Decl = λ y. (who : Option ℕ) → Stood named numbers u who (decl_layer_facts y) → NoFault (decl_layer_judged named sites y) → AllRight ((walked_layer bodies_walk).decl y);
+    Form = λ y. (who : Option ℕ) → Stood named numbers u who (form_layer_facts y) → NoFault (form_layer_judged named sites y) → AllRight ((walked_layer bodies_walk).form y);
+    Simple = λ y. (who : Option ℕ) → Stood named numbers u who (simple_layer_facts y) → NoFault (simple_layer_judged named sites y) → AllRight ((walked_layer bodies_walk).simple y);
+    Block = λ y. (who : Option ℕ) (outermost : Bool) → Stood named numbers u who (block_layer_facts y outermost) → NoFault (block_layer_judged named sites y) → AllRight ((walked_layer bodies_walk).block y);
+    Proc = λ y. (who : Option ℕ) → Stood named numbers u who (proc_layer_facts y) → NoFault (proc_layer_judged named sites y) → AllRight ((walked_layer bodies_walk).proc y);
+    Stmt = λ y. (who : Option ℕ) → Stood named numbers u who (stmt_layer_facts y) → NoFault (stmt_layer_judged named sites y) → AllRight ((walked_layer bodies_walk).stmt y);
+  }
 
-  declaration_rolls : (x : RawDecl-F RawDecl RawForm RawSimple RawBlock RawProc RawStmt) → DeclarationLayerRight x → DeclarationRight (roll-RawDecl x)
-  declaration_rolls x h who s free =
-      subst AllRight (sym (para-roll-RawDecl Bodies Bodies Bodies Bodies Bodies Bodies bodies.declaration_step bodies.form_step bodies.simple_step bodies.block_step bodies.procedure_step bodies.statement_step x)) (h who (subst (λ (f : List Fact). Stood named numbers u who f) (fold-roll-RawDecl (List Fact) (List Fact) (List Fact) BlockFacts (List Fact) (List Fact) facts.declaration_step facts.form_step facts.simple_step facts.block_step facts.procedure_step facts.statement_step x) s) (subst NoFault (fold-roll-RawDecl Judgement Judgement Judgement Judgement Judgement Judgement (judged.declaration_step named sites) (judged.form_step named sites) (judged.simple_step named sites) (judged.block_step named sites) (judged.procedure_step named sites) (judged.statement_step named sites) x) free))
-
-  abbrev FormRight : RawForm → Type 0
-  FormRight x = (who : Option ℕ) → Stood named numbers u who (facts.form_facts x) → NoFault (judged.form_judged named sites x) → AllRight (bodies.form_bodies x)
-
-  abbrev FormLayerRight : RawForm-F RawDecl RawForm RawSimple RawBlock RawProc RawStmt → Type 0
-  FormLayerRight x = (who : Option ℕ) → Stood named numbers u who (facts.form_step (map-RawForm RawDecl RawForm RawSimple RawBlock RawProc RawStmt (List Fact) (List Fact) (List Fact) BlockFacts (List Fact) (List Fact) facts.declaration_facts facts.form_facts facts.simple_facts facts.block_facts facts.procedure_facts facts.statement_facts x)) → NoFault (judged.form_step named sites (map-RawForm RawDecl RawForm RawSimple RawBlock RawProc RawStmt Judgement Judgement Judgement Judgement Judgement Judgement (judged.declaration_judged named sites) (judged.form_judged named sites) (judged.simple_judged named sites) (judged.block_judged named sites) (judged.procedure_judged named sites) (judged.statement_judged named sites) x)) → AllRight (bodies.form_step (map-RawForm RawDecl RawForm RawSimple RawBlock RawProc RawStmt (RawDecl × Bodies) (RawForm × Bodies) (RawSimple × Bodies) (RawBlock × Bodies) (RawProc × Bodies) (RawStmt × Bodies) (λ z. (z, bodies.declaration_bodies z)) (λ z. (z, bodies.form_bodies z)) (λ z. (z, bodies.simple_bodies z)) (λ z. (z, bodies.block_bodies z)) (λ z. (z, bodies.procedure_bodies z)) (λ z. (z, bodies.statement_bodies z)) x))
-
-  form_rolls : (x : RawForm-F RawDecl RawForm RawSimple RawBlock RawProc RawStmt) → FormLayerRight x → FormRight (roll-RawForm x)
-  form_rolls x h who s free =
-      subst AllRight (sym (para-roll-RawForm Bodies Bodies Bodies Bodies Bodies Bodies bodies.declaration_step bodies.form_step bodies.simple_step bodies.block_step bodies.procedure_step bodies.statement_step x)) (h who (subst (λ (f : List Fact). Stood named numbers u who f) (fold-roll-RawForm (List Fact) (List Fact) (List Fact) BlockFacts (List Fact) (List Fact) facts.declaration_step facts.form_step facts.simple_step facts.block_step facts.procedure_step facts.statement_step x) s) (subst NoFault (fold-roll-RawForm Judgement Judgement Judgement Judgement Judgement Judgement (judged.declaration_step named sites) (judged.form_step named sites) (judged.simple_step named sites) (judged.block_step named sites) (judged.procedure_step named sites) (judged.statement_step named sites) x) free))
-
-  abbrev SimpleRight : RawSimple → Type 0
-  SimpleRight x = (who : Option ℕ) → Stood named numbers u who (facts.simple_facts x) → NoFault (judged.simple_judged named sites x) → AllRight (bodies.simple_bodies x)
-
-  abbrev SimpleLayerRight : RawSimple-F RawDecl RawForm RawSimple RawBlock RawProc RawStmt → Type 0
-  SimpleLayerRight x = (who : Option ℕ) → Stood named numbers u who (facts.simple_step (map-RawSimple RawDecl RawForm RawSimple RawBlock RawProc RawStmt (List Fact) (List Fact) (List Fact) BlockFacts (List Fact) (List Fact) facts.declaration_facts facts.form_facts facts.simple_facts facts.block_facts facts.procedure_facts facts.statement_facts x)) → NoFault (judged.simple_step named sites (map-RawSimple RawDecl RawForm RawSimple RawBlock RawProc RawStmt Judgement Judgement Judgement Judgement Judgement Judgement (judged.declaration_judged named sites) (judged.form_judged named sites) (judged.simple_judged named sites) (judged.block_judged named sites) (judged.procedure_judged named sites) (judged.statement_judged named sites) x)) → AllRight (bodies.simple_step (map-RawSimple RawDecl RawForm RawSimple RawBlock RawProc RawStmt (RawDecl × Bodies) (RawForm × Bodies) (RawSimple × Bodies) (RawBlock × Bodies) (RawProc × Bodies) (RawStmt × Bodies) (λ z. (z, bodies.declaration_bodies z)) (λ z. (z, bodies.form_bodies z)) (λ z. (z, bodies.simple_bodies z)) (λ z. (z, bodies.block_bodies z)) (λ z. (z, bodies.procedure_bodies z)) (λ z. (z, bodies.statement_bodies z)) x))
-
-  simple_rolls : (x : RawSimple-F RawDecl RawForm RawSimple RawBlock RawProc RawStmt) → SimpleLayerRight x → SimpleRight (roll-RawSimple x)
-  simple_rolls x h who s free =
-      subst AllRight (sym (para-roll-RawSimple Bodies Bodies Bodies Bodies Bodies Bodies bodies.declaration_step bodies.form_step bodies.simple_step bodies.block_step bodies.procedure_step bodies.statement_step x)) (h who (subst (λ (f : List Fact). Stood named numbers u who f) (fold-roll-RawSimple (List Fact) (List Fact) (List Fact) BlockFacts (List Fact) (List Fact) facts.declaration_step facts.form_step facts.simple_step facts.block_step facts.procedure_step facts.statement_step x) s) (subst NoFault (fold-roll-RawSimple Judgement Judgement Judgement Judgement Judgement Judgement (judged.declaration_step named sites) (judged.form_step named sites) (judged.simple_step named sites) (judged.block_step named sites) (judged.procedure_step named sites) (judged.statement_step named sites) x) free))
-
-  abbrev pub BlockRight : RawBlock → Type 0
-  BlockRight x = (who : Option ℕ) (outermost : Bool) → Stood named numbers u who (facts.block_facts x outermost) → NoFault (judged.block_judged named sites x) → AllRight (bodies.block_bodies x)
-
-  abbrev BlockLayerRight : RawBlock-F RawDecl RawForm RawSimple RawBlock RawProc RawStmt → Type 0
-  BlockLayerRight x = (who : Option ℕ) (outermost : Bool) → Stood named numbers u who (facts.block_step (map-RawBlock RawDecl RawForm RawSimple RawBlock RawProc RawStmt (List Fact) (List Fact) (List Fact) BlockFacts (List Fact) (List Fact) facts.declaration_facts facts.form_facts facts.simple_facts facts.block_facts facts.procedure_facts facts.statement_facts x) outermost) → NoFault (judged.block_step named sites (map-RawBlock RawDecl RawForm RawSimple RawBlock RawProc RawStmt Judgement Judgement Judgement Judgement Judgement Judgement (judged.declaration_judged named sites) (judged.form_judged named sites) (judged.simple_judged named sites) (judged.block_judged named sites) (judged.procedure_judged named sites) (judged.statement_judged named sites) x)) → AllRight (bodies.block_step (map-RawBlock RawDecl RawForm RawSimple RawBlock RawProc RawStmt (RawDecl × Bodies) (RawForm × Bodies) (RawSimple × Bodies) (RawBlock × Bodies) (RawProc × Bodies) (RawStmt × Bodies) (λ z. (z, bodies.declaration_bodies z)) (λ z. (z, bodies.form_bodies z)) (λ z. (z, bodies.simple_bodies z)) (λ z. (z, bodies.block_bodies z)) (λ z. (z, bodies.procedure_bodies z)) (λ z. (z, bodies.statement_bodies z)) x))
-
-  block_rolls : (x : RawBlock-F RawDecl RawForm RawSimple RawBlock RawProc RawStmt) → BlockLayerRight x → BlockRight (roll-RawBlock x)
-  block_rolls x h who outermost s free =
-      subst AllRight (sym (para-roll-RawBlock Bodies Bodies Bodies Bodies Bodies Bodies bodies.declaration_step bodies.form_step bodies.simple_step bodies.block_step bodies.procedure_step bodies.statement_step x)) (h who outermost (subst (λ (f : BlockFacts). Stood named numbers u who (f outermost)) (fold-roll-RawBlock (List Fact) (List Fact) (List Fact) BlockFacts (List Fact) (List Fact) facts.declaration_step facts.form_step facts.simple_step facts.block_step facts.procedure_step facts.statement_step x) s) (subst NoFault (fold-roll-RawBlock Judgement Judgement Judgement Judgement Judgement Judgement (judged.declaration_step named sites) (judged.form_step named sites) (judged.simple_step named sites) (judged.block_step named sites) (judged.procedure_step named sites) (judged.statement_step named sites) x) free))
-
-  abbrev ProcedureRight : RawProc → Type 0
-  ProcedureRight x = (who : Option ℕ) → Stood named numbers u who (facts.procedure_facts x) → NoFault (judged.procedure_judged named sites x) → AllRight (bodies.procedure_bodies x)
-
-  abbrev ProcedureLayerRight : RawProc-F RawDecl RawForm RawSimple RawBlock RawProc RawStmt → Type 0
-  ProcedureLayerRight x = (who : Option ℕ) → Stood named numbers u who (facts.procedure_step (map-RawProc RawDecl RawForm RawSimple RawBlock RawProc RawStmt (List Fact) (List Fact) (List Fact) BlockFacts (List Fact) (List Fact) facts.declaration_facts facts.form_facts facts.simple_facts facts.block_facts facts.procedure_facts facts.statement_facts x)) → NoFault (judged.procedure_step named sites (map-RawProc RawDecl RawForm RawSimple RawBlock RawProc RawStmt Judgement Judgement Judgement Judgement Judgement Judgement (judged.declaration_judged named sites) (judged.form_judged named sites) (judged.simple_judged named sites) (judged.block_judged named sites) (judged.procedure_judged named sites) (judged.statement_judged named sites) x)) → AllRight (bodies.procedure_step (map-RawProc RawDecl RawForm RawSimple RawBlock RawProc RawStmt (RawDecl × Bodies) (RawForm × Bodies) (RawSimple × Bodies) (RawBlock × Bodies) (RawProc × Bodies) (RawStmt × Bodies) (λ z. (z, bodies.declaration_bodies z)) (λ z. (z, bodies.form_bodies z)) (λ z. (z, bodies.simple_bodies z)) (λ z. (z, bodies.block_bodies z)) (λ z. (z, bodies.procedure_bodies z)) (λ z. (z, bodies.statement_bodies z)) x))
-
-  procedure_rolls : (x : RawProc-F RawDecl RawForm RawSimple RawBlock RawProc RawStmt) → ProcedureLayerRight x → ProcedureRight (roll-RawProc x)
-  procedure_rolls x h who s free =
-      subst AllRight (sym (para-roll-RawProc Bodies Bodies Bodies Bodies Bodies Bodies bodies.declaration_step bodies.form_step bodies.simple_step bodies.block_step bodies.procedure_step bodies.statement_step x)) (h who (subst (λ (f : List Fact). Stood named numbers u who f) (fold-roll-RawProc (List Fact) (List Fact) (List Fact) BlockFacts (List Fact) (List Fact) facts.declaration_step facts.form_step facts.simple_step facts.block_step facts.procedure_step facts.statement_step x) s) (subst NoFault (fold-roll-RawProc Judgement Judgement Judgement Judgement Judgement Judgement (judged.declaration_step named sites) (judged.form_step named sites) (judged.simple_step named sites) (judged.block_step named sites) (judged.procedure_step named sites) (judged.statement_step named sites) x) free))
-
-  abbrev StatementRight : RawStmt → Type 0
-  StatementRight x = (who : Option ℕ) → Stood named numbers u who (facts.statement_facts x) → NoFault (judged.statement_judged named sites x) → AllRight (bodies.statement_bodies x)
-
-  abbrev known : Known
-  known = record { Decl = DeclarationRight; Form = FormRight; Simple = SimpleRight; Block = BlockRight; Proc = ProcedureRight; Stmt = StatementRight }
-
-  abbrev StatementLayerRight : RawStmt-F RawDecl RawForm RawSimple RawBlock RawProc RawStmt → Type 0
-  StatementLayerRight x = (who : Option ℕ) → Stood named numbers u who (facts.statement_step (map-RawStmt RawDecl RawForm RawSimple RawBlock RawProc RawStmt (List Fact) (List Fact) (List Fact) BlockFacts (List Fact) (List Fact) facts.declaration_facts facts.form_facts facts.simple_facts facts.block_facts facts.procedure_facts facts.statement_facts x)) → NoFault (judged.statement_step named sites (map-RawStmt RawDecl RawForm RawSimple RawBlock RawProc RawStmt Judgement Judgement Judgement Judgement Judgement Judgement (judged.declaration_judged named sites) (judged.form_judged named sites) (judged.simple_judged named sites) (judged.block_judged named sites) (judged.procedure_judged named sites) (judged.statement_judged named sites) x)) → AllRight (bodies.statement_step (map-RawStmt RawDecl RawForm RawSimple RawBlock RawProc RawStmt (RawDecl × Bodies) (RawForm × Bodies) (RawSimple × Bodies) (RawBlock × Bodies) (RawProc × Bodies) (RawStmt × Bodies) (λ z. (z, bodies.declaration_bodies z)) (λ z. (z, bodies.form_bodies z)) (λ z. (z, bodies.simple_bodies z)) (λ z. (z, bodies.block_bodies z)) (λ z. (z, bodies.procedure_bodies z)) (λ z. (z, bodies.statement_bodies z)) x))
-
-  statement_rolls : (x : RawStmt-F RawDecl RawForm RawSimple RawBlock RawProc RawStmt) → StatementLayerRight x → StatementRight (roll-RawStmt x)
-  statement_rolls x h who s free =
-      subst AllRight (sym (para-roll-RawStmt Bodies Bodies Bodies Bodies Bodies Bodies bodies.declaration_step bodies.form_step bodies.simple_step bodies.block_step bodies.procedure_step bodies.statement_step x)) (h who (subst (λ (f : List Fact). Stood named numbers u who f) (fold-roll-RawStmt (List Fact) (List Fact) (List Fact) BlockFacts (List Fact) (List Fact) facts.declaration_step facts.form_step facts.simple_step facts.block_step facts.procedure_step facts.statement_step x) s) (subst NoFault (fold-roll-RawStmt Judgement Judgement Judgement Judgement Judgement Judgement (judged.declaration_step named sites) (judged.form_step named sites) (judged.simple_step named sites) (judged.block_step named sites) (judged.procedure_step named sites) (judged.statement_step named sites) x) free))
+  rolled : Rolled known layers
+  rolled = record {
+    decl = λ y h who s free. subst AllRight (sym ((walk_rolls bodies_walk).decl y)) (h who (subst (λ (f : List Fact). Stood named numbers u who f) (facts_decl y) s) (subst NoFault (judged_decl named sites y) free));
+    form = λ y h who s free. subst AllRight (sym ((walk_rolls bodies_walk).form y)) (h who (subst (λ (f : List Fact). Stood named numbers u who f) (facts_form y) s) (subst NoFault (judged_form named sites y) free));
+    simple = λ y h who s free. subst AllRight (sym ((walk_rolls bodies_walk).simple y)) (h who (subst (λ (f : List Fact). Stood named numbers u who f) (facts_simple y) s) (subst NoFault (judged_simple named sites y) free));
+    block = λ y h who outermost s free. subst AllRight (sym ((walk_rolls bodies_walk).block y)) (h who outermost (subst (λ (f : BlockFacts). Stood named numbers u who (f outermost)) (facts_block y) s) (subst NoFault (judged_block named sites y) free));
+    proc = λ y h who s free. subst AllRight (sym ((walk_rolls bodies_walk).proc y)) (h who (subst (λ (f : List Fact). Stood named numbers u who f) (facts_proc y) s) (subst NoFault (judged_proc named sites y) free));
+    stmt = λ y h who s free. subst AllRight (sym ((walk_rolls bodies_walk).stmt y)) (h who (subst (λ (f : List Fact). Stood named numbers u who f) (facts_stmt y) s) (subst NoFault (judged_stmt named sites y) free));
+  }
 
   all_declarations : (who : Option ℕ) (ts : List (WithDecl known)) → let zs : List RawDecl = map (λ y. y.0) ts in
       Stood named numbers u who (joined (map facts.declaration_facts zs)) → NoFault (all_judged (map (judged.declaration_judged named sites) zs)) → AllRight (bodies.joined (map (λ z. (z, bodies.declaration_bodies z)) zs))
@@ -135,13 +100,11 @@ module _ (named : Named) (sites : List (Row Site)) (numbers : Numbers) (u : Sour
   first_right c bs h k b (inl e) = subst BodyRight e h
   first_right c bs h k b (inr i) = k b i
 
-  declaration_rule : (y : DeclParts known) → DeclarationLayerRight (decl_layer known y)
-  declaration_rule (layer.Data d) who s free = none_right
-  declaration_rule (layer.Overlay at b d) who s free = none_right
-  declaration_rule (layer.Switch at n labels) who s free = none_right
+  declaration_rule : (y : DeclParts known) → layers.Decl (decl_layer known y)
   declaration_rule (layer.Proc p) who s free = p.1 who s free
+  declaration_rule _ who s free = none_right
 
-  form_rule : (y : FormParts known) → FormLayerRight (form_layer known y)
+  form_rule : (y : FormParts known) → layers.Form (form_layer known y)
   form_rule (layer.Simple x) who s free = x.1 who s free
   form_rule (layer.If at test labels first None) who s free =
       let test_side = halves_of named numbers u who (condition_uses test reading.Value) (each_declares kind.Label labels ++ (facts.simple_facts first.0 ++ facts_if None)) s in
@@ -169,17 +132,11 @@ module _ (named : Named) (sites : List (Row Site)) (numbers : Numbers) (u : Sour
       let calms = both_free (felems_judged named f elems) inside (statement_keeps named sites body.0) calm.1 in
       body.1 who sides.1 calms.1
 
-  simple_rule : (y : SimpleParts known) → SimpleLayerRight (simple_layer known y)
-  simple_rule layer.Empty who s free = none_right
-  simple_rule (layer.Assign r e) who s free = none_right
-  simple_rule (layer.AssignBits bits r e) who s free = none_right
-  simple_rule (layer.Goto at n) who s free = none_right
-  simple_rule (layer.GotoSwitch at n e) who s free = none_right
-  simple_rule (layer.Call n es) who s free = none_right
-  simple_rule (layer.Answer at e) who s free = none_right
+  simple_rule : (y : SimpleParts known) → layers.Simple (simple_layer known y)
   simple_rule (layer.Block b) who s free = b.1 who false s free
+  simple_rule _ who s free = none_right
 
-  block_rule : (y : BlockParts known) → BlockLayerRight (block_layer known y)
+  block_rule : (y : BlockParts known) → layers.Block (block_layer known y)
   block_rule y who outermost s free =
       let ds : List RawDecl = map (λ z. z.0) y.decls in
       let zs : List RawStmt = map (λ z. z.0) y.stmts in
@@ -188,7 +145,7 @@ module _ (named : Named) (sites : List (Row Site)) (numbers : Numbers) (u : Sour
       let calm = both_free (all_judged (map (judged.declaration_judged named sites) ds)) (all_judged (map (judged.statement_judged named sites) zs)) (all_keep (judged.statement_judged named sites) (statement_keeps named sites) zs) free in
       two_right (bodies.joined (map (λ z. (z, bodies.declaration_bodies z)) ds)) (bodies.joined (map (λ z. (z, bodies.statement_bodies z)) zs)) (all_declarations who y.decls sides.0 calm.0) (all_statements who y.stmts sides.1 calm.1)
 
-  procedure_rule : (y : ProcParts known) → ProcedureLayerRight (proc_layer known y)
+  procedure_rule : (y : ProcParts known) → layers.Proc (proc_layer known y)
   procedure_rule y who s free =
       let token : ℕ = y.name.at.token in
       let body : RawStmt = y.body.0 in
@@ -201,18 +158,11 @@ module _ (named : Named) (sites : List (Row Site)) (numbers : Numbers) (u : Sour
       let calm = (both_free (heading_judged named y.answer y.name y.params) (judged.statement_judged named sites body) (statement_keeps named sites body) free).1 in
       first_right (record { token = token; statement = body }) (bodies.statement_bodies body) (stood, calm) (y.body.1 there stood calm)
 
-  statement_rule : (y : StmtParts known) → StatementLayerRight (stmt_layer known y)
+  statement_rule : (y : StmtParts known) → layers.Stmt (stmt_layer known y)
   statement_rule y who s free = y.form.1 who (halves_of named numbers u who (each_declares kind.Label y.labels) (facts.form_facts y.form.0) s).1 free
 
   rules : Rules known
-  rules = record {
-    decl = λ y. declaration_rolls (decl_layer known y) (declaration_rule y);
-    form = λ y. form_rolls (form_layer known y) (form_rule y);
-    simple = λ y. simple_rolls (simple_layer known y) (simple_rule y);
-    block = λ y. block_rolls (block_layer known y) (block_rule y);
-    proc = λ y. procedure_rolls (proc_layer known y) (procedure_rule y);
-    stmt = λ y. statement_rolls (stmt_layer known y) (statement_rule y);
-  }
+  rules = rules_of rolled (record { decl = declaration_rule; form = form_rule; simple = simple_rule; block = block_rule; proc = procedure_rule; stmt = statement_rule })
 
-  pub bodies_are_right : (x : RawBlock) → BlockRight x
+  pub bodies_are_right : (x : RawBlock) → known.Block x
   bodies_are_right = each_block known rules

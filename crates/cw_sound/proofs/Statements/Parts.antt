@@ -105,10 +105,8 @@ module _ (named : Named) (numbers : Numbers) (u : SourceUnit) (who : Option ℕ)
     pub scale : (out-Ref (reference_of named numbers r)).f ≡ scale_of named r
 
   wanted : (x : Reading) (b : Option RawName) → IsTrue (is_placed x) → AsValue named x b
-  wanted reading.Value b h = tt
-  wanted reading.Target b h = tt
-  wanted reading.Whole b h = tt
   wanted reading.Argument b h = no h
+  wanted _ b h = tt
 
   pub place_fit : (r : RawRef) (x : Reading) → IsTrue (is_placed x) → IsTrue (is_regular_reference r) → FactsStand named numbers u (reference_uses r x) who → NoFault (reference_judged named r) → reference_levels r ≤ most_levels → PlaceFit r
   place_fit r x placed regular facts free few =

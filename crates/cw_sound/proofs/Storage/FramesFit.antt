@@ -48,10 +48,7 @@ right_true false b e = absurd cc
 
 is_frame : (h : Home) → is_frame_home h ≡ true → h ≡ home.Frame
 is_frame home.Frame e = refl
-is_frame home.Own e = absurd cc
-is_frame (home.Common d) e = absurd cc
-is_frame (home.Absolute a) e = absurd cc
-is_frame (home.Over b w) e = absurd cc
+is_frame _ e = absurd cc
 
 -- what has its home in a frame has no base
 frame_thing : (numbers : Numbers) (t : Thing) (pl ad : Option ℕ) (ob : Option Base) (fr : Option ℕ) → t.base ≡ ob → frame_of t.sort t.owner ≡ fr → home_listed numbers pl ad t ≡ home.Frame

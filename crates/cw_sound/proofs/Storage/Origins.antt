@@ -22,7 +22,7 @@ use Rattle.cw_sound.specs.Uses.Mentions.{In}
 use Rattle.cw_sound.proofs.Names.Lists.{Sub, sub_left, sub_right}
 use Rattle.cw_sound.proofs.Names.MentionsOf.{declared_before, specified_before, signatures_append}
 use Rattle.cw_sound.proofs.Names.DescriptorNames.{declared_append, declares_it}
-use Rattle.cw_sound.proofs.Names.ListedParts.{Listed, none, also, used, stored, unlisted, label, switch, procedure, special}
+use Rattle.cw_sound.proofs.Names.ListedParts.{Listed, also, stored, label, switch, procedure}
 
 -- the specification of a name
 abbrev pub specified : (token : ℕ) → Option RawType → List RawPs → Row Signature
@@ -59,19 +59,16 @@ module _ (cs : List Declaration) (sigs : List (Row Signature)) where
   from n k fs h = record { declaration = record { name = n; kind = k }; is_in = h (record { name = n; kind = k }) (declares_it n k fs); is_token = refl; is_kind = refl }
 
   pub all_say : {fs : List Fact} {rs : List (Row Listing)} {ds : List Desc} → Listed fs rs ds → Sub (all_declared (map said fs)) cs → Sub (text_signatures fs) sigs → AllSay rs ds
-  all_say none h g = tt
   all_say (also {fs} {gs} {rs} {qs} {ds} {es} a b) h g =
       let declared = subst (λ xs. Sub xs cs) (declared_append fs gs) h in
       let signed = subst (λ xs. Sub xs sigs) (signatures_append fs gs) g in
       both_say rs qs ds es (all_say a (sub_left (all_declared (map said fs)) (all_declared (map said gs)) cs declared) (sub_left (text_signatures fs) (text_signatures gs) sigs signed))
       (all_say b (sub_right (all_declared (map said fs)) (all_declared (map said gs)) cs declared) (sub_right (text_signatures fs) (text_signatures gs) sigs signed))
-  all_say (used x) h g = tt
   all_say (stored n k d e w) h g = (tt, tt)
-  all_say (unlisted n k e) h g = tt
   all_say (label n) h g = ((from n kind.Label [] h, refl), tt)
   all_say (switch n) h g = ((from n kind.Switch [] h, refl), tt)
   all_say (procedure l s) h g =
       let rest = specifies s.name.at.token s.answer s.params ∷ [] in
       let there = g (specified s.name.at.token s.answer s.params) (subst (In (specified s.name.at.token s.answer s.params)) (sym (declared_before s.name (kind.Proc s.answer) rest ∙ specified_before s.name.at.token s.answer s.params [])) (inl refl)) in
       ((s.answer, s.params, from s.name (kind.Proc s.answer) rest h, refl, there), tt)
-  all_say (special k s e) h g = tt
+  all_say _ h g = tt

@@ -20,11 +20,7 @@ use Rattle.cw_sound.proofs.Names.NoDefinitionFaults.{definition_keeps, definitio
 
 same_layer : (y : Fact-F Fact) → declared_by y ≡ (said_step (map-Fact Fact Said said y)).declared
 same_layer (layer.Declares d) = refl
-same_layer (layer.Uses u) = refl
-same_layer (layer.Specifies token s) = refl
-same_layer (layer.Loop at) = refl
-same_layer (layer.Text at n) = refl
-same_layer (layer.Block owner xs) = refl
+same_layer _ = refl
 
 same_fact : (f : Fact) → declared_by (out-Fact f) ≡ (said f).declared
 same_fact f = same_layer (out-Fact f) ∙ ap (λ (s : Said). s.declared) (sym (fold_out-Fact Said said_step f))
@@ -42,11 +38,7 @@ either (inr y) h k = k y
 module _ (sigs : List (Row Signature)) (cs : List Declaration) where
   layer_keeps : (y : Fact-F (Defined sigs)) → Keeps ((defined_step sigs y).own cs)
   layer_keeps (layer.Declares d) = definition_keeps sigs (declared_in cs d.name.name) d
-  layer_keeps (layer.Uses u) = keeps_fine
-  layer_keeps (layer.Specifies token s) = keeps_fine
-  layer_keeps (layer.Loop at) = keeps_fine
-  layer_keeps (layer.Text at n) = keeps_fine
-  layer_keeps (layer.Block owner xs) = keeps_fine
+  layer_keeps _ = keeps_fine
 
   abbrev opened : Fact → Fact-F (Defined sigs)
   opened f = map-Fact Fact (Defined sigs) (defined sigs) (out-Fact f)
@@ -65,11 +57,7 @@ module _ (sigs : List (Row Signature)) (cs : List Declaration) where
   layer_fine : (y : Fact-F Fact) (d : Declaration) → In d (declared_by y) → (defined_step sigs (map-Fact Fact (Defined sigs) (defined sigs) y)).own cs None ≡ None → Fine d
   layer_fine (layer.Declares c) d (inl e) f = subst Fine e f
   layer_fine (layer.Declares c) d (inr h) f = absurd h
-  layer_fine (layer.Uses u) d h f = absurd h
-  layer_fine (layer.Specifies token s) d h f = absurd h
-  layer_fine (layer.Loop at) d h f = absurd h
-  layer_fine (layer.Text at n) d h f = absurd h
-  layer_fine (layer.Block owner xs) d h f = absurd h
+  layer_fine _ d h f = absurd h
 
   own_fine : (fs : List Fact) (d : Declaration) → In d (all_declared fs) → each_own sigs cs (map (defined sigs) fs) None ≡ None → Fine d
   own_fine [] d h e = absurd h

@@ -10,26 +10,25 @@ use Rattle.cw_facts.specs.Facts.{block_facts}
 use Rattle.cw_scope.specs.declared.resolve.Named.{Named}
 use Rattle.cw_scope.specs.Outcome.{Resolves}
 use Rattle.cw_scope.specs.NameRules.{is_own_label, is_own_switch, fits}
-use Rattle.cw_number.specs.declared.numbered.Numbered.{Numbered}
 use Rattle.cw_number.specs.declared.numbered.Numbered.TheVariants as numbered
 use Rattle.cw_number.specs.Numbers.{none_counted, own_number}
 use Rattle.cw_make_expr.specs.Parts.{number_of}
-use Rattle.cw_make_items.specs.Lookup.{Numbers, goal_in}
+use Rattle.cw_make_items.specs.Lookup.{Numbers}
 use Rattle.cw_make.specs.Switches.{block_switches}
 use Rattle.cw_unit.specs.declared.unit.Unit.{Unit as SourceUnit}
 use Rattle.cw_unit.specs.declared.unit.Switch.{Switch}
-use Rattle.cw_unit.specs.Step.{label_of_goal, goals_of}
+use Rattle.cw_unit.specs.Step.{goals_of}
 use Rattle.cw_safety.specs.WellFormed.{sets, reaches, reaches_label, reaches_list, reaches_switch}
-use Rattle.cw_built.specs.Built.{alone, at_work}
+use Rattle.cw_built.specs.Built.{alone}
 use Rattle.cw_sound.specs.Uses.Mentions.{In, Mention, Here, here, declares, uses, stores, block_mentions}
-use Rattle.cw_sound.specs.Uses.Stands.{StandsAs, IsLabel, Stands, MentionStands, FactsStand}
+use Rattle.cw_sound.specs.Uses.Stands.{StandsAs, Stands, MentionStands, FactsStand}
 use Rattle.cw_sound.specs.Names.Placed.{Placed}
 use Rattle.cw_sound.specs.Names.Standing.{counted_from, CountsOwn}
 use Rattle.cw_sound.proofs.Names.Lists.{split}
 use Rattle.cw_sound.proofs.Names.Picking.{picked_at, Zip, zip_at}
 use Rattle.cw_sound.proofs.Names.Sorts.{of_kind, few_before, switches_before}
 use Rattle.cw_sound.proofs.Names.OwnDeclarations.{Made, label_at}
-use Rattle.cw_sound.proofs.Names.SwitchNumbers.{FormReached, MentionReached, AllMentionsReached, SwitchOf, switches_in, in_switches}
+use Rattle.cw_sound.proofs.Names.SwitchNumbers.{number_reached, FormReached, MentionReached, AllMentionsReached, SwitchOf, switches_in, in_switches}
 use Rattle.cw_sound.proofs.Names.TreeParts.{block_parts}
 use Rattle.cw_sound.proofs.Storage.SortsOf.{label_is, switch_is}
 
@@ -51,30 +50,11 @@ module _ (named : Named) (numbers : Numbers) (u : SourceUnit) (resolves : Resolv
 
   -- ---- switches
 
-  of_number : (who : Option ℕ) (o : Option Numbered) → IsLabel named numbers u who o → IsTrue (reaches (alone u) (at_work who) (label_of_goal (alone u) 0 (goal_in o)))
-  of_number who None h = absurd h
-  of_number who (Some (numbered.Label l)) h = h
-  of_number who (Some (numbered.CommonLabel d)) h = h
-  of_number who (Some (numbered.Item i)) h = absurd h
-  of_number who (Some (numbered.Switch s)) h = absurd h
-  of_number who (Some (numbered.CommonSwitch d)) h = absurd h
-  of_number who (Some (numbered.Proc p)) h = absurd h
-  of_number who (Some (numbered.CommonProc d)) h = absurd h
-  of_number who (Some (numbered.Control c)) h = absurd h
-  of_number who (Some numbered.ReadByte) h = absurd h
-  of_number who (Some numbered.WriteByte) h = absurd h
-
   use_reached : (who : Option ℕ) (x : Use) (g : Form) → x.form ≡ g → Stands named numbers u who x → FormReached named numbers u who x.name g
   use_reached who x form.Listed e s =
       let is = label_is s.named_kind (subst (λ f. IsTrue (fits f s.named_kind)) e s.fits_use) in
-      of_number who (number_of named numbers x.name) (subst (λ k. StandsAs named numbers u who k x.name) is s.stands_as)
-  use_reached who x (form.Reference r k) e s = tt
-  use_reached who x form.CallValue e s = tt
-  use_reached who x form.Call e s = tt
-  use_reached who x form.Goto e s = tt
-  use_reached who x form.GotoSwitch e s = tt
-  use_reached who x form.Base e s = tt
-  use_reached who x form.Answer e s = tt
+      number_reached named numbers u who (number_of named numbers x.name) (subst (λ k. StandsAs named numbers u who k x.name) is s.stands_as)
+  use_reached who x _ e s = tt
 
   mention_reached : (who : Option ℕ) (m : Mention) → MentionStands named numbers u who m → MentionReached named numbers u who m
   mention_reached who (declares d) s = tt

@@ -126,9 +126,7 @@ module _ (K : ℕ → Type 0) (numbers : Numbers) where
   parameter_own o (param.Location at t ns) = named_own o 1 None ns
   parameter_own o (param.Array t ns) = named_own o 1 None ns
   parameter_own o (param.Table t) = (inl refl, tt)
-  parameter_own o (param.Label at ns) = tt
-  parameter_own o (param.Switch at ns) = tt
-  parameter_own o (param.Proc answer at n params) = tt
+  parameter_own o _ = tt
 
   pub owns_parameters : (o : Option Owner) (ps : List RawParam) → Owns o (parameters_facts ps) (parameters_things o ps)
   owns_parameters o ps so = all_own ps
@@ -141,11 +139,7 @@ module _ (K : ℕ → Type 0) (numbers : Numbers) where
 
   layer_own : (o : Option Owner) (y : Fact-F Fact) → Each (Owned o) (fact_texts o y)
   layer_own o (layer.Text at n) = (inl refl, tt)
-  layer_own o (layer.Uses u) = tt
-  layer_own o (layer.Declares d) = tt
-  layer_own o (layer.Specifies token s) = tt
-  layer_own o (layer.Loop at) = tt
-  layer_own o (layer.Block owner xs) = tt
+  layer_own o _ = tt
 
   texts_own : (o : Option Owner) (fs : List Fact) → Each (Owned o) (texts o fs)
   texts_own o [] = tt

@@ -1,10 +1,9 @@
 -- The nodes of a unit's statements, with the procedures and switches that are declared in them, by what their parts count.
-use Rattle.std.proofs.Common.{◌≡◌, ℕ, suc, ◌+◌, ◌*◌, ◌≤◌, List, [], ◌∷◌, ◌++◌, length, map, Bool, true, false, ◌==◌, Option, Some, if◌then◌else◌, refl, ap, arith, length-append}
+use Rattle.std.proofs.Common.{◌≡◌, ℕ, suc, ◌+◌, ◌*◌, ◌≤◌, List, [], ◌∷◌, ◌++◌, length, map, Bool, true, false, ◌==◌, Option, if◌then◌else◌, refl, ap, arith, length-append, Some}
 use Rattle.cw_tree.specs.declared.leaf.RawName.{RawName}
 use Rattle.cw_tree.specs.declared.statement.RawParam.{RawParam}
 use Rattle.cw_tree.specs.declared.statement.RawParam.TheVariants as param
 use Rattle.cw_number.specs.declared.numbered.Numbered.{Numbered}
-use Rattle.cw_number.specs.declared.numbered.Numbered.TheVariants as numbered
 use Rattle.cw_make_expr.specs.Parts.{Numbers}
 use Rattle.cw_make_stmt.specs.Made.{goal_of, switch_of, labels_of, mark, marked, row, conditional, repetition, put, put_bits}
 use Rattle.cw_make.specs.Procedures as procs
@@ -25,6 +24,7 @@ use Rattle.cw_unit.specs.declared.unit.Target.{Target}
 use Rattle.cw_tokens.specs.LeastTokens.{separated, arguments, argument_tokens, condition_tokens, expression_tokens, reference_tokens, each_argument, each_element, jump_tokens, statement_step, statement_tokens, procedures_tokens, switches_tokens}
 use Rattle.cw_tokens.specs.TreeTokens.{total, parameters_of, param_tokens}
 use Rattle.cw_sound.proofs.Tokens.Parts.{Each, no_item, an_item}
+use Rattle.cw_number.specs.declared.numbered.Numbered.TheVariants as numbered
 
 pub record SizedStatement (s : Stmt) (ps : Procs) (ws : Switches) (n : ℕ) : Type 0 where
   pub fits : (q : Option ℕ) → statement_tokens s + (procedures_tokens ps + switches_tokens (ws q)) ≤ n
@@ -56,14 +56,10 @@ put_bits_sized line t b r e n m h k =
 
 goal_tokens : (x : Option Numbered) → jump_tokens (goal_of x) ≡ 1
 goal_tokens (Some (numbered.Label l)) = refl
-goal_tokens (Some (numbered.CommonLabel d)) = refl
-goal_tokens (Some (numbered.Control c)) = refl
 goal_tokens _ = refl
 
 switch_tokens : (x : Option Numbered) (e : Expr) → jump_tokens (switch_of x e) ≡ 3 + expression_tokens e
 switch_tokens (Some (numbered.Switch s)) e = refl
-switch_tokens (Some (numbered.CommonSwitch d)) e = refl
-switch_tokens (Some (numbered.Control c)) e = refl
 switch_tokens _ e = refl
 
 pub jump_sized : (line : ℕ) (x : Option Numbered) → SizedStatement (roll-Stmt (statement.Go line (goal_of x))) [] (λ q. []) 2

@@ -321,54 +321,37 @@ module _ (C : Type 0) (s : Steps C) (R : ℕ → C → List ℕ → Type 0) (D B
   proc_layer {n = n} {p = p} x {a = a} h = subst (λ (c : D). S n p c a) (sym (ap (decl_of D B t) (sym (decl_tree.rolls-Proc x)) ∙ fold-roll-RawDecl D D D B D D t.declaration t.form t.simple t.block t.procedure t.statement (shape.Proc x))) h
 
   module _ (e : Closed C s R) (f : StatementsClosed C s R D B t S K) where
+    -- the operands of a chain hold where its first one and those behind do
+    chained : {X O : Type 0} (of : X → C) {n : ℕ} {x : X} {rest : List (O × X)} {a b : List ℕ} → R n (of x) a → Many (O × X) (PairOf O X (λ y b. Unit {0}) (λ y b. R n (of y) b)) rest b → Many C (R n) (map of (extended (x ∷ [], []) rest).0) (a ++ b)
+    chained of {n = n} h k = many_map of (R n) (gathered (λ y b. R n (of y) b) (λ y c d w q. e.wider w q) h k)
+
     masks : {n : ℕ} (x : RawPrim) {rest : List (Position × RawPrim)} {a b : List ℕ} → R n (prim_of C s x) a → Many (Position × RawPrim) (PairOf Position RawPrim (λ y b. Unit {0}) (λ y b. R n (prim_of C s y) b)) rest b → R n (mask_of C s (mask_tree (extended (x ∷ [], []) rest))) (a ++ b)
     masks {n = n} x {rest = rest} {a = a} {b = b} h k =
-        let xs = (extended (x ∷ [], []) rest).0 in
-        let os = (extended (x ∷ [], []) rest).1 in
-        let m = many_map (prim_of C s) (R n) (gathered (λ y b. R n (prim_of C s y) b) (λ y c d w q. e.wider w q) h k) in
-        subst (λ (c : C). R n c (a ++ b)) (sym (fold-roll-RawMask C C C C C C C C C C C C s.expression s.primary s.reference s.conjunction s.comparison s.condition s.differ s.mask s.prim s.sum s.term s.union (record { operands = xs; operators = os }))) (e.mask os m)
+        subst (λ (c : C). R n c (a ++ b)) (sym (fold-roll-RawMask C C C C C C C C C C C C s.expression s.primary s.reference s.conjunction s.comparison s.condition s.differ s.mask s.prim s.sum s.term s.union (record { operands = (extended (x ∷ [], []) rest).0; operators = (extended (x ∷ [], []) rest).1 }))) (e.mask (extended (x ∷ [], []) rest).1 (chained (prim_of C s) h k))
 
     unions : {n : ℕ} (x : RawMask) {rest : List (Position × RawMask)} {a b : List ℕ} → R n (mask_of C s x) a → Many (Position × RawMask) (PairOf Position RawMask (λ y b. Unit {0}) (λ y b. R n (mask_of C s y) b)) rest b → R n (union_of C s (union_tree (extended (x ∷ [], []) rest))) (a ++ b)
     unions {n = n} x {rest = rest} {a = a} {b = b} h k =
-        let xs = (extended (x ∷ [], []) rest).0 in
-        let os = (extended (x ∷ [], []) rest).1 in
-        let m = many_map (mask_of C s) (R n) (gathered (λ y b. R n (mask_of C s y) b) (λ y c d w q. e.wider w q) h k) in
-        subst (λ (c : C). R n c (a ++ b)) (sym (fold-roll-RawUnion C C C C C C C C C C C C s.expression s.primary s.reference s.conjunction s.comparison s.condition s.differ s.mask s.prim s.sum s.term s.union (record { operands = xs; operators = os }))) (e.union os m)
+        subst (λ (c : C). R n c (a ++ b)) (sym (fold-roll-RawUnion C C C C C C C C C C C C s.expression s.primary s.reference s.conjunction s.comparison s.condition s.differ s.mask s.prim s.sum s.term s.union (record { operands = (extended (x ∷ [], []) rest).0; operators = (extended (x ∷ [], []) rest).1 }))) (e.union (extended (x ∷ [], []) rest).1 (chained (mask_of C s) h k))
 
     differs : {n : ℕ} (x : RawUnion) {rest : List (Position × RawUnion)} {a b : List ℕ} → R n (union_of C s x) a → Many (Position × RawUnion) (PairOf Position RawUnion (λ y b. Unit {0}) (λ y b. R n (union_of C s y) b)) rest b → R n (differ_of C s (differ_tree (extended (x ∷ [], []) rest))) (a ++ b)
     differs {n = n} x {rest = rest} {a = a} {b = b} h k =
-        let xs = (extended (x ∷ [], []) rest).0 in
-        let os = (extended (x ∷ [], []) rest).1 in
-        let m = many_map (union_of C s) (R n) (gathered (λ y b. R n (union_of C s y) b) (λ y c d w q. e.wider w q) h k) in
-        subst (λ (c : C). R n c (a ++ b)) (sym (fold-roll-RawDiffer C C C C C C C C C C C C s.expression s.primary s.reference s.conjunction s.comparison s.condition s.differ s.mask s.prim s.sum s.term s.union (record { operands = xs; operators = os }))) (e.differ os m)
+        subst (λ (c : C). R n c (a ++ b)) (sym (fold-roll-RawDiffer C C C C C C C C C C C C s.expression s.primary s.reference s.conjunction s.comparison s.condition s.differ s.mask s.prim s.sum s.term s.union (record { operands = (extended (x ∷ [], []) rest).0; operators = (extended (x ∷ [], []) rest).1 }))) (e.differ (extended (x ∷ [], []) rest).1 (chained (union_of C s) h k))
 
     terms : {n : ℕ} (x : RawDiffer) {rest : List (RawFactorSign × RawDiffer)} {a b : List ℕ} → R n (differ_of C s x) a → Many (RawFactorSign × RawDiffer) (PairOf RawFactorSign RawDiffer (λ y b. Unit {0}) (λ y b. R n (differ_of C s y) b)) rest b → R n (term_of C s (term_tree (extended (x ∷ [], []) rest))) (a ++ b)
     terms {n = n} x {rest = rest} {a = a} {b = b} h k =
-        let xs = (extended (x ∷ [], []) rest).0 in
-        let os = (extended (x ∷ [], []) rest).1 in
-        let m = many_map (differ_of C s) (R n) (gathered (λ y b. R n (differ_of C s y) b) (λ y c d w q. e.wider w q) h k) in
-        subst (λ (c : C). R n c (a ++ b)) (sym (fold-roll-RawTerm C C C C C C C C C C C C s.expression s.primary s.reference s.conjunction s.comparison s.condition s.differ s.mask s.prim s.sum s.term s.union (record { operands = xs; operators = os }))) (e.term os (same_lengths (differ_of C s) xs os (evenly (x ∷ []) [] rest refl)) m)
+        subst (λ (c : C). R n c (a ++ b)) (sym (fold-roll-RawTerm C C C C C C C C C C C C s.expression s.primary s.reference s.conjunction s.comparison s.condition s.differ s.mask s.prim s.sum s.term s.union (record { operands = (extended (x ∷ [], []) rest).0; operators = (extended (x ∷ [], []) rest).1 }))) (e.term (extended (x ∷ [], []) rest).1 (same_lengths (differ_of C s) (extended (x ∷ [], []) rest).0 (extended (x ∷ [], []) rest).1 (evenly (x ∷ []) [] rest refl)) (chained (differ_of C s) h k))
 
     cands : {n : ℕ} (x : RawCmp) {rest : List (Position × RawCmp)} {a b : List ℕ} → R n (cmp_of C s x) a → Many (Position × RawCmp) (PairOf Position RawCmp (λ y b. Unit {0}) (λ y b. R n (cmp_of C s y) b)) rest b → R n (cand_of C s (cand_tree (extended (x ∷ [], []) rest))) (a ++ b)
     cands {n = n} x {rest = rest} {a = a} {b = b} h k =
-        let xs = (extended (x ∷ [], []) rest).0 in
-        let os = (extended (x ∷ [], []) rest).1 in
-        let m = many_map (cmp_of C s) (R n) (gathered (λ y b. R n (cmp_of C s y) b) (λ y c d w q. e.wider w q) h k) in
-        subst (λ (c : C). R n c (a ++ b)) (sym (fold-roll-RawCand C C C C C C C C C C C C s.expression s.primary s.reference s.conjunction s.comparison s.condition s.differ s.mask s.prim s.sum s.term s.union (record { operands = xs; operators = os }))) (e.conjunction os m)
-
-    conds : {n : ℕ} (x : RawCand) {rest : List (Position × RawCand)} {a b : List ℕ} → R n (cand_of C s x) a → Many (Position × RawCand) (PairOf Position RawCand (λ y b. Unit {0}) (λ y b. R n (cand_of C s y) b)) rest b → R n (cond_of C s (cond_tree (extended (x ∷ [], []) rest))) (a ++ b)
-    conds {n = n} x {rest = rest} {a = a} {b = b} h k =
-        let xs = (extended (x ∷ [], []) rest).0 in
-        let os = (extended (x ∷ [], []) rest).1 in
-        let m = many_map (cand_of C s) (R n) (gathered (λ y b. R n (cand_of C s y) b) (λ y c d w q. e.wider w q) h k) in
-        subst (λ (c : C). R n c (a ++ b)) (sym (fold-roll-RawCond C C C C C C C C C C C C s.expression s.primary s.reference s.conjunction s.comparison s.condition s.differ s.mask s.prim s.sum s.term s.union (record { operands = xs; operators = os }))) (e.condition os m)
+        subst (λ (c : C). R n c (a ++ b)) (sym (fold-roll-RawCand C C C C C C C C C C C C s.expression s.primary s.reference s.conjunction s.comparison s.condition s.differ s.mask s.prim s.sum s.term s.union (record { operands = (extended (x ∷ [], []) rest).0; operators = (extended (x ∷ [], []) rest).1 }))) (e.conjunction (extended (x ∷ [], []) rest).1 (chained (cmp_of C s) h k))
 
     sums : {n : ℕ} (sign : Option RawSign) (x : RawTerm) {rest : List (RawSign × RawTerm)} {a b : List ℕ} → R n (term_of C s x) a → Many (RawSign × RawTerm) (PairOf RawSign RawTerm (λ y b. Unit {0}) (λ y b. R n (term_of C s y) b)) rest b → R n (sum_of C s (sum_tree (more_terms (sign, (x ∷ [], [])) rest))) (a ++ b)
     sums {n = n} sign x {rest = rest} {a = a} {b = b} h k =
-        let xs = (extended (x ∷ [], []) rest).0 in
-        let os = (extended (x ∷ [], []) rest).1 in
-        let m = many_map (term_of C s) (R n) (gathered (λ y b. R n (term_of C s y) b) (λ y c d w q. e.wider w q) h k) in
-        subst (λ (c : C). R n c (a ++ b)) (sym (fold-roll-RawSum C C C C C C C C C C C C s.expression s.primary s.reference s.conjunction s.comparison s.condition s.differ s.mask s.prim s.sum s.term s.union (record { sign = sign; operands = xs; operators = os }))) (e.sum sign os (same_lengths (term_of C s) xs os (evenly (x ∷ []) [] rest refl)) m)
+        subst (λ (c : C). R n c (a ++ b)) (sym (fold-roll-RawSum C C C C C C C C C C C C s.expression s.primary s.reference s.conjunction s.comparison s.condition s.differ s.mask s.prim s.sum s.term s.union (record { sign = sign; operands = (extended (x ∷ [], []) rest).0; operators = (extended (x ∷ [], []) rest).1 }))) (e.sum sign (extended (x ∷ [], []) rest).1 (same_lengths (term_of C s) (extended (x ∷ [], []) rest).0 (extended (x ∷ [], []) rest).1 (evenly (x ∷ []) [] rest refl)) (chained (term_of C s) h k))
+
+    conds : {n : ℕ} (x : RawCand) {rest : List (Position × RawCand)} {a b : List ℕ} → R n (cand_of C s x) a → Many (Position × RawCand) (PairOf Position RawCand (λ y b. Unit {0}) (λ y b. R n (cand_of C s y) b)) rest b → R n (cond_of C s (cond_tree (extended (x ∷ [], []) rest))) (a ++ b)
+    conds {n = n} x {rest = rest} {a = a} {b = b} h k =
+        subst (λ (c : C). R n c (a ++ b)) (sym (fold-roll-RawCond C C C C C C C C C C C C s.expression s.primary s.reference s.conjunction s.comparison s.condition s.differ s.mask s.prim s.sum s.term s.union (record { operands = (extended (x ∷ [], []) rest).0; operators = (extended (x ∷ [], []) rest).1 }))) (e.condition (extended (x ∷ [], []) rest).1 (chained (cand_of C s) h k))
 
     prims : {n : ℕ} (bits : List RawBits) (x : RawPrimary) {a : List ℕ} → R n (primary_of C s x) a → R n (prim_of C s (roll-RawPrim (record { bits = bits; primary = x }))) a
     prims {n = n} bits x {a = a} h = subst (λ (c : C). R n c a) (sym (fold-roll-RawPrim C C C C C C C C C C C C s.expression s.primary s.reference s.conjunction s.comparison s.condition s.differ s.mask s.prim s.sum s.term s.union (record { bits = bits; primary = x }))) (e.prim bits h)

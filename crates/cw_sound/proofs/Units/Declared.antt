@@ -73,11 +73,8 @@ module _ (numbers : Numbers) where
 
   have_stored : (y : Fact-F ((f : Fact) × FactHas f)) → let x : Fact-F Fact = map-Fact ((f : Fact) × FactHas f) Fact (λ e. e.0) y in HasStored (mentions_step numbers (map-Fact Fact Mentions (fact_mentions numbers) x)) (stored_step numbers (map-Fact Fact AllStored (fact_stored numbers) x))
   have_stored (layer.Declares d) who = append-nil (declared_stored d.kind d.name.at.token who)
-  have_stored (layer.Uses x) who = refl
-  have_stored (layer.Specifies token s) who = refl
-  have_stored (layer.Loop at) who = refl
-  have_stored (layer.Text at n) who = refl
   have_stored (layer.Block owner es) who = all_have es (proc_within numbers owner who)
+  have_stored _ who = refl
 
   fact_has : (f : Fact) → FactHas f
   fact_has = ind-Fact FactHas (λ x y is.
@@ -96,41 +93,22 @@ one_word : (k : Kind) (token : ℕ) (who : Option ℕ) → IsTrue (is_item k) �
 one_word (kind.Single t) token who h = inl refl
 one_word (kind.Array t b) token who h = inl refl
 one_word (kind.Table s) token who h = inl refl
-one_word (kind.Element t e) token who h = absurd (cc)
 one_word (kind.Value t) token who h = inl refl
 one_word (kind.Location t) token who h = inl refl
 one_word (kind.ArrayParam t) token who h = inl refl
 one_word (kind.TableParam s) token who h = inl refl
-one_word kind.LabelParam token who h = absurd (cc)
-one_word kind.SwitchParam token who h = absurd (cc)
-one_word (kind.ProcParam t) token who h = absurd (cc)
-one_word kind.Label token who h = absurd (cc)
-one_word kind.Switch token who h = absurd (cc)
-one_word (kind.Proc t) token who h = absurd (cc)
-one_word kind.ReadByte token who h = absurd (cc)
-one_word kind.WriteByte token who h = absurd (cc)
-one_word kind.Bounds token who h = absurd (cc)
-one_word (kind.Answer t) token who h = absurd (cc)
+one_word _ token who h = absurd (cc)
 
 same_other : (k : Kind) → IsTrue (names.is_other k) → is_other k ≡ true
 same_other (kind.Single t) h = absurd (cc)
 same_other (kind.Array t b) h = absurd (cc)
 same_other (kind.Table s) h = absurd (cc)
-same_other (kind.Element t e) h = refl
 same_other (kind.Value t) h = absurd (cc)
 same_other (kind.Location t) h = absurd (cc)
 same_other (kind.ArrayParam t) h = absurd (cc)
 same_other (kind.TableParam s) h = absurd (cc)
-same_other kind.LabelParam h = refl
-same_other kind.SwitchParam h = refl
-same_other (kind.ProcParam t) h = refl
-same_other kind.Label h = refl
-same_other kind.Switch h = refl
-same_other (kind.Proc t) h = refl
-same_other kind.ReadByte h = refl
-same_other kind.WriteByte h = refl
-same_other kind.Bounds h = refl
 same_other (kind.Answer t) h = absurd (cc)
+same_other _ h = refl
 
 -- ---- the text
 

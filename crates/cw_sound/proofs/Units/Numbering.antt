@@ -18,24 +18,8 @@ use Rattle.cw_sound.proofs.Names.PartKinds.{procs_in}
 use Rattle.cw_sound.proofs.Names.Sorts.{of_kind, few_before, procedures_before}
 
 numbered_procedure : (k : NameKind) (c : Counts) → IsTrue (is_own_procedure k) → own_number c k ≡ Some (numbered.Proc c.procs)
-numbered_procedure (kind.Single t) c h = absurd (cc)
-numbered_procedure (kind.Array t b) c h = absurd (cc)
-numbered_procedure (kind.Table s) c h = absurd (cc)
-numbered_procedure (kind.Element t e) c h = absurd (cc)
-numbered_procedure (kind.Value t) c h = absurd (cc)
-numbered_procedure (kind.Location t) c h = absurd (cc)
-numbered_procedure (kind.ArrayParam t) c h = absurd (cc)
-numbered_procedure (kind.TableParam s) c h = absurd (cc)
-numbered_procedure kind.LabelParam c h = absurd (cc)
-numbered_procedure kind.SwitchParam c h = absurd (cc)
-numbered_procedure (kind.ProcParam t) c h = absurd (cc)
-numbered_procedure kind.Label c h = absurd (cc)
-numbered_procedure kind.Switch c h = absurd (cc)
 numbered_procedure (kind.Proc t) c h = refl
-numbered_procedure kind.ReadByte c h = absurd (cc)
-numbered_procedure kind.WriteByte c h = absurd (cc)
-numbered_procedure kind.Bounds c h = absurd (cc)
-numbered_procedure (kind.Answer t) c h = absurd (cc)
+numbered_procedure _ c h = absurd (cc)
 
 module _ (named : Named) (numbers : Numbers) (placed : Placed named.raw.now) (counts : CountsOwn named numbers) where
   abbrev all : List Here

@@ -38,7 +38,7 @@ use Rattle.cw_writable.specs.Front.Front.{is_titled}
 use Rattle.cw_writable.proofs.Front.Truth.{lt_true, both}
 use Rattle.cw_sound.proofs.Names.ListedNumbers.{declarations_append}
 use Rattle.cw_sound.proofs.Names.ListedRows.{declared_row}
-use Rattle.cw_sound.proofs.Names.Parts.{Switches, Part, procedure_with, empty, both as together, plain, items, label, switch, block, procedure, more}
+use Rattle.cw_sound.proofs.Names.Parts.{Switches, Part, procedure_with, both as together, items, block, procedure, more}
 use Rattle.cw_sound.proofs.Names.TreeParts.{block_parts}
 use Rattle.cw_sound.proofs.Items.Numbering.{made-of}
 use Rattle.cw_sound.specs.Written.Counts.{Each}
@@ -94,17 +94,13 @@ module _ (named : Named) (numbers : List (Row Numbered)) where
       (parts_of (parameters_facts x.params) fs (parts_of (answer_facts x.answer) (parameters_facts x.params ++ fs) c).1).1
 
   names_fit : {fs : List Fact} {ws : Switches} {qs : List Proc} {s : ℕ → Bool} → Part named numbers fs ws qs s → Identified fs → Each NameFits qs
-  names_fit empty h = tt
   names_fit (together {fs = fs} {gs = gs} {ps = ps} {qs = qs} a b) h =
       let k = parts_of fs gs h in
       each_both NameFits ps qs (names_fit a k.0) (names_fit b k.1)
-  names_fit (plain x) h = tt
-  names_fit (items d) h = tt
-  names_fit (label n) h = tt
-  names_fit (switch n labels) h = tt
   names_fit (block {fs = fs} a) h = names_fit a (in_block None fs h)
   names_fit (procedure p {fs = fs} a) h = (identifier_is_name (out-RawProc p).name.name (own_name p fs h), names_fit a (in_body p fs h))
   names_fit (more x a) h = names_fit a h
+  names_fit _ h = tt
 
 -- ---- items
 

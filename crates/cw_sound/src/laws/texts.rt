@@ -21,7 +21,7 @@ use crate::laws::trees::{items_derived, placed, within_levels};
 use crate::laws::units::{items_declared, unit_built, unit_formed};
 use crate::laws::written::{homes_fit, items_fit, items_titled, segment_named};
 use cw_compile::laws::one_outcome;
-use cw_counted::laws::tokens_counted;
+use cw_tokens::laws::tokens_counted;
 use cw_size::laws::short_code;
 use cw_spelled::laws::spelled;
 use cw_writable::laws::back::back_writable;

@@ -13,7 +13,8 @@ use Rattle.cw_unit.specs.declared.unit.Arg.TheOpen as layer
 use Rattle.cw_unit.specs.declared.unit.Arg.TheOpen.{Arg-F, Cond-F, Spot-F, Ref-F}
 use Rattle.cw_unit.specs.Scales.{answer_scale}
 use Rattle.cw_gen_expr.specs.Pieces.{Piece, plain, followed_by, sequence, with_end}
-use Rattle.cw_gen_expr.specs.ReferenceExpressions.{Scope, ConditionPiece, saved, two_values, control_place, item_order, item_span, table_span, table_orders, bounds_orders, load_orders, rescale_orders, logic_order, number_order, known_or, named_or, narrow, comparator_for, pick_mark, call_order, label_order, value_of, condition_piece, argument_piece, reference_of, expression_piece}
+use Rattle.cw_gen_expr.specs.ReferenceExpressions.{Scope, ConditionPiece, saved, two_values, control_place, item_order, item_span, row_order, table_span, table_orders, bounds_orders, load_orders, rescale_orders, logic_order, number_order, known_or, named_or, narrow, comparator_for, pick_mark, call_order, label_order, value_of, condition_piece, argument_piece, reference_of, expression_piece}
+use Rattle.cw_gen_expr.specs.KnownValues.{all_inside}
 use Rattle.cw_gen_expr.proofs.Layers.{value_layer, computed_layer, known_layer, value-made, argument_layer, argument-made, spot_layer, indexed_layer, word_item, word_layer, spot-made, reference-made, condition_layer, condition-made, total, expression_size, expression-size, expression_size_layer, argument_size, argument-size, argument_size_layer, spot-size, spot_size_layer, reference_size, reference-size, condition_size, condition-size, condition_size_layer}
 use Rattle.cw_gen_unit.specs.ReferenceStatements.{parted_piece}
 use Rattle.cw_traced.proofs.Lines.Starting.{begun_in, Begins, Silent, plainly, both, before, ended}
@@ -59,7 +60,11 @@ module _ (s : Scope) where
         (plainly (order.Save ∷ item_order s.layout i 0 ∷ order.Element l (item_span s.layout i) s.line ∷ []) (item-first s.layout i 0 (order.Element l (item_span s.layout i) s.line ∷ []) refl))
     indexed-silent (layer.Two i l1 u1 l2 u2 m e g) le =
         both (both (bounded e l1 u1 (let z : expression_size e < n = omega (arith, le) in z)) (both saved-silent (bounded g l2 u2 (let z : expression_size g < n = omega (arith, le) in z))))
-        (plainly (order.Save ∷ item_order s.layout i 0 ∷ order.ElementOfTwo l1 l2 m (item_span s.layout i) s.line ∷ []) (item-first s.layout i 0 (order.ElementOfTwo l1 l2 m (item_span s.layout i) s.line ∷ []) refl))
+        (row (all_inside s.unit.bounds (item_span s.layout i) l1 u1 l2 u2 m))
+      where
+        row : (b : Bool) → Silent (plain (order.Save ∷ item_order s.layout i 0 ∷ row_order b l1 l2 m (item_span s.layout i) s.line ∷ []))
+        row true = plainly (order.Save ∷ item_order s.layout i 0 ∷ order.ElementInside l1 l2 m (item_span s.layout i) ∷ []) (item-first s.layout i 0 (order.ElementInside l1 l2 m (item_span s.layout i) ∷ []) refl)
+        row false = plainly (order.Save ∷ item_order s.layout i 0 ∷ order.ElementOfTwo l1 l2 m s.line ∷ []) (item-first s.layout i 0 (order.ElementOfTwo l1 l2 m s.line ∷ []) refl)
     indexed-silent (layer.ParamArray i e) le =
         both (b.values e (let z : expression_size e < n = omega (arith, le) in z) 0)
         (plainly (order.Save ∷ item_order s.layout i 0 ∷ order.Load ∷ order.Element (pos 0) 0 s.line ∷ []) (item-first s.layout i 0 (order.Load ∷ order.Element (pos 0) 0 s.line ∷ []) refl))

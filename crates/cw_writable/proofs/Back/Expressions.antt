@@ -32,7 +32,8 @@ use Rattle.cw_gen_expr.specs.Pieces.{Piece, plain, followed_by, sequence, with_e
 use Rattle.cw_gen_expr.specs.NamedItems.{has_words}
 use Rattle.cw_gen_expr.specs.BuiltExpressions as built
 use Rattle.cw_gen_expr.specs.BuiltExpressions.{BuiltValue, most_levels, within, whole, all_built, built_value, built_reference, is_argument}
-use Rattle.cw_gen_expr.specs.ReferenceExpressions.{Scope, ConditionPiece, at_line, saved, two_values, control_place, item_order, item_span, table_span, table_orders, bounds_orders, load_orders, store_orders, rescale_orders, logic_order, number_order, known_or, named_or, comparator_for, pick_mark, narrow, call_order, label_order, value_of, condition_piece, argument_piece, reference_of, expression_piece}
+use Rattle.cw_gen_expr.specs.ReferenceExpressions.{Scope, ConditionPiece, at_line, saved, two_values, control_place, item_order, item_span, row_order, table_span, table_orders, bounds_orders, load_orders, store_orders, rescale_orders, logic_order, number_order, known_or, named_or, comparator_for, pick_mark, narrow, call_order, label_order, value_of, condition_piece, argument_piece, reference_of, expression_piece}
+use Rattle.cw_gen_expr.specs.KnownValues.{all_inside}
 use Rattle.cw_gen_expr.specs.ReferenceEntries.{scope_of}
 use Rattle.cw_gen_expr.proofs.Layers.{value_layer, computed_layer, known_layer, value-made, argument_layer, argument-made, spot_layer, indexed_layer, word_item, word_layer, item-named as item-has, spot-made, reference-made, condition_layer, condition-made, built_value_layer, value-built, built_argument_layer, argument-built, built_spot_layer, spot-built, reference-built, built_condition_layer, condition-built, total, expression_size, expression-size, expression_size_layer, argument_size, argument-size, argument_size_layer, spot-size, spot_size_layer, reference_size, reference-size, condition_size, condition-size, condition_size_layer}
 use Rattle.cw_gen_unit.specs.ReferenceStatements.{parted_piece}
@@ -162,7 +163,11 @@ module _ (u : SourceUnit) (stored : IsStorable u) (few : length u.items ≤ 6553
           let r = parts (is_expression (alone u) 0 o e) (is_expression (alone u) 0 o g) k in
           both_good
           (both_good (bounded_good e l1 u1 (let z : expression_size e < n = omega (arith, le) in z) q.0 r.0) (both_good saved_good (bounded_good g l2 u2 (let z : expression_size g < n = omega (arith, le) in z) q.1 r.1)))
-          (plainly (order.Save ∷ item_order (layout_of u) i 0 ∷ order.ElementOfTwo l1 l2 m (item_span (layout_of u) i) line ∷ []) (item-first i 1 0 (order.ElementOfTwo l1 l2 m (item_span (layout_of u) i) line ∷ []) p.0 refl))
+          (row (all_inside u.bounds (item_span (layout_of u) i) l1 u1 l2 u2 m))
+        where
+          row : (b : Bool) → Fine (plain (order.Save ∷ item_order (layout_of u) i 0 ∷ row_order b l1 l2 m (item_span (layout_of u) i) line ∷ []))
+          row true = plainly (order.Save ∷ item_order (layout_of u) i 0 ∷ order.ElementInside l1 l2 m (item_span (layout_of u) i) ∷ []) (item-first i 1 0 (order.ElementInside l1 l2 m (item_span (layout_of u) i) ∷ []) (parts (Words i 1) (whole (built_value u Words e) 0 && whole (built_value u Words g) 0) h).0 refl)
+          row false = plainly (order.Save ∷ item_order (layout_of u) i 0 ∷ order.ElementOfTwo l1 l2 m line ∷ []) (item-first i 1 0 (order.ElementOfTwo l1 l2 m line ∷ []) (parts (Words i 1) (whole (built_value u Words e) 0 && whole (built_value u Words g) 0) h).0 refl)
       indexed_good (layer.ParamArray i e) le h k =
           let p = parts (Words i 1) (whole (built_value u Words e) 0) h in
           both_good (at-scale e (let z : expression_size e < n = omega (arith, le) in z) 0 p.1 k 0)

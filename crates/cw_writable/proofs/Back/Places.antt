@@ -36,7 +36,8 @@ use Rattle.cw_tmpl.specs.Named.{is_named_label, is_named_switch}
 use Rattle.cw_tmpl.specs.Blocks.{address_orders, element_orders, operand_orders, order_of, count_order, block_at, orders_left, bounds_orders, form_order, column_orders, orders_in_row, orders_to_row, row_order}
 use Rattle.cw_tmpl.proofs.Shapes.{IsBlock, shape}
 use Rattle.cw_tmpl.specs.Mnemonics.{ax, at_si, load}
-use Rattle.cw_tmpl.specs.Templates.{is_short, saved, block_size, entry_pieces}
+use Rattle.cw_tmpl.specs.Templates.{block_size, entry_pieces}
+use Rattle.cw_tmpl.specs.ShortForms.{is_short, saved}
 use Rattle.cw_tmpl.specs.Sizes.{listed_size}
 use Rattle.cw_tmpl.specs.ReferenceCode.{templates, landings, switches, entry_size, reach_of, order_places, switch_places, switch_sizes, landings_place, switches_place, names_of, mark_starts, label_starts, statement_at, statements_from, orders_code, landing_places, landing_sizes, routine_sizes}
 use Rattle.cw_tmpl.proofs.Growing.{blanks-append}
@@ -68,7 +69,7 @@ ends_block order.Store = true
 ends_block (order.LoadPart t b is_signed) = true
 ends_block (order.StorePart t b) = true
 ends_block (order.Element lower span line) = true
-ends_block (order.ElementOfTwo lower second width span line) = true
+ends_block (order.ElementInside lower second width span) = true
 ends_block (order.Entry width word span line) = true
 ends_block (order.Add line) = true
 ends_block (order.Sub line) = true

@@ -42,7 +42,8 @@ use Rattle.cw_tmpl.specs.declared.blocks.Block.{Block}
 use Rattle.cw_tmpl.specs.declared.blocks.Block.TheVariants as block
 use Rattle.cw_tmpl.specs.Blocks.{address_orders, bounds_orders, column_orders, orders_in_row, row_order, form_within, entries_within, element_orders, operand_orders, zero_word, block_at, orders_left}
 use Rattle.cw_tmpl.proofs.Shapes.{IsBlock, IsNear, TestNear, OperandIs, shape}
-use Rattle.cw_tmpl.specs.Templates.{ended_back, times_before, rescale, rescale_before, product, product_before, quotient, quotient_before, is_checked, word_compared, is_short, template, template_by, branch_by, pieces_size, mark_words, goal_words, landing_pieces, switch_pieces, times_if, times, rescale_if, product_start, product_down, less_bound, plus_word, times_width, based, in_row, element_of_two, block_pieces, block_size, entry_pieces, checked, checked_by, address_pieces, load_place, store_place, with_operand, product_with, operated, shifted_up, shifted_down, shifted_down_signed, lowest_if, part_taken, operate_place, change_place, index_added, index_loaded, from_lower, indexes_between, top_from_lower, top_below, times_entry, formed, bounded_address, element_tested, element_address, call_stop, argument_load_size, column_loaded, column_below, row_summed, column_tested, row_address}
+use Rattle.cw_tmpl.specs.Templates.{ended_back, times_before, rescale, rescale_before, product, product_before, quotient, quotient_before, is_checked, word_compared, template, template_by, branch_by, pieces_size, mark_words, goal_words, landing_pieces, switch_pieces, times_if, times, rescale_if, product_start, product_down, less_bound, plus_word, times_width, based, in_row, element_of_two, element_inside, block_pieces, block_size, entry_pieces, checked, checked_by, address_pieces, load_place, store_place, with_operand, product_with, operated, shifted_up, shifted_down, shifted_down_signed, lowest_if, part_taken, operate_place, change_place, index_added, index_loaded, from_lower, indexes_between, top_from_lower, top_below, times_entry, formed, bounded_address, element_tested, element_address, call_stop, argument_load_size, column_loaded, column_below, row_summed, column_tested, row_address}
+use Rattle.cw_tmpl.specs.ShortForms.{is_short}
 use Rattle.cw_tmpl.specs.ReferenceCode.{templates, landings, switches, entry_size, landings_place, switches_place, names_of, pieces_of, landing_where, switch_where}
 use Rattle.cw_tmpl.proofs.Sizes.{pieces_by}
 use Rattle.cw_tmpl.specs.Blanks.{FillsBlank, Rise}
@@ -157,6 +158,25 @@ module _ (n : ℕ) (fs : List Family) where
   of-two-sound line lower (pos (suc k)) width = row-sound line lower width
   of-two-sound line lower (negsuc k) width = row-sound line lower width
 
+  top-lower-sound : (lower : ℤ) → Sound (top_from_lower lower)
+  top-lower-sound (pos zero) = refl
+  top-lower-sound (pos (suc n)) = refl
+  top-lower-sound (negsuc n) = refl
+
+  times-entry-sound : (one : Bool) (width : ℕ) → Sound (if one then [] else pieces.Whole (set_word bx width) ∷ pieces.Whole (multiply bx) ∷ [])
+  times-entry-sound true width = refl
+  times-entry-sound false width = refl
+
+  row-inside-sound : (lower : ℤ) (width : ℕ) → Sound (top_from_lower lower ++ (times_entry width ++ pieces.Whole (add ax cx) ∷ pieces.Whole (add ax si) ∷ []))
+  row-inside-sound lower width =
+      let last : List Coded = pieces.Whole (add ax cx) ∷ pieces.Whole (add ax si) ∷ [] in
+      sound-both (top_from_lower lower) (times_entry width ++ last) (top-lower-sound lower) (sound-both (times_entry width) last (times-entry-sound (width == 1) width) refl)
+
+  inside-sound : (lower second : ℤ) (width : ℕ) → Sound (element_inside lower second width)
+  inside-sound lower (pos zero) width = row-inside-sound lower width
+  inside-sound lower (pos (suc k)) width = row-inside-sound lower width
+  inside-sound lower (negsuc k) width = row-inside-sound lower width
+
   -- shifts and parts name nothing
   up-sound : (k : ℕ) → Sound (shifted_up k)
   up-sound zero = refl
@@ -197,7 +217,8 @@ module _ (n : ℕ) (fs : List Family) where
   template-sound names place (order.InBounds (pos (suc k)) upper line) h = refl
   template-sound names place (order.InBounds (negsuc k) upper line) h = refl
   template-sound names place (order.Element lower span line) h = sound-both (less_bound line lower) (based line) (bound-sound line lower) refl
-  template-sound names place (order.ElementOfTwo lower second width span line) h = of-two-sound line lower second width
+  template-sound names place (order.ElementOfTwo lower second width line) h = of-two-sound line lower second width
+  template-sound names place (order.ElementInside lower second width span) h = inside-sound lower second width
   template-sound names place (order.Entry width word span line) h =
       let last : List Coded = plus_word line word ++ based line in
       sound-both (times_width line width) last (width-sound line width (width == 1)) (sound-both (plus_word line word) (based line) (word-sound line word) refl)
@@ -344,15 +365,6 @@ module _ (n : ℕ) (fs : List Family) where
   element-sound e h = tested-sound e e.test h.0 h.1
 
   -- the address that is formed of a compared index: its first word has a place, and so has the word of an entry
-  top-lower-sound : (lower : ℤ) → Sound (top_from_lower lower)
-  top-lower-sound (pos zero) = refl
-  top-lower-sound (pos (suc n)) = refl
-  top-lower-sound (negsuc n) = refl
-
-  times-entry-sound : (one : Bool) (width : ℕ) → Sound (if one then [] else pieces.Whole (set_word bx width) ∷ pieces.Whole (multiply bx) ∷ [])
-  times-entry-sound true width = refl
-  times-entry-sound false width = refl
-
   word-named : (f first word : ℕ) → IsTrue (is_place fs f first) → IsTrue (nat_lt (first + word) 65536) → IsTrue (is_place fs f (first + word))
   word-named f first word h few =
       let p = parts (is_some (slice_get fs f)) (nat_lt f 65536 && nat_lt first 65536) h in

@@ -17,14 +17,15 @@ use Rattle.cw_unit.specs.declared.unit.Arg.TheOpen as layer
 use Rattle.cw_unit.specs.declared.unit.Arg.TheOpen.{Arg-F, Cond-F, Spot-F, Ref-F}
 use Rattle.cw_unit.specs.Scales.{answer_scale}
 use Rattle.cw_gen_expr.specs.Pieces.{Piece, plain, followed_by, sequence, with_end}
-use Rattle.cw_gen_expr.specs.ReferenceExpressions.{Scope, saved, two_values, Value, ConditionPiece, argument_words, control_place, item_order, item_span, table_span, table_orders, bounds_orders, load_orders, rescale_orders, logic_order, narrow, number_order, known_or, named_or, comparator_for, pick_mark, call_order, label_order, value_of, condition_piece, argument_piece, reference_of, expression_piece}
+use Rattle.cw_gen_expr.specs.ReferenceExpressions.{Scope, saved, two_values, Value, ConditionPiece, argument_words, control_place, item_order, item_span, row_order, table_span, table_orders, bounds_orders, load_orders, rescale_orders, logic_order, narrow, number_order, known_or, named_or, comparator_for, pick_mark, call_order, label_order, value_of, condition_piece, argument_piece, reference_of, expression_piece}
+use Rattle.cw_gen_expr.specs.KnownValues.{all_inside}
 use Rattle.cw_gen_expr.proofs.Layers.{value_layer, computed_layer, known_layer, value-made, argument_layer, argument-made, spot_layer, indexed_layer, word_item, word_layer, spot-made, reference-made, condition_layer, condition-made, total, expression_size, expression-size, expression_size_layer, argument_size, argument-size, argument_size_layer, spot-size, spot_size_layer, reference_size, reference-size, condition_size, condition-size, condition_size_layer}
 use Rattle.cw_gen_unit.specs.ReferenceStatements.{parted_piece}
 use Rattle.cw_built.specs.Coded.{is_part, has_code}
 use Rattle.cw_writable.specs.Coded.RangedExpressions.{RangedValue, all_ranged, is_field, are_bounds, in_range, can_divide, ranged_value, is_ranged_condition, is_ranged_argument, ranged_reference, is_ranged_spot, is_ranged_expression}
 use Rattle.cw_writable.specs.Coded.RangedUnits.{is_line}
 use Rattle.cw_writable.proofs.Coded.Fine.{both, parts, passed, Good, plainly, both_good, ended_good}
-use Rattle.cw_writable.proofs.Coded.Numbers.{lined, first, first_by, item-first, saved-item, saved-table, bounds-coded, load-coded, rescale-coded, logic-coded, product-coded, quotient-coded, index-fits, control-coded, call-coded, label-coded}
+use Rattle.cw_writable.proofs.Coded.Numbers.{lined, row-lined, first, first_by, item-first, saved-item, saved-table, bounds-coded, load-coded, rescale-coded, logic-coded, product-coded, quotient-coded, index-fits, control-coded, call-coded, label-coded}
 use Rattle.cw_writable.proofs.Coded.RangedLayers.{ranged_value_layer, value-ranged, ranged_argument_layer, argument-ranged, ranged_spot_layer, spot-ranged, reference-ranged, ranged_condition_layer, condition-ranged}
 
 pub parted_good : (c : ConditionPiece) (between : ℕ → List Order) (a b : Piece) → ((when : Bool) (mark : ℕ) → Good (c when mark)) → ((end : ℕ) → IsTrue (list_all has_code (between end))) → Good a → Good b → Good (parted_piece c between a b)
@@ -136,11 +137,12 @@ module _ (s : Scope) (few : argument_words s.parameters < 256) (line : IsTrue (i
         let t = parts ((ranged_value s.unit e).at 0) ((ranged_value s.unit g).at 0) p.1 in
         let l1-fits = (parts (fits_word l1) (fits_word u1) q.0).0 in
         let l2-fits = (parts (fits_word l2) (fits_word u2) r.0).0 in
-        let o = order.ElementOfTwo l1 l2 m (item_span s.layout i) s.line in
+        let inside = all_inside s.unit.bounds (item_span s.layout i) l1 u1 l2 u2 m in
+        let o = row_order inside l1 l2 m (item_span s.layout i) s.line in
         both_good
         (both_good (bounded_good e l1 u1 (let z : expression_size e < n = omega (arith, le) in z) q.0 t.0) (both_good saved_good (bounded_good g l2 u2 (let z : expression_size g < n = omega (arith, le) in z) r.0 t.1)))
         (plainly (order.Save ∷ item_order s.layout i 0 ∷ o ∷ [])
-        (saved-item s.layout i o (lined o (both (fits_word l1) (fits_word l2 && nat_le m 32768) l1-fits (both (fits_word l2) (nat_le m 32768) l2-fits r.1)) line)))
+        (saved-item s.layout i o (row-lined inside l1 l2 m (item_span s.layout i) s.line (both (fits_word l1) (fits_word l2 && nat_le m 32768) l1-fits (both (fits_word l2) (nat_le m 32768) l2-fits r.1)) line)))
     indexed_good (layer.ParamArray i e) le h =
         let o = order.Element (pos 0) 0 s.line in
         both_good (at-zero e (let z : expression_size e < n = omega (arith, le) in z) h)

@@ -21,7 +21,7 @@ use Rattle.cw_unit.specs.declared.unit.Target.{Target}
 use Rattle.cw_unit.specs.declared.unit.Target.TheVariants as target
 use Rattle.cw_unit.specs.declared.unit.Goal.{Goal}
 use Rattle.cw_unit.specs.declared.unit.Goal.TheVariants as goal
-use Rattle.cw_gen_expr.specs.ReferenceExpressions.{Scope, argument_words, parameter_words, control_place, control_place_from, placed_by, placed_in, item_order, table_orders, bounds_orders, load_orders, store_orders, rescale_orders, logic_order, narrow, call_order, label_order}
+use Rattle.cw_gen_expr.specs.ReferenceExpressions.{Scope, argument_words, parameter_words, control_place, control_place_from, placed_by, placed_in, item_order, row_order, table_orders, bounds_orders, load_orders, store_orders, rescale_orders, logic_order, narrow, call_order, label_order}
 use Rattle.cw_built.specs.Coded.{has_numbers, has_code}
 use Rattle.cw_writable.specs.Coded.RangedExpressions.{is_field, are_bounds, can_divide}
 use Rattle.cw_writable.specs.Coded.RangedUnits.{is_line}
@@ -38,6 +38,10 @@ lt_true a b h = grind (arith, nat_tests)
 -- an order whose numbers are in range and whose line is a word
 pub lined : (o : Order) → IsTrue (has_numbers o) → IsTrue (is_line (line_of o)) → IsTrue (has_code o)
 lined o h k = both (has_numbers o) (is_line (line_of o)) h k
+
+pub row-lined : (inside : Bool) (lower second : ℤ) (width span line : ℕ) → IsTrue (fits_word lower && (fits_word second && nat_le width 32768)) → IsTrue (is_line line) → IsTrue (has_code (row_order inside lower second width span line))
+row-lined true lower second width span line h k = lined (order.ElementInside lower second width span) h refl
+row-lined false lower second width span line h k = lined (order.ElementOfTwo lower second width line) h k
 
 pub first : (o : Order) (os : List Order) → IsTrue (has_code o) → IsTrue (list_all has_code os) → IsTrue (list_all has_code (o ∷ os))
 first o os h k = both (has_code o) (list_all has_code os) h k

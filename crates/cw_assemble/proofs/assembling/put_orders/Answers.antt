@@ -1,5 +1,5 @@
 use Rattle.std.proofs.Common.{rules, ◌≡◌, arith}
-use Rattle.cw_tmpl.specs.Templates.{is_short}
+use Rattle.cw_tmpl.specs.ShortForms.{is_short}
 use Rattle.cw_assemble.proofs.Composed.{next_block, item_first}
 use Rattle.cw_assemble.proofs.assembling.put_orders.Goals as goal
 

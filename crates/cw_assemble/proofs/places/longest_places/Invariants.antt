@@ -1,5 +1,5 @@
 use Rattle.std.proofs.Common.{◌≡◌, ◌++◌, drop}
-use Rattle.cw_tmpl.specs.Templates.{all_near}
+use Rattle.cw_tmpl.specs.ShortForms.{all_near}
 use Rattle.cw_tmpl.specs.ReferenceCode.{places_from, longest_places}
 use Rattle.cw_assemble.proofs.places.longest_places.Given as goal
 

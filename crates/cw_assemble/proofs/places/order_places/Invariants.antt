@@ -1,5 +1,5 @@
 use Rattle.std.proofs.Common.{◌≡◌, ◌++◌, drop}
-use Rattle.cw_tmpl.specs.Templates.{is_short}
+use Rattle.cw_tmpl.specs.ShortForms.{is_short}
 use Rattle.cw_tmpl.specs.ReferenceCode.{places_from, places_by}
 use Rattle.cw_assemble.proofs.places.order_places.Given as goal
 

@@ -1,29 +1,12 @@
-use Rattle.std.proofs.Common.{◌≡◌, ℕ, List, Ok, rules, sym, subst}
-use Rattle.cw_tree.specs.declared.segment.Raw.{Raw}
-use Rattle.cw_scope.specs.declared.resolve.Named.{Named}
-use Rattle.cw_scope.specs.Outcome.{Resolves}
-use Rattle.cw_compile.specs.Texts.{HasTree, HasNames}
+use Rattle.std.proofs.Common.{rules}
 use Rattle.cw_compile.proofs.making.checked.Goals as goal
 
-names_of : (text : List ℕ) (raw : Raw) (named : Named) → Resolves raw (Ok named) → HasTree text raw → HasNames text named
-names_of text raw named resolves h =
-    let same : raw ≡ named.raw.now = sym resolves.1 in
-    let R : Raw → Type 0 = λ r. Resolves r (Ok named) in
-    record { tree = subst (HasTree text) same h; resolves = subst R same resolves }
-
 pub returns-in-Ok-check_types-clause-named : goal.returns-in-Ok-check_types-clause-named
-returns-in-Ok-check_types-clause-named c = λ text h. record { names = names_of text c.args.raw.now c.in-Ok.named c.in-Ok.ensures h; judges = c.in-Ok-check_types.ensures }
+returns-in-Ok-check_types-clause-named c = λ text h. record { names = c.in-Ok.ensures.named text h; judges = c.in-Ok-check_types.ensures }
 
 pub returns-in-Ok : goal.returns-in-Ok
 returns-in-Ok c = record {
   named = λ text h. tt;
   tree = tt;
-  fault = λ text h. (c.in-Ok.named, names_of text c.args.raw.now c.in-Ok.named c.in-Ok.ensures h, c.in-Err-check_types.ensures, search rules);
-}
-
-pub returns : goal.returns
-returns c = record {
-  named = λ text h. tt;
-  tree = tt;
-  fault = λ text h. (c.args.raw.now, h, c.in-Err.ensures, search rules);
+  fault = λ text h. (c.in-Ok.stored, c.in-Ok.ensures.named text h, c.in-Err-check_types.ensures, search rules);
 }

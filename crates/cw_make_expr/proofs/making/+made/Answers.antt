@@ -8,8 +8,9 @@ use Rattle.cw_tree.specs.declared.expression.RawPrim.{out-RawPrim}
 use Rattle.cw_unit.specs.declared.unit.LogicOp.TheVariants as logic_op
 use Rattle.cw_make_expr.specs.Nodes.{both, either, logic, comparison, comparator, added, multiplied}
 use Rattle.cw_make_expr.specs.Made.{any_from, any_of, all_from, all_of, logic_from, logic_of, factors_from, term_of, terms_from, sum_of, prim_of, operand_for, bits_around, conjunction_made, comparison_made, sum_made, term_made, differ_made, union_made, mask_made, prim_made, primary_made}
-use Rattle.cw_make_expr.proofs.Arms.{choice_made, alone_made, number_made, text_made, location_made, forced_made, bracket_made, value_made, call_made, place_made, indexed_made, twice_indexed_made, bare_made}
-use Rattle.cw_make_expr.proofs.Loops.{behind_first, one_more, one_more_signed, no_more_signed, no_more_signs}
+use Rattle.cw_make_expr.proofs.Arms.{choice_made, alone_made, number_made, text_made, location_made, forced_made, bracket_made, value_made, call_made, place_made, named_made, indexed_made, twice_indexed_made, bare_made}
+use Rattle.cw_scale.proofs.Turns.{behind_first, one_more}
+use Rattle.cw_make_expr.proofs.Loops.{one_more_signed, no_more_signed, no_more_signs}
 use Rattle.cw_make_expr.proofs.Layers.{condition-layer, conjunction-layer, comparison-layer, sum-layer, term-layer, differ-layer, union-layer, mask-layer, prim-layer, logic_none, logic_end, any_none, any_end, all_none, all_end, term_none, term_whole, sum_none, sum_alone, sum_whole}
 use Rattle.cw_make_expr.proofs.making.+made.Goals as goal
 
@@ -179,8 +180,8 @@ make_comparison-returns t c =
 pub make_prim-returns : goal.make_prim-returns
 make_prim-returns t c =
     IfOk-weaker c.bits_around.result _ _ (λ x h. h
-    ∙ ap (bits_around c.as_slice-all.result.now) (c.in_ok-inner.ensures ∙ ap (λ b. (primary_made c.args.named.now c.args.numbers.now c.get.result.now).made b) c.operand_for-inside.ensures
-    ∙ ap (λ p. (primary_made c.args.named.now c.args.numbers.now p).made (operand_for (length c.as_slice-all.result.now == 0) c.args.operand)) c.get.ensures)
+    ∙ ap (bits_around c.as_slice-all.result.now) (c.in_ok-inner.ensures
+    ∙ ap (λ b. (primary_made c.args.named.now c.args.numbers.now (out-RawPrim c.args.e.now).primary).made b) c.operand_for-inside.ensures)
     ∙ ap (λ l. (prim_of l (primary_made c.args.named.now c.args.numbers.now (out-RawPrim c.args.e.now).primary)).made c.args.operand) c.as_slice-all.ensures
     ∙ ap (λ m. m.made c.args.operand) (sym (prim-layer c.args.named.now c.args.numbers.now c.args.e.now))) c.bits_around.ensures
 
@@ -219,7 +220,8 @@ make_primary-returns-in_ok-inner-in-Bracket t c =
 
 pub make_primary-returns-in-Ref : goal.make_primary-returns-in-Ref
 make_primary-returns-in-Ref t c =
-    IfOk-weaker c.make_value.result _ _ (λ z h. value_made c.args.named.now c.args.numbers.now c.args.e.now c.in-Ref.r c.get-in-Ref.result.now z c.args.operand c.in-Ref.is c.get-in-Ref.ensures h) c.make_value.ensures
+    IfOk-weaker c.make_value.result _ _ (λ z h. value_made c.args.named.now c.args.numbers.now c.args.e.now c.in-Ref.r z c.args.operand c.in-Ref.is h)
+    c.make_value.ensures
 
 pub make_primary-returns-in_ok-arguments-in-Call : goal.make_primary-returns-in_ok-arguments-in-Call
 make_primary-returns-in_ok-arguments-in-Call t c =
@@ -232,18 +234,22 @@ make_reference-returns-in-Name t c =
 
 pub make_reference-returns-in_ok-index-in-One : goal.make_reference-returns-in_ok-index-in-One
 make_reference-returns-in_ok-index-in-One t c =
-    indexed_made c.args.named.now c.args.numbers.now c.args.r.now c.in-One.name c.in-One.index c.get.result.now c.in_ok-index-in-One.index c.into_inner.result c.number_of.result c.item_in-item.result c.kind_of-kind.result c.indexed_spot-at.result c.reference_at.result
-    c.in-One.is c.get.ensures c.in_ok-index-in-One.ensures c.number_of.ensures c.item_in-item.ensures c.kind_of-kind.ensures c.into_inner.ensures c.indexed_spot-at.ensures c.reference_at.ensures
+    indexed_made c.args.named.now c.args.numbers.now c.args.r.now c.in-One.name c.in-One.index c.get.result.now c.in_ok-index-in-One.index c.into_inner.result c.indexed_place.result
+    c.in-One.is c.get.ensures c.in_ok-index-in-One.ensures c.into_inner.ensures c.indexed_place.ensures
 
 pub make_reference-returns-in_ok-second-in-Two : goal.make_reference-returns-in_ok-second-in-Two
 make_reference-returns-in_ok-second-in-Two t c =
-    twice_indexed_made c.args.named.now c.args.numbers.now c.args.r.now c.in-Two.name c.in-Two.first c.get-in-Two.result.now c.in-Two.second c.get-in-Two-2.result.now c.in_ok-first-in-Two.first c.in_ok-second-in-Two.second c.number_of-in-Two.result c.item_in-item-in-Two.result c.kind_of-kind-in-Two.result c.twice_indexed_spot-at.result c.reference_at-in-Two.result
-    c.in-Two.is c.get-in-Two.ensures c.get-in-Two-2.ensures c.in_ok-first-in-Two.ensures c.in_ok-second-in-Two.ensures c.number_of-in-Two.ensures c.item_in-item-in-Two.ensures c.kind_of-kind-in-Two.ensures c.twice_indexed_spot-at.ensures c.reference_at-in-Two.ensures
+    twice_indexed_made c.args.named.now c.args.numbers.now c.args.r.now c.in-Two.name c.in-Two.first c.get-in-Two.result.now c.in-Two.second c.get-in-Two-2.result.now c.in_ok-first-in-Two.first c.in_ok-second-in-Two.second c.twice_indexed_place.result
+    c.in-Two.is c.get-in-Two.ensures c.get-in-Two-2.ensures c.in_ok-first-in-Two.ensures c.in_ok-second-in-Two.ensures c.twice_indexed_place.ensures
 
 pub make_reference-returns-in_ok-address-in-Bare : goal.make_reference-returns-in_ok-address-in-Bare
 make_reference-returns-in_ok-address-in-Bare t c =
     bare_made c.args.named.now c.args.numbers.now c.args.r.now c.in-Bare.field-0 c.in-Bare.address c.get-in-Bare.result.now c.in_ok-address-in-Bare.address c.into_inner-in-Bare.result c.reference.result
     c.in-Bare.is c.get-in-Bare.ensures c.in_ok-address-in-Bare.ensures c.into_inner-in-Bare.ensures c.reference.ensures
+
+pub make_value-returns-in-Name : goal.make_value-returns-in-Name
+make_value-returns-in-Name t c =
+    IfOk-weaker c.value_of.result _ _ (λ z h. named_made c.args.named.now c.args.numbers.now c.args.r.now c.in-Name.name z c.in-Name.is h) c.value_of.ensures
 
 pub make_term-loop-other-preserved : goal.make_term-loop-other-preserved
 make_term-loop-other-preserved t c =

@@ -1,58 +1,32 @@
 -- The cycle of the readers of statements.
-use Rattle.std.proofs.Common.{arith, rules, ◌≡◌, ℕ, [], ◌∷◌, ◌∙◌, sym, true, false, refl, ap, subst, length, Some, None}
+use Rattle.std.proofs.Common.{rules, ◌≡◌, ◌∙◌, sym, true, subst}
 use Rattle.std.proofs.lemmas.Result.{err_from_is_err_and}
-use Rattle.cw_lex.specs.declared.token.TokenKind.TheVariants as kinds
 use Rattle.cw_lex.specs.declared.token.Symbol.TheVariants as symbols
 use Rattle.cw_tree.specs.declared.statement.RawDecl.{RawDecl}
 use Rattle.cw_tree.specs.declared.statement.RawSimple.{RawSimple}
 use Rattle.cw_grammar.specs.Tokens.{behind}
-use Rattle.cw_grammar.specs.Grammar.{a_list, a_stmt, a_decl, a_from, a_type, a_data, many, again, labelled}
-use Rattle.cw_grammar.specs.Rules.{symbol, ◌*>◌, ◌<*◌}
-use Rattle.cw_grammar.specs.Statements.{semicolons, decl, singles, arrays}
-use Rattle.cw_grammar.specs.Reading.{Read, Gives, read, reads}
+use Rattle.cw_grammar.specs.Grammar.{starts, first, a_stmt, a_decl, a_from, a_type, a_data, again, labelled}
+use Rattle.cw_grammar.specs.Rules.{symbol, ◌<*◌}
+use Rattle.cw_grammar.specs.Statements.{decl, singles, arrays}
+use Rattle.cw_grammar.specs.Reading.{Read, Gives, read}
 use Rattle.cw_grammar.specs.Reading.{applied}
-use Rattle.cw_grammar.proofs.Loop.{goes_on, ends, fails}
-use Rattle.cw_grammar.proofs.Many.{shorter}
-use Rattle.cw_grammar.proofs.Chain.{behind_token, behind_token_fails}
-use Rattle.cw_grammar.proofs.Ended.{before_token, item_fails, end_fails}
 use Rattle.cw_grammar.proofs.Labels.{labels_not_failed, stmt_read, stmt_fails, simple_read, simple_fails}
 use Rattle.cw_grammar.proofs.Flat.{any_levels}
 use Rattle.cw_parse.proofs.Flat.{local_decl_flat}
 use Rattle.cw_parse.proofs.Forms.{simple_named, form_named}
-use Rattle.cw_parse.proofs.Decls.{outer_singles, outer_arrays, outer_proc, outer_worded, outer_bare, data_ok, data_fails, outer_type_fails, decl_starts, decl_takes}
+use Rattle.cw_parse.proofs.Decls.{outer_singles, outer_arrays, outer_proc, outer_worded, outer_bare, data_ok, data_fails, outer_type_fails, decl_starts}
 use Rattle.cw_parse.proofs.statement.+statement_reader.Goals as goal
 
-pub read_stmts-loop-alloc-smaller : goal.read_stmts-loop-alloc-smaller
-read_stmts-loop-alloc-smaller t c = shorter c.args.levels a_stmt (symbol symbols.Semicolon *> (again (labelled c.args.in_proc))) refl (behind c.args.tokens.now c.loop-alloc.next) (c.in_ok-item.item, behind c.args.tokens.now c.in_ok-item.after) (behind_token c.args.levels a_stmt (kinds.Symbol symbols.Semicolon) (again (labelled c.args.in_proc)) _ c.in_ok-item.item (behind c.args.tokens.now c.loop-alloc.next) (behind c.args.tokens.now c.in_ok-after.after) (behind c.args.tokens.now c.in_ok-item.after) c.in_ok-after.ensures c.in_ok-item.ensures)
-
-pub read_stmts-loop-alloc-preserved : goal.read_stmts-loop-alloc-preserved
-read_stmts-loop-alloc-preserved t c =
-    rw c.in_ok-push-2.ensures.ok
-    (goes_on c.args.levels a_stmt (symbol symbols.Semicolon *> (again (labelled c.args.in_proc))) c.loop-alloc.found c.in_ok-item.item (behind c.args.tokens.now c.loop-alloc.next) (behind c.args.tokens.now c.in_ok-item.after) (read c.args.levels (a_list a_stmt) (semicolons (again (labelled c.args.in_proc))) (behind c.args.tokens.now c.args.at)) refl (sym c.next_is.ensures ∙ c.loop-alloc-test.true) (behind_token c.args.levels a_stmt (kinds.Symbol symbols.Semicolon) (again (labelled c.args.in_proc)) _ c.in_ok-item.item (behind c.args.tokens.now c.loop-alloc.next) (behind c.args.tokens.now c.in_ok-after.after) (behind c.args.tokens.now c.in_ok-item.after) c.in_ok-after.ensures c.in_ok-item.ensures) c.loop-alloc.invariant)
-
-pub read_stmts-returns-in_err-item : goal.read_stmts-returns-in_err-item
-read_stmts-returns-in_err-item t c =
-    let p = err_from_is_err_and c.from_residual-in_err-item.result c.from_residual-in_err-item.ensures.1 in
-    rw (p.1, p.2) (fails c.in_err-item.field-0.0 c.args.levels a_stmt (symbol symbols.Semicolon *> (again (labelled c.args.in_proc))) c.loop-alloc.found (behind c.args.tokens.now c.loop-alloc.next) (read c.args.levels (a_list a_stmt) (semicolons (again (labelled c.args.in_proc))) (behind c.args.tokens.now c.args.at)) refl (sym c.next_is.ensures ∙ c.loop-alloc-test.true) (behind_token_fails c.in_err-item.field-0.0 c.args.levels a_stmt (kinds.Symbol symbols.Semicolon) (again (labelled c.args.in_proc)) _ (behind c.args.tokens.now c.loop-alloc.next) (behind c.args.tokens.now c.in_ok-after.after) c.in_ok-after.ensures c.in_err-item.ensures) c.loop-alloc.invariant)
-
-pub read_decls-returns-in_err-item : goal.read_decls-returns-in_err-item
-read_decls-returns-in_err-item t c =
-    let p = err_from_is_err_and c.from_residual.result c.from_residual.ensures.1 in
-    rw (p.1, p.2) (fails c.in_err-item.field-0.0 c.args.levels a_decl (decl c.args.in_proc <* symbol symbols.Semicolon) c.loop-alloc.found (behind c.args.tokens.now c.loop-alloc.next) (read c.args.levels (a_list a_decl) (many (decl c.args.in_proc <* symbol symbols.Semicolon)) (behind c.args.tokens.now c.args.at)) (decl_takes c.args.in_proc) (decl_starts c.args.in_proc (behind c.args.tokens.now c.loop-alloc.next) true (sym c.is_decl.ensures ∙ c.loop-alloc-test.true)) (item_fails c.in_err-item.field-0.0 c.args.levels a_decl (kinds.Symbol symbols.Semicolon) (decl c.args.in_proc) (behind c.args.tokens.now c.loop-alloc.next) c.in_err-item.ensures) c.loop-alloc.invariant)
-
-pub read_decls-returns-in_err-after : goal.read_decls-returns-in_err-after
-read_decls-returns-in_err-after t c =
-    let p = err_from_is_err_and c.from_residual-in_err-after.result c.from_residual-in_err-after.ensures.1 in
-    rw (p.1, p.2) (fails c.in_err-after.field-0.0 c.args.levels a_decl (decl c.args.in_proc <* symbol symbols.Semicolon) c.loop-alloc.found (behind c.args.tokens.now c.loop-alloc.next) (read c.args.levels (a_list a_decl) (many (decl c.args.in_proc <* symbol symbols.Semicolon)) (behind c.args.tokens.now c.args.at)) (decl_takes c.args.in_proc) (decl_starts c.args.in_proc (behind c.args.tokens.now c.loop-alloc.next) true (sym c.is_decl.ensures ∙ c.loop-alloc-test.true)) (end_fails c.in_err-after.field-0.0 c.args.levels a_decl (kinds.Symbol symbols.Semicolon) (decl c.args.in_proc) c.in_ok-item.item (behind c.args.tokens.now c.loop-alloc.next) (behind c.args.tokens.now c.in_ok-item.after) c.in_ok-item.ensures c.in_err-after.ensures) c.loop-alloc.invariant)
-
-pub read_decls-loop-alloc-smaller : goal.read_decls-loop-alloc-smaller
-read_decls-loop-alloc-smaller t c = shorter c.args.levels a_decl (decl c.args.in_proc <* symbol symbols.Semicolon) (decl_takes c.args.in_proc) (behind c.args.tokens.now c.loop-alloc.next) (c.in_ok-item.item, behind c.args.tokens.now c.in_ok-after.after) (before_token c.args.levels a_decl (kinds.Symbol symbols.Semicolon) (decl c.args.in_proc) c.in_ok-item.item _ (behind c.args.tokens.now c.loop-alloc.next) (behind c.args.tokens.now c.in_ok-item.after) (behind c.args.tokens.now c.in_ok-after.after) c.in_ok-item.ensures c.in_ok-after.ensures)
-
-pub read_decls-loop-alloc-preserved : goal.read_decls-loop-alloc-preserved
-read_decls-loop-alloc-preserved t c = rw c.in_ok-push.ensures.ok (goes_on c.args.levels a_decl (decl c.args.in_proc <* symbol symbols.Semicolon) c.loop-alloc.found c.in_ok-item.item (behind c.args.tokens.now c.loop-alloc.next) (behind c.args.tokens.now c.in_ok-after.after) (read c.args.levels (a_list a_decl) (many (decl c.args.in_proc <* symbol symbols.Semicolon)) (behind c.args.tokens.now c.args.at)) (decl_takes c.args.in_proc) (decl_starts c.args.in_proc (behind c.args.tokens.now c.loop-alloc.next) true (sym c.is_decl.ensures ∙ c.loop-alloc-test.true)) (before_token c.args.levels a_decl (kinds.Symbol symbols.Semicolon) (decl c.args.in_proc) c.in_ok-item.item _ (behind c.args.tokens.now c.loop-alloc.next) (behind c.args.tokens.now c.in_ok-item.after) (behind c.args.tokens.now c.in_ok-after.after) c.in_ok-item.ensures c.in_ok-after.ensures) c.loop-alloc.invariant)
+pub read_stmts-returns : goal.read_stmts-returns
+read_stmts-returns t c = c.read_list.ensures (λ ts. read c.args.levels a_stmt (again (labelled c.args.in_proc)) ts) (λ k r p. search rules)
 
 pub read_decls-returns : goal.read_decls-returns
-read_decls-returns t c = ends c.args.levels a_decl (decl c.args.in_proc <* symbol symbols.Semicolon) c.loop-alloc.found (behind c.args.tokens.now c.loop-alloc.next) (read c.args.levels (a_list a_decl) (many (decl c.args.in_proc <* symbol symbols.Semicolon)) (behind c.args.tokens.now c.args.at)) (decl_starts c.args.in_proc (behind c.args.tokens.now c.loop-alloc.next) false (sym c.is_decl.ensures ∙ c.loop-alloc-test.false)) c.loop-alloc.invariant
+read_decls-returns t c =
+    c.read_ended.ensures (λ ts. starts ts (first (decl c.args.in_proc <* symbol symbols.Semicolon))) (λ ts. read c.args.levels a_decl (decl c.args.in_proc) ts)
+    (λ k r p.
+    let told : r ≡ starts (behind c.args.tokens.now k) (first (decl c.args.in_proc)) = search rules in
+    sym (decl_starts c.args.in_proc (behind c.args.tokens.now k) r (sym told)))
+    (λ k r p. search rules)
 
 pub read_stmt-returns-in_err-labels : goal.read_stmt-returns-in_err-labels
 read_stmt-returns-in_err-labels t c =

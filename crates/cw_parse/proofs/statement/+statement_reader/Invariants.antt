@@ -1,12 +1,5 @@
--- The cycle of the readers of statements.
-use Rattle.std.proofs.Common.{◌≡◌, ℕ, ◌+◌, ◌*◌, length}
-use Rattle.cw_lex.specs.declared.token.Symbol.TheVariants as symbols
-use Rattle.cw_grammar.specs.Tokens.{behind}
-use Rattle.cw_grammar.specs.Grammar.{a_list, a_stmt, a_decl, many, again, labelled}
-use Rattle.cw_grammar.specs.Rules.{symbol, ◌*>◌, ◌<*◌}
-use Rattle.cw_grammar.specs.Statements.{semicolons, decl}
-use Rattle.cw_grammar.specs.Reading.{read}
-use Rattle.cw_grammar.proofs.Loop.{with_front}
+-- Calls open a level, or go to a smaller rule. Between a function and what it reads in a row stands what reads one.
+use Rattle.std.proofs.Common.{◌+◌, ◌*◌}
 use Rattle.cw_parse.proofs.statement.+statement_reader.Given as goal
 
 abbrev pub decreases-read_else_rest : goal.decreases-read_else_rest
@@ -52,7 +45,10 @@ abbrev pub decreases-read_stmt : goal.decreases-read_stmt
 decreases-read_stmt l = 100 * l.levels + 5
 
 abbrev pub decreases-read_stmts : goal.decreases-read_stmts
-decreases-read_stmts l = 100 * l.levels + 6
+decreases-read_stmts l = 100 * l.levels + 7
+
+abbrev pub decreases-read_stmts-item : goal.decreases-read_stmts-item
+decreases-read_stmts-item l = 100 * l.levels + 6
 
 abbrev pub decreases-read_proc_behind : goal.decreases-read_proc_behind
 decreases-read_proc_behind l = 100 * l.levels + 1
@@ -64,16 +60,7 @@ abbrev pub decreases-read_decl : goal.decreases-read_decl
 decreases-read_decl l = 100 * l.levels + 3
 
 abbrev pub decreases-read_decls : goal.decreases-read_decls
-decreases-read_decls l = 100 * l.levels + 4
+decreases-read_decls l = 100 * l.levels + 5
 
-abbrev pub invariant-read_stmts-loop-alloc : goal.invariant-read_stmts-loop-alloc
-invariant-read_stmts-loop-alloc l = with_front l.found (read l.fn.levels (a_list a_stmt) (many (symbol symbols.Semicolon *> again (labelled l.fn.in_proc))) (behind l.fn.tokens l.next)) ≡ read l.fn.levels (a_list a_stmt) (semicolons (again (labelled l.fn.in_proc))) (behind l.fn.tokens l.fn.at)
-
-abbrev pub decreases-read_stmts-loop-alloc : goal.decreases-read_stmts-loop-alloc
-decreases-read_stmts-loop-alloc l = length (behind l.fn.tokens l.next)
-
-abbrev pub invariant-read_decls-loop-alloc : goal.invariant-read_decls-loop-alloc
-invariant-read_decls-loop-alloc l = with_front l.found (read l.fn.levels (a_list a_decl) (many (decl l.fn.in_proc <* symbol symbols.Semicolon)) (behind l.fn.tokens l.next)) ≡ read l.fn.levels (a_list a_decl) (many (decl l.fn.in_proc <* symbol symbols.Semicolon)) (behind l.fn.tokens l.fn.at)
-
-abbrev pub decreases-read_decls-loop-alloc : goal.decreases-read_decls-loop-alloc
-decreases-read_decls-loop-alloc l = length (behind l.fn.tokens l.next)
+abbrev pub decreases-read_decls-item : goal.decreases-read_decls-item
+decreases-read_decls-item l = 100 * l.levels + 4

@@ -1,14 +1,5 @@
--- Calls open a level, or go to a smaller rule. A loop keeps that what it has read, with what is read from there on, is the whole.
-use Rattle.std.proofs.Common.{◌≡◌, ℕ, ◌+◌, ◌*◌, length}
-use Rattle.cw_lex.specs.declared.token.Symbol.TheVariants.{Comma}
-use Rattle.cw_lex.specs.declared.token.Word.TheVariants as words
-use Rattle.cw_grammar.specs.Tokens.{behind}
-use Rattle.cw_grammar.specs.Grammar.{a_pair, a_list, a_position, a_sign, a_factor_sign, an_expr, a_cond, a_cand, a_cmp, a_sum, a_term, a_differ, a_union, a_mask, a_prim, many, ◌·◌}
-use Rattle.cw_grammar.specs.Rules.{symbol, commas, ◌*>◌, operator, sign, factor_sign, prim, mask, union, differ, term, sum, cmp, cand, condition, expr}
-use Rattle.cw_grammar.specs.Trees.{mask_tree, union_tree, differ_tree, term_tree, sum_tree, cand_tree, cond_tree}
-use Rattle.cw_grammar.specs.Reading.{read}
-use Rattle.cw_grammar.proofs.Loop.{with_front}
-use Rattle.cw_grammar.proofs.Chain.{going}
+-- Calls open a level, or go to a smaller rule. Between a function and what it reads in a row stands what reads one.
+use Rattle.std.proofs.Common.{ℕ, ◌+◌, ◌*◌}
 use Rattle.cw_parse_expr.proofs.reading.+reader.Given as goal
 
 abbrev pub decreases-read_bracketed : goal.decreases-read_bracketed
@@ -30,115 +21,91 @@ abbrev pub decreases-read_conditional : goal.decreases-read_conditional
 decreases-read_conditional l = 100 * l.levels + 0
 
 abbrev pub decreases-read_reference : goal.decreases-read_reference
-decreases-read_reference l = 100 * l.levels + 1
+decreases-read_reference l = 100 * l.levels + 2
 
 abbrev pub decreases-read_location : goal.decreases-read_location
-decreases-read_location l = 100 * l.levels + 1
+decreases-read_location l = 100 * l.levels + 2
 
 abbrev pub decreases-read_forced : goal.decreases-read_forced
-decreases-read_forced l = 100 * l.levels + 1
+decreases-read_forced l = 100 * l.levels + 2
 
 abbrev pub decreases-read_worded : goal.decreases-read_worded
-decreases-read_worded l = 100 * l.levels + 2
+decreases-read_worded l = 100 * l.levels + 4
 
 abbrev pub decreases-read_in_brackets : goal.decreases-read_in_brackets
-decreases-read_in_brackets l = 100 * l.levels + 1
+decreases-read_in_brackets l = 100 * l.levels + 2
 
 abbrev pub decreases-read_addressed : goal.decreases-read_addressed
-decreases-read_addressed l = 100 * l.levels + 1
+decreases-read_addressed l = 100 * l.levels + 2
 
 abbrev pub decreases-read_enclosed : goal.decreases-read_enclosed
-decreases-read_enclosed l = 100 * l.levels + 2
+decreases-read_enclosed l = 100 * l.levels + 4
 
 abbrev pub decreases-read_named : goal.decreases-read_named
-decreases-read_named l = 100 * l.levels + 1
+decreases-read_named l = 100 * l.levels + 2
 
 abbrev pub decreases-read_primary : goal.decreases-read_primary
-decreases-read_primary l = 100 * l.levels + 3
+decreases-read_primary l = 100 * l.levels + 6
 
 abbrev pub decreases-read_prim : goal.decreases-read_prim
-decreases-read_prim l = 100 * l.levels + 4
+decreases-read_prim l = 100 * l.levels + 8
 
 abbrev pub decreases-read_mask : goal.decreases-read_mask
-decreases-read_mask l = 100 * l.levels + 5
+decreases-read_mask l = 100 * l.levels + 10
+
+abbrev pub decreases-read_mask-operand : goal.decreases-read_mask-operand
+decreases-read_mask-operand l = 100 * l.levels + 9
 
 abbrev pub decreases-read_union : goal.decreases-read_union
-decreases-read_union l = 100 * l.levels + 6
+decreases-read_union l = 100 * l.levels + 12
+
+abbrev pub decreases-read_union-operand : goal.decreases-read_union-operand
+decreases-read_union-operand l = 100 * l.levels + 11
 
 abbrev pub decreases-read_differ : goal.decreases-read_differ
-decreases-read_differ l = 100 * l.levels + 7
+decreases-read_differ l = 100 * l.levels + 14
+
+abbrev pub decreases-read_differ-operand : goal.decreases-read_differ-operand
+decreases-read_differ-operand l = 100 * l.levels + 13
 
 abbrev pub decreases-read_term : goal.decreases-read_term
-decreases-read_term l = 100 * l.levels + 8
+decreases-read_term l = 100 * l.levels + 16
+
+abbrev pub decreases-read_term-operand : goal.decreases-read_term-operand
+decreases-read_term-operand l = 100 * l.levels + 15
 
 abbrev pub decreases-read_sum : goal.decreases-read_sum
-decreases-read_sum l = 100 * l.levels + 9
+decreases-read_sum l = 100 * l.levels + 18
+
+abbrev pub decreases-read_sum-operand : goal.decreases-read_sum-operand
+decreases-read_sum-operand l = 100 * l.levels + 17
 
 abbrev pub decreases-read_cmp : goal.decreases-read_cmp
-decreases-read_cmp l = 100 * l.levels + 10
+decreases-read_cmp l = 100 * l.levels + 20
 
 abbrev pub decreases-read_cand : goal.decreases-read_cand
-decreases-read_cand l = 100 * l.levels + 11
+decreases-read_cand l = 100 * l.levels + 22
+
+abbrev pub decreases-read_cand-operand : goal.decreases-read_cand-operand
+decreases-read_cand-operand l = 100 * l.levels + 21
 
 abbrev pub decreases-read_condition : goal.decreases-read_condition
-decreases-read_condition l = 100 * l.levels + 12
+decreases-read_condition l = 100 * l.levels + 24
+
+abbrev pub decreases-read_condition-operand : goal.decreases-read_condition-operand
+decreases-read_condition-operand l = 100 * l.levels + 23
 
 abbrev pub decreases-read_expr : goal.decreases-read_expr
-decreases-read_expr l = 100 * l.levels + 10
+decreases-read_expr l = 100 * l.levels + 20
 
 abbrev pub decreases-read_second : goal.decreases-read_second
-decreases-read_second l = 100 * l.levels + 13
+decreases-read_second l = 100 * l.levels + 26
 
 abbrev pub decreases-read_arguments : goal.decreases-read_arguments
-decreases-read_arguments l = 100 * l.levels + 13
+decreases-read_arguments l = 100 * l.levels + 26
+
+abbrev pub decreases-read_arguments-item : goal.decreases-read_arguments-item
+decreases-read_arguments-item l = 100 * l.levels + 25
 
 abbrev pub decreases-read_branch : goal.decreases-read_branch
-decreases-read_branch l = 100 * l.levels + 13
-
-abbrev pub invariant-read_arguments-loop-alloc : goal.invariant-read_arguments-loop-alloc
-invariant-read_arguments-loop-alloc l = with_front l.found (read l.fn.levels (a_list an_expr) (many (symbol Comma *> expr)) (behind l.fn.tokens l.next)) ≡ read l.fn.levels (a_list an_expr) (commas expr) (behind l.fn.tokens l.fn.at)
-
-abbrev pub decreases-read_arguments-loop-alloc : goal.decreases-read_arguments-loop-alloc
-decreases-read_arguments-loop-alloc l = length (behind l.fn.tokens l.next)
-
-abbrev pub invariant-read_mask-loop-alloc : goal.invariant-read_mask-loop-alloc
-invariant-read_mask-loop-alloc l = going mask_tree (l.operands, l.operators) (read l.fn.levels (a_list (a_pair a_position a_prim)) (many ((operator words.Mask) · prim)) (behind l.fn.tokens l.next)) ≡ read l.fn.levels a_mask mask (behind l.fn.tokens l.fn.at)
-
-abbrev pub decreases-read_mask-loop-alloc : goal.decreases-read_mask-loop-alloc
-decreases-read_mask-loop-alloc l = length (behind l.fn.tokens l.next)
-
-abbrev pub invariant-read_union-loop-alloc : goal.invariant-read_union-loop-alloc
-invariant-read_union-loop-alloc l = going union_tree (l.operands, l.operators) (read l.fn.levels (a_list (a_pair a_position a_mask)) (many ((operator words.Union) · mask)) (behind l.fn.tokens l.next)) ≡ read l.fn.levels a_union union (behind l.fn.tokens l.fn.at)
-
-abbrev pub decreases-read_union-loop-alloc : goal.decreases-read_union-loop-alloc
-decreases-read_union-loop-alloc l = length (behind l.fn.tokens l.next)
-
-abbrev pub invariant-read_differ-loop-alloc : goal.invariant-read_differ-loop-alloc
-invariant-read_differ-loop-alloc l = going differ_tree (l.operands, l.operators) (read l.fn.levels (a_list (a_pair a_position a_union)) (many ((operator words.Differ) · union)) (behind l.fn.tokens l.next)) ≡ read l.fn.levels a_differ differ (behind l.fn.tokens l.fn.at)
-
-abbrev pub decreases-read_differ-loop-alloc : goal.decreases-read_differ-loop-alloc
-decreases-read_differ-loop-alloc l = length (behind l.fn.tokens l.next)
-
-abbrev pub invariant-read_term-loop-alloc : goal.invariant-read_term-loop-alloc
-invariant-read_term-loop-alloc l = going term_tree (l.operands, l.operators) (read l.fn.levels (a_list (a_pair a_factor_sign a_differ)) (many (factor_sign · differ)) (behind l.fn.tokens l.next)) ≡ read l.fn.levels a_term term (behind l.fn.tokens l.fn.at)
-
-abbrev pub decreases-read_term-loop-alloc : goal.decreases-read_term-loop-alloc
-decreases-read_term-loop-alloc l = length (behind l.fn.tokens l.next)
-
-abbrev pub invariant-read_cand-loop-alloc : goal.invariant-read_cand-loop-alloc
-invariant-read_cand-loop-alloc l = going cand_tree (l.operands, l.operators) (read l.fn.levels (a_list (a_pair a_position a_cmp)) (many ((operator words.And) · cmp)) (behind l.fn.tokens l.next)) ≡ read l.fn.levels a_cand cand (behind l.fn.tokens l.fn.at)
-
-abbrev pub decreases-read_cand-loop-alloc : goal.decreases-read_cand-loop-alloc
-decreases-read_cand-loop-alloc l = length (behind l.fn.tokens l.next)
-
-abbrev pub invariant-read_condition-loop-alloc : goal.invariant-read_condition-loop-alloc
-invariant-read_condition-loop-alloc l = going cond_tree (l.operands, l.operators) (read l.fn.levels (a_list (a_pair a_position a_cand)) (many ((operator words.Or) · cand)) (behind l.fn.tokens l.next)) ≡ read l.fn.levels a_cond condition (behind l.fn.tokens l.fn.at)
-
-abbrev pub decreases-read_condition-loop-alloc : goal.decreases-read_condition-loop-alloc
-decreases-read_condition-loop-alloc l = length (behind l.fn.tokens l.next)
-
-abbrev pub invariant-read_sum-loop-alloc : goal.invariant-read_sum-loop-alloc
-invariant-read_sum-loop-alloc l = going (λ x. sum_tree (l.front, x)) (l.operands, l.operators) (read l.fn.levels (a_list (a_pair a_sign a_term)) (many (sign · term)) (behind l.fn.tokens l.next)) ≡ read l.fn.levels a_sum sum (behind l.fn.tokens l.fn.at)
-
-abbrev pub decreases-read_sum-loop-alloc : goal.decreases-read_sum-loop-alloc
-decreases-read_sum-loop-alloc l = length (behind l.fn.tokens l.next)
+decreases-read_branch l = 100 * l.levels + 26

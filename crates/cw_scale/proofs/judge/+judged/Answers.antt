@@ -1,37 +1,124 @@
-use Rattle.std.proofs.Common.{◌≡◌, ℕ, ◌-◌, ◌≤◌, ◌<◌, length, map, ap₂, sym, ◌∙◌, inl, inr, arith}
-use Rattle.std.proofs.lemmas.Bool.Decides.{nat_tests}
-use Rattle.cw_scale.specs.TypeRules.{differ, term_faults}
-use Rattle.cw_scale.proofs.Chains.{chain_goes_on, term_ends}
-use Rattle.cw_scale.proofs.Terms.{term_judged}
+use Rattle.std.proofs.Common.{◌≡◌, length, drop, sym, ap, ◌∙◌, arith}
+use Rattle.cw_tree.specs.declared.expression.RawDiffer.{out-RawDiffer}
+use Rattle.cw_tree.specs.declared.expression.RawMask.{out-RawMask}
+use Rattle.cw_tree.specs.declared.expression.RawPrim.{out-RawPrim}
+use Rattle.cw_tree.specs.declared.expression.RawTerm.{out-RawTerm}
+use Rattle.cw_tree.specs.declared.expression.RawUnion.{out-RawUnion}
+use Rattle.cw_tree.specs.declared.expression.RawCand.{out-RawCand}
+use Rattle.cw_tree.specs.declared.expression.RawCond.{out-RawCond}
+use Rattle.cw_tree.specs.declared.expression.RawSum.{out-RawSum}
+use Rattle.cw_scale.specs.TypeRules.{condition, conjunction, comparison, sum, term, differ, union, mask, prim, primary}
+use Rattle.cw_scale.proofs.Chains.{head_judged, next_judged, no_operand, no_sign}
+use Rattle.cw_scale.proofs.Layers.{logic_goes_on, logic_ends, each_goes_on, each_ends, term_none, term_alone, prim_alone, prim_within, condition-layer, conjunction-layer, sum-layer, term-layer, differ-layer, union-layer, mask-layer, prim-layer}
 use Rattle.cw_scale.proofs.Passing.{all_judged}
 use Rattle.cw_scale.proofs.judge.+judged.Goals as goal
 
-pub judge_term-loop-i-preserved : goal.judge_term-loop-i-preserved
-judge_term-loop-i-preserved t c = record {
-  counted = omega arith;
-  going =
-      chain_goes_on (differ c.args.named.now) c.as_slice-operands.result.now c.loop-i.i c.index-operands-i.result c.as_slice-signs.result.now _ c.args.scale c.loop-i.before c.loop-i.natural c.max-natural.result c.scale_for-asked.result c.differ_shape-next.result c.loop-i.first c.judge_differ-in-loop-i.new.first c.judge_factor.new.first _
-      c.loop-i.invariant.counted (omega arith) c.index-operands-i.is (omega arith) c.differ_shape-next.ensures c.max-natural.ensures c.scale_for-asked.ensures c.judge_differ-in-loop-i.ensures c.judge_factor.ensures c.loop-i.invariant.going;
-}
+pub judge_condition-loop-operand-preserved : goal.judge_condition-loop-operand-preserved
+judge_condition-loop-operand-preserved t c =
+    each_goes_on (conjunction c.args.named.now) c.as_slice-operand-items.result.now c.loop-operand.operand-index 0 c.operand-item.result c.loop-operand.first c.judge_conjunction.new.first _
+    c.loop-operand-test.true c.operand-item.is c.judge_conjunction.ensures c.loop-operand.invariant
 
-pub judge_term-returns-after-loop-i : goal.judge_term-returns-after-loop-i
-judge_term-returns-after-loop-i t c =
-    let some : 0 < length c.as_slice-operands.result.now = grind (arith, nat_tests) in
-    let d = differ c.args.named.now in
-    term_ends d c.as_slice-operands.result.now c.loop-i.i c.index-operands-0.result c.as_slice-signs.result.now c.args.scale c.loop-i.before c.loop-i.natural c.scale_for-at.result c.differ_shape-shape.result c.args.first.now c.judge_differ.new.first c.loop-i.first
-    some c.index-operands-0.is c.differ_shape-shape.ensures c.scale_for-at.ensures c.judge_differ.ensures (inl c.loop-i-test.false) c.loop-i.invariant.going
-    ∙ ap₂ (λ ops signs. term_faults c.args.scale (map d ops) signs c.args.first.now) c.as_slice-operands.ensures c.as_slice-signs.ensures
-    ∙ sym (term_judged c.args.named.now c.args.e.now c.args.scale c.args.first.now)
+pub judge_condition-returns : goal.judge_condition-returns
+judge_condition-returns t c =
+    each_ends (conjunction c.args.named.now) ((condition c.args.named.now c.args.c.now).faults 0) (out-RawCond c.args.c.now).operands c.as_slice-operand-items.result.now c.loop-operand.operand-index 0 c.args.first.now c.loop-operand.first
+    (condition-layer c.args.named.now c.args.c.now 0 c.args.first.now) c.as_slice-operand-items.ensures c.loop-operand-test.false c.loop-operand.invariant
 
-pub judge_term-returns-else-i-signs : goal.judge_term-returns-else-i-signs
-judge_term-returns-else-i-signs t c =
-    let some : 0 < length c.as_slice-operands.result.now = grind (arith, nat_tests) in
-    let d = differ c.args.named.now in
-    let over : length c.as_slice-signs.result.now ≤ c.loop-i.i - 1 = omega arith in
-    term_ends d c.as_slice-operands.result.now c.loop-i.i c.index-operands-0.result c.as_slice-signs.result.now c.args.scale c.loop-i.before c.loop-i.natural c.scale_for-at.result c.differ_shape-shape.result c.args.first.now c.judge_differ.new.first c.loop-i.first
-    some c.index-operands-0.is c.differ_shape-shape.ensures c.scale_for-at.ensures c.judge_differ.ensures (inr over) c.loop-i.invariant.going
-    ∙ ap₂ (λ ops signs. term_faults c.args.scale (map d ops) signs c.args.first.now) c.as_slice-operands.ensures c.as_slice-signs.ensures
-    ∙ sym (term_judged c.args.named.now c.args.e.now c.args.scale c.args.first.now)
+pub judge_conjunction-loop-operand-preserved : goal.judge_conjunction-loop-operand-preserved
+judge_conjunction-loop-operand-preserved t c =
+    each_goes_on (comparison c.args.named.now) c.as_slice-operand-items.result.now c.loop-operand.operand-index 0 c.operand-item.result c.loop-operand.first c.judge_comparison.new.first _
+    c.loop-operand-test.true c.operand-item.is c.judge_comparison.ensures c.loop-operand.invariant
+
+pub judge_conjunction-returns : goal.judge_conjunction-returns
+judge_conjunction-returns t c =
+    each_ends (comparison c.args.named.now) ((conjunction c.args.named.now c.args.c.now).faults 0) (out-RawCand c.args.c.now).operands c.as_slice-operand-items.result.now c.loop-operand.operand-index 0 c.args.first.now c.loop-operand.first
+    (conjunction-layer c.args.named.now c.args.c.now 0 c.args.first.now) c.as_slice-operand-items.ensures c.loop-operand-test.false c.loop-operand.invariant
+
+pub judge_sum-loop-operand-preserved : goal.judge_sum-loop-operand-preserved
+judge_sum-loop-operand-preserved t c =
+    each_goes_on (term c.args.named.now) c.as_slice-operand-items.result.now c.loop-operand.operand-index c.args.scale c.operand-item.result c.loop-operand.first c.judge_term.new.first _
+    c.loop-operand-test.true c.operand-item.is c.judge_term.ensures c.loop-operand.invariant
+
+pub judge_sum-returns : goal.judge_sum-returns
+judge_sum-returns t c =
+    each_ends (term c.args.named.now) ((sum c.args.named.now c.args.e.now).faults c.args.scale) (out-RawSum c.args.e.now).operands c.as_slice-operand-items.result.now c.loop-operand.operand-index c.args.scale c.args.first.now c.loop-operand.first
+    (ap (λ j. j.faults c.args.scale c.args.first.now) (sum-layer c.args.named.now c.args.e.now)) c.as_slice-operand-items.ensures c.loop-operand-test.false c.loop-operand.invariant
+
+pub judge_differ-loop-operand-preserved : goal.judge_differ-loop-operand-preserved
+judge_differ-loop-operand-preserved t c =
+    logic_goes_on (union c.args.named.now) c.as_slice-operands.result.now c.loop-operand.operand-index c.args.scale c.union_scale-at.result c.operand-item.result c.loop-operand.first c.judge_union.new.first _
+    c.loop-operand-test.true c.operand-item.is c.union_scale-at.ensures c.judge_union.ensures c.loop-operand.invariant
+
+pub judge_differ-returns : goal.judge_differ-returns
+judge_differ-returns t c =
+    logic_ends (union c.args.named.now) (differ c.args.named.now c.args.e.now) (out-RawDiffer c.args.e.now).operands c.as_slice-operands.result.now c.loop-operand.operand-index c.args.scale c.args.first.now c.loop-operand.first
+    (differ-layer c.args.named.now c.args.e.now) c.as_slice-operands.ensures c.loop-operand-test.false c.loop-operand.invariant
+
+pub judge_union-loop-operand-preserved : goal.judge_union-loop-operand-preserved
+judge_union-loop-operand-preserved t c =
+    logic_goes_on (mask c.args.named.now) c.as_slice-operands.result.now c.loop-operand.operand-index c.args.scale c.mask_scale-at.result c.operand-item.result c.loop-operand.first c.judge_mask.new.first _
+    c.loop-operand-test.true c.operand-item.is c.mask_scale-at.ensures c.judge_mask.ensures c.loop-operand.invariant
+
+pub judge_union-returns : goal.judge_union-returns
+judge_union-returns t c =
+    logic_ends (mask c.args.named.now) (union c.args.named.now c.args.e.now) (out-RawUnion c.args.e.now).operands c.as_slice-operands.result.now c.loop-operand.operand-index c.args.scale c.args.first.now c.loop-operand.first
+    (union-layer c.args.named.now c.args.e.now) c.as_slice-operands.ensures c.loop-operand-test.false c.loop-operand.invariant
+
+pub judge_mask-loop-operand-preserved : goal.judge_mask-loop-operand-preserved
+judge_mask-loop-operand-preserved t c =
+    logic_goes_on (prim c.args.named.now) c.as_slice-operands.result.now c.loop-operand.operand-index c.args.scale c.prim_scale-at.result c.operand-item.result c.loop-operand.first c.judge_prim.new.first _
+    c.loop-operand-test.true c.operand-item.is c.prim_scale-at.ensures c.judge_prim.ensures c.loop-operand.invariant
+
+pub judge_mask-returns : goal.judge_mask-returns
+judge_mask-returns t c =
+    logic_ends (prim c.args.named.now) (mask c.args.named.now c.args.e.now) (out-RawMask c.args.e.now).operands c.as_slice-operands.result.now c.loop-operand.operand-index c.args.scale c.args.first.now c.loop-operand.first
+    (mask-layer c.args.named.now c.args.e.now) c.as_slice-operands.ensures c.loop-operand-test.false c.loop-operand.invariant
+
+pub judge_term-returns-in-empty : goal.judge_term-returns-in-empty
+judge_term-returns-in-empty t c =
+    term_none (differ c.args.named.now) (term c.args.named.now c.args.e.now) (out-RawTerm c.args.e.now).operands c.as_slice.result.now (out-RawTerm c.args.e.now).operators c.args.scale c.args.first.now
+    (term-layer c.args.named.now c.args.e.now) c.as_slice.ensures c.in-empty.len_below
+
+pub judge_term-returns-in-len1 : goal.judge_term-returns-in-len1
+judge_term-returns-in-len1 t c =
+    let one : length c.as_slice.result.now ≡ 1 = omega arith in
+    c.judge_differ.ensures
+    ∙ ap (λ j. j.faults c.args.scale c.args.first.now) (sym (term_alone (differ c.args.named.now) (term c.args.named.now c.args.e.now) (out-RawTerm c.args.e.now).operands c.as_slice.result.now (out-RawTerm c.args.e.now).operators c.operand-item.result
+    (term-layer c.args.named.now c.args.e.now) c.as_slice.ensures one c.operand-item.is))
+
+pub judge_term-returns-in-len1-up : goal.judge_term-returns-in-len1-up
+judge_term-returns-in-len1-up t c =
+    c.judge_factors.ensures
+    ∙ head_judged (differ c.args.named.now) (term c.args.named.now c.args.e.now) (out-RawTerm c.args.e.now).operands c.as_slice.result.now c.as_slice-in-len1-up.result.now (out-RawTerm c.args.e.now).operators c.head-item.result c.args.scale
+    c.differ_shape-shape.result c.args.first.now c.judge_differ-in-len1-up.new.first
+    (term-layer c.args.named.now c.args.e.now) c.as_slice.ensures c.as_slice-in-len1-up.ensures c.in-len1-up.len_at_least c.head-item.is c.differ_shape-shape.ensures c.judge_differ-in-len1-up.ensures
+
+pub judge_factors-loop-i-preserved : goal.judge_factors-loop-i-preserved
+judge_factors-loop-i-preserved t c =
+    next_judged (differ c.args.named.now) c.args.operands.now c.index-operands-i.result c.args.signs.now _ c.loop-i.i c.args.scale c.loop-i.before c.loop-i.natural c.scale_for-asked.result c.max-natural.result c.differ_shape-shape.result
+    c.loop-i.first c.judge_differ.new.first c.judge_factor.new.first _
+    (omega arith) c.index-operands-i.is (omega arith) c.differ_shape-shape.ensures c.max-natural.ensures c.scale_for-asked.ensures c.judge_differ.ensures c.judge_factor.ensures c.loop-i.invariant
+
+pub judge_factors-returns-after-loop-i : goal.judge_factors-returns-after-loop-i
+judge_factors-returns-after-loop-i t c =
+    no_operand (differ c.args.named.now) c.args.operands.now _ c.loop-i.i c.args.scale c.loop-i.before c.loop-i.natural c.loop-i.first _ (omega arith) c.loop-i.invariant
+
+pub judge_factors-returns-else-i-signs : goal.judge_factors-returns-else-i-signs
+judge_factors-returns-else-i-signs t c =
+    no_sign (differ c.args.named.now) (drop c.loop-i.i c.args.operands.now) c.args.signs.now c.loop-i.i c.args.scale c.loop-i.before c.loop-i.natural c.loop-i.first _ (omega arith) c.loop-i.invariant
+
+pub judge_prim-returns-in-empty : goal.judge_prim-returns-in-empty
+judge_prim-returns-in-empty t c =
+    c.judge_primary.ensures ∙ ap (λ p. (primary c.args.named.now p).faults c.args.scale c.args.first.now) c.get.ensures
+    ∙ ap (λ j. j.faults c.args.scale c.args.first.now) (sym (prim_alone (prim c.args.named.now c.args.e.now) (primary c.args.named.now (out-RawPrim c.args.e.now).primary) (out-RawPrim c.args.e.now).bits c.as_slice.result.now
+    (prim-layer c.args.named.now c.args.e.now) c.as_slice.ensures c.in-empty.len_below))
+
+pub judge_prim-returns-in_default : goal.judge_prim-returns-in_default
+judge_prim-returns-in_default t c =
+    prim_within (prim c.args.named.now c.args.e.now) (primary c.args.named.now (out-RawPrim c.args.e.now).primary) (out-RawPrim c.args.e.now).bits c.as_slice.result.now c.args.scale c.primary_shape-shape.result
+    c.args.first.now c.judge_each_bits.new.first c.judge_primary-in_default.new.first
+    (prim-layer c.args.named.now c.args.e.now) c.as_slice.ensures c.in_default.len_at_least c.judge_each_bits.ensures
+    (c.primary_shape-shape.ensures ∙ ap (λ p. (primary c.args.named.now p).shape) c.get-in_default.ensures)
+    (c.judge_primary-in_default.ensures ∙ ap (λ p. (primary c.args.named.now p).faults c.primary_shape-shape.result.operand c.judge_each_bits.new.first) c.get-in_default-2.ensures)
 
 pub judge_arguments-returns : goal.judge_arguments-returns
 judge_arguments-returns t c =

@@ -1,5 +1,5 @@
-use Rattle.std.proofs.Common.{◌≡◌, ◌-◌, ◌≤◌, map, drop, length}
-use Rattle.cw_scale.specs.TypeRules.{each_at, arguments_faults, logic_faults, chain_faults, term_faults, expression, conjunction, comparison, condition, sum, term, differ, union, mask, prim}
+use Rattle.std.proofs.Common.{◌≡◌, ◌-◌, map, drop, length}
+use Rattle.cw_scale.specs.TypeRules.{each_at, arguments_faults, logic_faults, chain_faults, expression, conjunction, comparison, term, differ, union, mask, prim}
 use Rattle.cw_scale.proofs.judge.+judged.Given as goal
 
 abbrev pub invariant-judge_condition-loop-operand : goal.invariant-judge_condition-loop-operand
@@ -23,11 +23,8 @@ invariant-judge_mask-loop-operand l = logic_faults l.alone l.scale (map (prim l.
 abbrev pub invariant-judge_arguments-loop-argument : goal.invariant-judge_arguments-loop-argument
 invariant-judge_arguments-loop-argument l = arguments_faults l.named l.rest (map (expression l.named) (drop l.argument-index l.arguments)) l.first ≡ arguments_faults l.named l.params (map (expression l.named) l.arguments) l.initial.first
 
-abbrev pub invariant-judge_term-loop-i : goal.invariant-judge_term-loop-i
-invariant-judge_term-loop-i l = record {
-  counted : 1 ≤ l.i;
-  going : chain_faults l.scale l.before l.natural (map (differ l.named) (drop l.i l.operands)) (drop (l.i - 1) l.signs) l.first ≡ chain_faults l.scale l.initial.before l.initial.natural (map (differ l.named) (drop 1 l.operands)) l.signs l.initial.first;
-}
+abbrev pub invariant-judge_factors-loop-i : goal.invariant-judge_factors-loop-i
+invariant-judge_factors-loop-i l = chain_faults l.scale l.before l.natural (map (differ l.named) (drop l.i l.operands)) (drop l.i l.signs) l.first ≡ chain_faults l.scale l.initial.before l.initial.natural (map (differ l.named) l.operands) l.signs l.initial.first
 
-abbrev pub decreases-judge_term-loop-i : goal.decreases-judge_term-loop-i
-decreases-judge_term-loop-i l = length l.operands - l.i
+abbrev pub decreases-judge_factors-loop-i : goal.decreases-judge_factors-loop-i
+decreases-judge_factors-loop-i l = length l.operands - l.i

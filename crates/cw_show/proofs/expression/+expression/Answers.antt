@@ -27,8 +27,8 @@ put_cmp-returns t c =
 pub put_prim-returns : goal.put_prim-returns
 put_prim-returns t c =
     on_ok_weaker c.put_primary.result
-    (prim_added c.args.prim.now c.as_slice.result.now c.get.result.now c.args.out.now.items c.put_all_bits.new.out.items c.put_primary.new.out.items
-    c.as_slice.ensures c.get.ensures c.in_ok-put_all_bits.ensures)
+    (prim_added c.args.prim.now c.as_slice.result.now c.args.out.now.items c.put_all_bits.new.out.items c.put_primary.new.out.items
+    c.as_slice.ensures c.in_ok-put_all_bits.ensures)
     c.put_primary.ensures
 
 pub put_cond-returns-in-empty : goal.put_cond-returns-in-empty

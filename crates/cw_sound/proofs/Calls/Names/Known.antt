@@ -76,14 +76,11 @@ plain_of answer params = ap (λ (xs : List SpecParam). spec_with (types.answer_o
 -- what takes one word takes no procedure, label or switch
 word_wanted : (params : List RawPs) → map kind_specified params ≡ WordKind ∷ [] → wanted params ≡ []
 word_wanted [] e = absurd (cc)
-word_wanted (ps.Plain (inner.Value at t) ∷ []) e = refl
-word_wanted (ps.Plain (inner.Location at t) ∷ []) e = refl
-word_wanted (ps.Plain (inner.Array t) ∷ []) e = refl
-word_wanted (ps.Plain (inner.Table at s) ∷ []) e = refl
 word_wanted (ps.Plain (inner.Label at) ∷ []) e = absurd (cc)
 word_wanted (ps.Plain (inner.Switch at) ∷ []) e = absurd (cc)
 word_wanted (ps.Proc answer at params ∷ []) e = absurd (cc)
 word_wanted (p ∷ q ∷ more) e = absurd (cc)
+word_wanted _ e = refl
 
 module _ (named : Named) (numbers : Numbers) (u : SourceUnit) where
   -- ---- the specification that a name has in the unit

@@ -61,20 +61,7 @@ module _ (named : Named) (numbers : Numbers) (u : SourceUnit) (resolves : Resolv
     by_kind kind.LabelParam e h t who n r = absurd (cc)
     by_kind kind.SwitchParam e h t who n r = absurd (cc)
     by_kind (kind.ProcParam answer) e h t who n r = absurd (cc)
-    by_kind (kind.Single z) e h t who n r = tt
-    by_kind (kind.Array z b) e h t who n r = tt
-    by_kind (kind.Table s) e h t who n r = tt
-    by_kind (kind.Element z y) e h t who n r = tt
-    by_kind (kind.Value z) e h t who n r = tt
-    by_kind (kind.Location z) e h t who n r = tt
-    by_kind (kind.ArrayParam z) e h t who n r = tt
-    by_kind (kind.TableParam s) e h t who n r = tt
-    by_kind kind.Label e h t who n r = tt
-    by_kind kind.Switch e h t who n r = tt
-    by_kind kind.ReadByte e h t who n r = tt
-    by_kind kind.WriteByte e h t who n r = tt
-    by_kind kind.Bounds e h t who n r = tt
-    by_kind (kind.Answer z) e h t who n r = tt
+    by_kind _ e h t who n r = tt
 
   pub listed_specs : (owner : Option ℕ) (d : Declaration) → In (here owner (declares d)) (listed_mentions numbers named.raw.now) → (who : Option ℕ) (n : RawName) → Refers named n d → SpecsAs named numbers u who d.kind n
   listed_specs owner d i who n r =

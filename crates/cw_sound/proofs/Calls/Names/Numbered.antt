@@ -42,7 +42,7 @@ use Rattle.cw_sound.proofs.Names.Picking.{pick_append, Zip, zip_at, picked_at}
 use Rattle.cw_sound.proofs.Names.Sorts.{of_kind, few_before, procedures_before}
 use Rattle.cw_sound.proofs.Names.MentionsOf.{declared_first, block_alone, signatures_append, declared_before, specified_before, signatures_block}
 use Rattle.cw_sound.proofs.Names.InProcedure.{IsParameter, parameters_say, control_number, controls_before, counted_append}
-use Rattle.cw_sound.proofs.Names.PartKinds.{IsData, IsPlain, is_data, data_say, uses_say, procs_in, within_it, inner_facts, first_mention, answers, params, body, shape, no_procs_before, part_procs}
+use Rattle.cw_sound.proofs.Names.PartKinds.{is_data, data_say, uses_say, procs_in, within_it, inner_facts, first_mention, answers, params, body, shape, no_procs_before, part_procs, data_not, plain_not}
 use Rattle.cw_sound.proofs.Calls.Names.Taken.{controls_listed, numbered_from, spec_at}
 use Rattle.cw_sound.proofs.Calls.Names.Controls.{Control, ControlOfKind, ControlOf, picked_of, all_controls}
 
@@ -89,41 +89,13 @@ module _ (named : Named) (numbers : Numbers) (u : SourceUnit) where
   from_control q n kind.LabelParam x c is e w h = (c, is, e ∙ ap (λ (y : Control). y.1) h, w)
   from_control q n kind.SwitchParam x c is e w h = (c, is, e ∙ ap (λ (y : Control). y.1) h, w)
   from_control q n (kind.ProcParam answer) x c is e w h = (h.0, (c, is, e ∙ ap (λ (y : Control). y.1) h.1, w), h.2)
-  from_control q n (kind.Single t) x c is e w h = absurd h
-  from_control q n (kind.Array t b) x c is e w h = absurd h
-  from_control q n (kind.Table s) x c is e w h = absurd h
-  from_control q n (kind.Element t y) x c is e w h = absurd h
-  from_control q n (kind.Value t) x c is e w h = absurd h
-  from_control q n (kind.Location t) x c is e w h = absurd h
-  from_control q n (kind.ArrayParam t) x c is e w h = absurd h
-  from_control q n (kind.TableParam s) x c is e w h = absurd h
-  from_control q n kind.Label x c is e w h = absurd h
-  from_control q n kind.Switch x c is e w h = absurd h
-  from_control q n (kind.Proc t) x c is e w h = absurd h
-  from_control q n kind.ReadByte x c is e w h = absurd h
-  from_control q n kind.WriteByte x c is e w h = absurd h
-  from_control q n kind.Bounds x c is e w h = absurd h
-  from_control q n (kind.Answer t) x c is e w h = absurd h
+  from_control q n _ x c is e w h = absurd h
 
   its_number : (k : NameKind) (t : ℕ) (x : Control) → ControlOfKind numbers named.signatures k t x → x.0 ≡ control_here numbers t
   its_number kind.LabelParam t x h = ap (λ (y : Control). y.0) h
   its_number kind.SwitchParam t x h = ap (λ (y : Control). y.0) h
   its_number (kind.ProcParam answer) t x h = ap (λ (y : Control). y.0) h.1
-  its_number (kind.Single y) t x h = absurd h
-  its_number (kind.Array y b) t x h = absurd h
-  its_number (kind.Table s) t x h = absurd h
-  its_number (kind.Element y e) t x h = absurd h
-  its_number (kind.Value y) t x h = absurd h
-  its_number (kind.Location y) t x h = absurd h
-  its_number (kind.ArrayParam y) t x h = absurd h
-  its_number (kind.TableParam s) t x h = absurd h
-  its_number kind.Label t x h = absurd h
-  its_number kind.Switch t x h = absurd h
-  its_number (kind.Proc y) t x h = absurd h
-  its_number kind.ReadByte t x h = absurd h
-  its_number kind.WriteByte t x h = absurd h
-  its_number kind.Bounds t x h = absurd h
-  its_number (kind.Answer y) t x h = absurd h
+  its_number _ t x h = absurd h
 
 -- ---- what declares no control parameter
 
@@ -132,16 +104,6 @@ data_kind kind.LabelParam h = absurd (cc)
 data_kind kind.SwitchParam h = absurd (cc)
 data_kind (kind.ProcParam t) h = absurd (cc)
 data_kind _ h = refl
-
-data_mention : (m : Mention) → IsData m → of_kind is_control m ≡ false
-data_mention (declared d) h = data_kind d.kind h
-data_mention (uses x) h = refl
-data_mention (stores token n) h = refl
-
-plain_mention : (m : Mention) → IsPlain m → of_kind is_control m ≡ false
-plain_mention (declared d) h = absurd (cc)
-plain_mention (uses x) h = refl
-plain_mention (stores token n) h = refl
 
 answer_quiet : (numbers : Numbers) (o : Option RawType) (q : Option ℕ) (m : Here) → In m (facts_mentions numbers (answer_facts o) q) → of_kind is_control m.mention ≡ false
 answer_quiet numbers None q m i = absurd i
@@ -335,8 +297,8 @@ module _ (named : Named) (numbers : Numbers) (u : SourceUnit) (placed : Placed n
         λ m i. either (in_either m f g (subst (In m) (mentions_append numbers fs gs q) i)) (x.0 m) (y.0 m),
         λ z i. either (in_either z ps qs i) (x.1 z) (y.1 z),
       )
-  in_part (plain {fs} h) q before after pb pa parted made count sub = (λ m i. quiet named numbers u m.who m.mention (plain_mention m.mention (h.mentions q m i).1), none_numbered)
-  in_part (data_items d) q before after pb pa parted made count sub = (λ m i. quiet named numbers u m.who m.mention (data_mention m.mention (data_say numbers d q m i).1), none_numbered)
+  in_part (plain {fs} h) q before after pb pa parted made count sub = (λ m i. quiet named numbers u m.who m.mention (plain_not is_control m.mention (h.mentions q m i).1), none_numbered)
+  in_part (data_items d) q before after pb pa parted made count sub = (λ m i. quiet named numbers u m.who m.mention (data_not is_control data_kind m.mention (data_say numbers d q m i).1), none_numbered)
   in_part (label n) q before after pb pa parted made count sub = (λ m i. by_side m (subst (In m) (declared_first numbers n kind.Label [] q) i), none_numbered)
     where
       by_side : (m : Here) → In m (here q (declared (record { name = n; kind = kind.Label })) ∷ []) → HereGoal named numbers u m
@@ -346,7 +308,7 @@ module _ (named : Named) (numbers : Numbers) (u : SourceUnit) (placed : Placed n
     where
       by_side : (m : Here) → In m (here q (declared (record { name = n; kind = kind.Switch })) ∷ facts_mentions numbers (each_uses labels) q) → HereGoal named numbers u m
       by_side m (inl e) = subst (HereGoal named numbers u) e tt
-      by_side m (inr j) = quiet named numbers u m.who m.mention (plain_mention m.mention (uses_say numbers labels q m j).1)
+      by_side m (inr j) = quiet named numbers u m.who m.mention (plain_not is_control m.mention (uses_say numbers labels q m j).1)
   in_part (block {fs} a) q before after pb pa parted made count sub =
       let x = in_part a q before after pb pa (parted ∙ ap (λ ms. before ++ (ms ++ after)) (block_alone numbers None fs q)) made count
       (subst (λ rs. Sub rs named.signatures) (append-nil (fact_signatures (fact.Block None fs)) ∙ signatures_block None fs) sub) in

@@ -33,13 +33,10 @@ use Rattle.cw_sound.proofs.Calls.Trees.Parts.{one_wanted, wanted}
 -- ---- what a specification says
 
 abbrev taken_layer : SpecParam-F SpecParam Spec → List (Option Spec)
-taken_layer (layer.Value s) = []
-taken_layer (layer.Location s) = []
-taken_layer (layer.Array s) = []
-taken_layer (layer.Table n) = []
 taken_layer layer.Label = None ∷ []
 taken_layer layer.Switch = None ∷ []
 taken_layer (layer.Proc s) = Some s ∷ []
+taken_layer _ = []
 
 abbrev taken_said : List SpecParam → List (Option Spec)
 taken_said [] = []

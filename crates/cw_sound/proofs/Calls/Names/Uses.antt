@@ -96,20 +96,7 @@ module _ (named : Named) (numbers : Numbers) (u : SourceUnit) (resolves : Resolv
           ap (λ o. parameter_in u o c.0) (sym (same_owner owner who c.3 near)) ∙ c.2,
           signature_here named numbers u n d (record { answer = answer; params = plain h.0 }) (signatures_differ named numbers u resolves placed counts made) r h.2,
         )
-    own_kind (kind.Single t) g h = tt
-    own_kind (kind.Array t b) g h = tt
-    own_kind (kind.Table s) g h = tt
-    own_kind (kind.Element t e) g h = tt
-    own_kind (kind.Value t) g h = tt
-    own_kind (kind.Location t) g h = tt
-    own_kind (kind.ArrayParam t) g h = tt
-    own_kind (kind.TableParam s) g h = tt
-    own_kind kind.Label g h = tt
-    own_kind kind.Switch g h = tt
-    own_kind kind.ReadByte g h = tt
-    own_kind kind.WriteByte g h = tt
-    own_kind kind.Bounds g h = tt
-    own_kind (kind.Answer t) g h = tt
+    own_kind _ g h = tt
 
   module _ (items : ItemsStand named numbers u) (is : numbers ≡ numbers_of named) (descs : u.descs ≡ descs_of numbers (listed_of named.raw.now) (text_things named named.raw.now) named.raw.now.comms) (found : UsesFound named numbers) where
     parted : text_mentions numbers named.raw.now ≡ listed_mentions numbers named.raw.now ++ block_mentions numbers named.raw.now

@@ -1,5 +1,5 @@
 -- The calls of statements fit, where those of their expressions do.
-use Rattle.std.proofs.Common.{◌≡◌, ℕ, List, [], ◌∷◌, ◌++◌, length, map, Bool, true, false, ◌==◌, Option, Some, refl, sym, subst, if◌then◌else◌}
+use Rattle.std.proofs.Common.{◌≡◌, ℕ, List, [], ◌∷◌, ◌++◌, length, map, Bool, true, false, ◌==◌, Option, refl, sym, subst, if◌then◌else◌, Some}
 use Rattle.cw_tree.specs.declared.leaf.Position.{Position}
 use Rattle.cw_tree.specs.declared.leaf.RawName.{RawName}
 use Rattle.cw_tree.specs.declared.expression.RawBits.{RawBits}
@@ -21,7 +21,6 @@ use Rattle.cw_scale.specs.TypeRules.{expression, condition, reference, call_faul
 use Rattle.cw_judge.specs.Operators.{few_operators, few_each, expression_operators, condition_operators, reference_operators}
 use Rattle.cw_judge.specs.Judged.{expression_judged, condition_judged, reference_judged, scale_of, felem_judged, felems_judged}
 use Rattle.cw_number.specs.declared.numbered.Numbered.{Numbered}
-use Rattle.cw_number.specs.declared.numbered.Numbered.TheVariants as numbered
 use Rattle.cw_make_expr.specs.Parts.{Numbers, number_of, item_here}
 use Rattle.cw_make_expr.specs.Made.{expression_made, expression_of, condition_of, reference_of, call_of}
 use Rattle.cw_make_stmt.specs.Made as made
@@ -40,6 +39,7 @@ use Rattle.cw_sound.proofs.Calls.Trees.Rules.{sounds_for}
 use Rattle.cw_sound.proofs.Calls.Trees.Arguments.{call_fits}
 use Rattle.cw_sound.proofs.Calls.Trees.Trees.{expression_is_right, condition_is_right, reference_is_right}
 use Rattle.cw_sound.proofs.Items.Keeping.{keeps_few, keeps_few_each}
+use Rattle.cw_number.specs.declared.numbered.Numbered.TheVariants as numbered
 
 abbrev statement_layer : Stmt-F Stmt → Calls
 statement_layer x = statement_step (map-Stmt Stmt Calls in_statement x)
@@ -49,14 +49,10 @@ statement_rolled = fold-roll-Stmt Calls statement_step
 
 no_calls_to : (number : Option Numbered) → in_jump (goal_of number) ≡ []
 no_calls_to (Some (numbered.Label l)) = refl
-no_calls_to (Some (numbered.CommonLabel d)) = refl
-no_calls_to (Some (numbered.Control c)) = refl
 no_calls_to _ = refl
 
 calls_of_switch : (number : Option Numbered) (e : Expr) → in_jump (switch_of number e) ≡ in_expression e
 calls_of_switch (Some (numbered.Switch s)) e = refl
-calls_of_switch (Some (numbered.CommonSwitch d)) e = refl
-calls_of_switch (Some (numbered.Control c)) e = refl
 calls_of_switch _ e = refl
 
 module _ (named : Named) (numbers : Numbers) (body : Context named numbers) where

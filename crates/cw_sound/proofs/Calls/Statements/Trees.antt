@@ -171,10 +171,8 @@ module _ (named : Named) (sites : List (Row Site)) (numbers : Numbers) (inside :
   first_right c bs h k b (inr i) = k b i
 
   declaration_rule : (y : DeclParts known) → DeclarationLayerRight (decl_layer known y)
-  declaration_rule (layer.Data d) who s free = none_right
-  declaration_rule (layer.Overlay at b d) who s free = none_right
-  declaration_rule (layer.Switch at n labels) who s free = none_right
   declaration_rule (layer.Proc p) who s free = p.1 who s free
+  declaration_rule _ who s free = none_right
 
   form_rule : (y : FormParts known) → FormLayerRight (form_layer known y)
   form_rule (layer.Simple x) who s free = x.1 who s free

@@ -64,11 +64,7 @@ module _ (named : Named) (numbers : Numbers) (body : Context named numbers) wher
     argument_keeps : (p : RawPs) → Keeps (argument_faults named p j)
     argument_keeps (ps.Plain (inner.Value at t)) = s.keeps (fraction_of t)
     argument_keeps (ps.Plain (inner.Location at t)) = s.keeps 0
-    argument_keeps (ps.Plain (inner.Array t)) = keeps_fine
-    argument_keeps (ps.Plain (inner.Table at z)) = keeps_fine
-    argument_keeps (ps.Plain (inner.Label at)) = keeps_fine
-    argument_keeps (ps.Plain (inner.Switch at)) = keeps_fine
-    argument_keeps (ps.Proc answer at params) = keeps_fine
+    argument_keeps _ = keeps_fine
 
     argument_given : (p : RawPs) → IsTrue (takes named p j.shape) → NoFault (argument_faults named p j) → Given (of_argument (argument_for p m)) (one_wanted p)
     argument_given (ps.Plain (inner.Value at t)) h free =

@@ -1,17 +1,17 @@
 -- What is known of each tree of an expression by its first layer: its judgement, the tree that is made of it, and its uses of names.
 use Rattle.std.proofs.Common.{◌≡◌, sym, subst}
-use Rattle.cw_tree.specs.declared.expression.RawExpr.{RawExpr, RawExpr-F, roll-RawExpr, map-RawExpr, fold-roll-RawExpr}
-use Rattle.cw_tree.specs.declared.expression.RawPrimary.{RawPrimary, roll-RawPrimary, map-RawPrimary, fold-roll-RawPrimary}
-use Rattle.cw_tree.specs.declared.expression.RawRef.{RawRef, roll-RawRef, map-RawRef, fold-roll-RawRef}
-use Rattle.cw_tree.specs.declared.expression.RawCand.{RawCand, roll-RawCand, map-RawCand, fold-roll-RawCand}
-use Rattle.cw_tree.specs.declared.expression.RawCmp.{RawCmp, roll-RawCmp, map-RawCmp, fold-roll-RawCmp}
-use Rattle.cw_tree.specs.declared.expression.RawCond.{RawCond, roll-RawCond, map-RawCond, fold-roll-RawCond}
-use Rattle.cw_tree.specs.declared.expression.RawDiffer.{RawDiffer, roll-RawDiffer, map-RawDiffer, fold-roll-RawDiffer}
-use Rattle.cw_tree.specs.declared.expression.RawMask.{RawMask, roll-RawMask, map-RawMask, fold-roll-RawMask}
-use Rattle.cw_tree.specs.declared.expression.RawPrim.{RawPrim, roll-RawPrim, map-RawPrim, fold-roll-RawPrim}
-use Rattle.cw_tree.specs.declared.expression.RawSum.{RawSum, roll-RawSum, map-RawSum, fold-roll-RawSum}
-use Rattle.cw_tree.specs.declared.expression.RawTerm.{RawTerm, roll-RawTerm, map-RawTerm, fold-roll-RawTerm}
-use Rattle.cw_tree.specs.declared.expression.RawUnion.{RawUnion, roll-RawUnion, map-RawUnion, fold-roll-RawUnion}
+use Rattle.cw_tree.specs.declared.expression.RawExpr.{RawExpr, RawExpr-F, roll-RawExpr, fold-roll-RawExpr}
+use Rattle.cw_tree.specs.declared.expression.RawPrimary.{RawPrimary, roll-RawPrimary, fold-roll-RawPrimary}
+use Rattle.cw_tree.specs.declared.expression.RawRef.{RawRef, roll-RawRef, fold-roll-RawRef}
+use Rattle.cw_tree.specs.declared.expression.RawCand.{RawCand, roll-RawCand, fold-roll-RawCand}
+use Rattle.cw_tree.specs.declared.expression.RawCmp.{RawCmp, roll-RawCmp, fold-roll-RawCmp}
+use Rattle.cw_tree.specs.declared.expression.RawCond.{RawCond, roll-RawCond, fold-roll-RawCond}
+use Rattle.cw_tree.specs.declared.expression.RawDiffer.{RawDiffer, roll-RawDiffer, fold-roll-RawDiffer}
+use Rattle.cw_tree.specs.declared.expression.RawMask.{RawMask, roll-RawMask, fold-roll-RawMask}
+use Rattle.cw_tree.specs.declared.expression.RawPrim.{RawPrim, roll-RawPrim, fold-roll-RawPrim}
+use Rattle.cw_tree.specs.declared.expression.RawSum.{RawSum, roll-RawSum, fold-roll-RawSum}
+use Rattle.cw_tree.specs.declared.expression.RawTerm.{RawTerm, roll-RawTerm, fold-roll-RawTerm}
+use Rattle.cw_tree.specs.declared.expression.RawUnion.{RawUnion, roll-RawUnion, fold-roll-RawUnion}
 use Rattle.cw_tree.specs.declared.expression.RawExpr.TheOpen.{RawPrimary-F, RawRef-F, RawCand-F, RawCmp-F, RawCond-F, RawDiffer-F, RawMask-F, RawPrim-F, RawSum-F, RawTerm-F, RawUnion-F}
 use Rattle.cw_facts.specs.Uses.{Uses}
 use Rattle.cw_facts.specs.Uses as uses
@@ -22,116 +22,8 @@ use Rattle.cw_make_expr.specs.Parts.{Numbers}
 use Rattle.cw_make_expr.specs.Made.{Made, Placed}
 use Rattle.cw_make_expr.specs.Made as made
 use Rattle.cw_unit.specs.declared.unit.Cond.{Cond}
+use Rattle.cw_sound.proofs.Expressions.Layers.{expression_judged_layer, expression_made_layer, expression_uses_layer, primary_judged_layer, primary_made_layer, primary_uses_layer, reference_judged_layer, reference_made_layer, reference_uses_layer, conjunction_judged_layer, conjunction_made_layer, conjunction_uses_layer, comparison_judged_layer, comparison_made_layer, comparison_uses_layer, condition_judged_layer, condition_made_layer, condition_uses_layer, differ_judged_layer, differ_made_layer, differ_uses_layer, mask_judged_layer, mask_made_layer, mask_uses_layer, prim_judged_layer, prim_made_layer, prim_uses_layer, sum_judged_layer, sum_made_layer, sum_uses_layer, term_judged_layer, term_made_layer, term_uses_layer, union_judged_layer, union_made_layer, union_uses_layer}
 use Rattle.cw_sound.proofs.Calls.Trees.Parts.{Context, Right, RightTest, RightPlace}
-
-module _ (named : Named) (numbers : Numbers) where
-  abbrev expression_judged_layer : RawExpr-F RawExpr RawPrimary RawRef RawCand RawCmp RawCond RawDiffer RawMask RawPrim RawSum RawTerm RawUnion → Judged
-  expression_judged_layer x = judged.expression_step named (map-RawExpr RawExpr RawPrimary RawRef RawCand RawCmp RawCond RawDiffer RawMask RawPrim RawSum RawTerm RawUnion Judged Judged Judged Judged Judged Judged Judged Judged Judged Judged Judged Judged (judged.expression named) (judged.primary named) (judged.reference named) (judged.conjunction named) (judged.comparison named) (judged.condition named) (judged.differ named) (judged.mask named) (judged.prim named) (judged.sum named) (judged.term named) (judged.union named) x)
-
-  abbrev expression_made_layer : RawExpr-F RawExpr RawPrimary RawRef RawCand RawCmp RawCond RawDiffer RawMask RawPrim RawSum RawTerm RawUnion → Made
-  expression_made_layer x = made.expression_step named numbers (map-RawExpr RawExpr RawPrimary RawRef RawCand RawCmp RawCond RawDiffer RawMask RawPrim RawSum RawTerm RawUnion Made Made Placed Cond Cond Cond Made Made Made Made Made Made (made.expression_made named numbers) (made.primary_made named numbers) (made.reference_made named numbers) (made.conjunction_made named numbers) (made.comparison_made named numbers) (made.condition_made named numbers) (made.differ_made named numbers) (made.mask_made named numbers) (made.prim_made named numbers) (made.sum_made named numbers) (made.term_made named numbers) (made.union_made named numbers) x)
-
-  abbrev expression_uses_layer : RawExpr-F RawExpr RawPrimary RawRef RawCand RawCmp RawCond RawDiffer RawMask RawPrim RawSum RawTerm RawUnion → Uses
-  expression_uses_layer x = uses.expression_step (map-RawExpr RawExpr RawPrimary RawRef RawCand RawCmp RawCond RawDiffer RawMask RawPrim RawSum RawTerm RawUnion Uses Uses Uses Uses Uses Uses Uses Uses Uses Uses Uses Uses uses.expression_uses uses.primary_uses uses.reference_uses uses.conjunction_uses uses.comparison_uses uses.condition_uses uses.differ_uses uses.mask_uses uses.prim_uses uses.sum_uses uses.term_uses uses.union_uses x)
-
-  abbrev primary_judged_layer : RawPrimary-F RawExpr RawPrimary RawRef RawCand RawCmp RawCond RawDiffer RawMask RawPrim RawSum RawTerm RawUnion → Judged
-  primary_judged_layer x = judged.primary_step named (map-RawPrimary RawExpr RawPrimary RawRef RawCand RawCmp RawCond RawDiffer RawMask RawPrim RawSum RawTerm RawUnion Judged Judged Judged Judged Judged Judged Judged Judged Judged Judged Judged Judged (judged.expression named) (judged.primary named) (judged.reference named) (judged.conjunction named) (judged.comparison named) (judged.condition named) (judged.differ named) (judged.mask named) (judged.prim named) (judged.sum named) (judged.term named) (judged.union named) x)
-
-  abbrev primary_made_layer : RawPrimary-F RawExpr RawPrimary RawRef RawCand RawCmp RawCond RawDiffer RawMask RawPrim RawSum RawTerm RawUnion → Made
-  primary_made_layer x = made.primary_step named numbers (map-RawPrimary RawExpr RawPrimary RawRef RawCand RawCmp RawCond RawDiffer RawMask RawPrim RawSum RawTerm RawUnion Made Made Placed Cond Cond Cond Made Made Made Made Made Made (made.expression_made named numbers) (made.primary_made named numbers) (made.reference_made named numbers) (made.conjunction_made named numbers) (made.comparison_made named numbers) (made.condition_made named numbers) (made.differ_made named numbers) (made.mask_made named numbers) (made.prim_made named numbers) (made.sum_made named numbers) (made.term_made named numbers) (made.union_made named numbers) x)
-
-  abbrev primary_uses_layer : RawPrimary-F RawExpr RawPrimary RawRef RawCand RawCmp RawCond RawDiffer RawMask RawPrim RawSum RawTerm RawUnion → Uses
-  primary_uses_layer x = uses.primary_step (map-RawPrimary RawExpr RawPrimary RawRef RawCand RawCmp RawCond RawDiffer RawMask RawPrim RawSum RawTerm RawUnion Uses Uses Uses Uses Uses Uses Uses Uses Uses Uses Uses Uses uses.expression_uses uses.primary_uses uses.reference_uses uses.conjunction_uses uses.comparison_uses uses.condition_uses uses.differ_uses uses.mask_uses uses.prim_uses uses.sum_uses uses.term_uses uses.union_uses x)
-
-  abbrev reference_judged_layer : RawRef-F RawExpr RawPrimary RawRef RawCand RawCmp RawCond RawDiffer RawMask RawPrim RawSum RawTerm RawUnion → Judged
-  reference_judged_layer x = judged.reference_step named (map-RawRef RawExpr RawPrimary RawRef RawCand RawCmp RawCond RawDiffer RawMask RawPrim RawSum RawTerm RawUnion Judged Judged Judged Judged Judged Judged Judged Judged Judged Judged Judged Judged (judged.expression named) (judged.primary named) (judged.reference named) (judged.conjunction named) (judged.comparison named) (judged.condition named) (judged.differ named) (judged.mask named) (judged.prim named) (judged.sum named) (judged.term named) (judged.union named) x)
-
-  abbrev reference_made_layer : RawRef-F RawExpr RawPrimary RawRef RawCand RawCmp RawCond RawDiffer RawMask RawPrim RawSum RawTerm RawUnion → Placed
-  reference_made_layer x = made.reference_step named numbers (map-RawRef RawExpr RawPrimary RawRef RawCand RawCmp RawCond RawDiffer RawMask RawPrim RawSum RawTerm RawUnion Made Made Placed Cond Cond Cond Made Made Made Made Made Made (made.expression_made named numbers) (made.primary_made named numbers) (made.reference_made named numbers) (made.conjunction_made named numbers) (made.comparison_made named numbers) (made.condition_made named numbers) (made.differ_made named numbers) (made.mask_made named numbers) (made.prim_made named numbers) (made.sum_made named numbers) (made.term_made named numbers) (made.union_made named numbers) x)
-
-  abbrev reference_uses_layer : RawRef-F RawExpr RawPrimary RawRef RawCand RawCmp RawCond RawDiffer RawMask RawPrim RawSum RawTerm RawUnion → Uses
-  reference_uses_layer x = uses.reference_step (map-RawRef RawExpr RawPrimary RawRef RawCand RawCmp RawCond RawDiffer RawMask RawPrim RawSum RawTerm RawUnion Uses Uses Uses Uses Uses Uses Uses Uses Uses Uses Uses Uses uses.expression_uses uses.primary_uses uses.reference_uses uses.conjunction_uses uses.comparison_uses uses.condition_uses uses.differ_uses uses.mask_uses uses.prim_uses uses.sum_uses uses.term_uses uses.union_uses x)
-
-  abbrev conjunction_judged_layer : RawCand-F RawExpr RawPrimary RawRef RawCand RawCmp RawCond RawDiffer RawMask RawPrim RawSum RawTerm RawUnion → Judged
-  conjunction_judged_layer x = judged.conjunction_step named (map-RawCand RawExpr RawPrimary RawRef RawCand RawCmp RawCond RawDiffer RawMask RawPrim RawSum RawTerm RawUnion Judged Judged Judged Judged Judged Judged Judged Judged Judged Judged Judged Judged (judged.expression named) (judged.primary named) (judged.reference named) (judged.conjunction named) (judged.comparison named) (judged.condition named) (judged.differ named) (judged.mask named) (judged.prim named) (judged.sum named) (judged.term named) (judged.union named) x)
-
-  abbrev conjunction_made_layer : RawCand-F RawExpr RawPrimary RawRef RawCand RawCmp RawCond RawDiffer RawMask RawPrim RawSum RawTerm RawUnion → Cond
-  conjunction_made_layer x = made.conjunction_step named numbers (map-RawCand RawExpr RawPrimary RawRef RawCand RawCmp RawCond RawDiffer RawMask RawPrim RawSum RawTerm RawUnion Made Made Placed Cond Cond Cond Made Made Made Made Made Made (made.expression_made named numbers) (made.primary_made named numbers) (made.reference_made named numbers) (made.conjunction_made named numbers) (made.comparison_made named numbers) (made.condition_made named numbers) (made.differ_made named numbers) (made.mask_made named numbers) (made.prim_made named numbers) (made.sum_made named numbers) (made.term_made named numbers) (made.union_made named numbers) x)
-
-  abbrev conjunction_uses_layer : RawCand-F RawExpr RawPrimary RawRef RawCand RawCmp RawCond RawDiffer RawMask RawPrim RawSum RawTerm RawUnion → Uses
-  conjunction_uses_layer x = uses.conjunction_step (map-RawCand RawExpr RawPrimary RawRef RawCand RawCmp RawCond RawDiffer RawMask RawPrim RawSum RawTerm RawUnion Uses Uses Uses Uses Uses Uses Uses Uses Uses Uses Uses Uses uses.expression_uses uses.primary_uses uses.reference_uses uses.conjunction_uses uses.comparison_uses uses.condition_uses uses.differ_uses uses.mask_uses uses.prim_uses uses.sum_uses uses.term_uses uses.union_uses x)
-
-  abbrev comparison_judged_layer : RawCmp-F RawExpr RawPrimary RawRef RawCand RawCmp RawCond RawDiffer RawMask RawPrim RawSum RawTerm RawUnion → Judged
-  comparison_judged_layer x = judged.comparison_step named (map-RawCmp RawExpr RawPrimary RawRef RawCand RawCmp RawCond RawDiffer RawMask RawPrim RawSum RawTerm RawUnion Judged Judged Judged Judged Judged Judged Judged Judged Judged Judged Judged Judged (judged.expression named) (judged.primary named) (judged.reference named) (judged.conjunction named) (judged.comparison named) (judged.condition named) (judged.differ named) (judged.mask named) (judged.prim named) (judged.sum named) (judged.term named) (judged.union named) x)
-
-  abbrev comparison_made_layer : RawCmp-F RawExpr RawPrimary RawRef RawCand RawCmp RawCond RawDiffer RawMask RawPrim RawSum RawTerm RawUnion → Cond
-  comparison_made_layer x = made.comparison_step named numbers (map-RawCmp RawExpr RawPrimary RawRef RawCand RawCmp RawCond RawDiffer RawMask RawPrim RawSum RawTerm RawUnion Made Made Placed Cond Cond Cond Made Made Made Made Made Made (made.expression_made named numbers) (made.primary_made named numbers) (made.reference_made named numbers) (made.conjunction_made named numbers) (made.comparison_made named numbers) (made.condition_made named numbers) (made.differ_made named numbers) (made.mask_made named numbers) (made.prim_made named numbers) (made.sum_made named numbers) (made.term_made named numbers) (made.union_made named numbers) x)
-
-  abbrev comparison_uses_layer : RawCmp-F RawExpr RawPrimary RawRef RawCand RawCmp RawCond RawDiffer RawMask RawPrim RawSum RawTerm RawUnion → Uses
-  comparison_uses_layer x = uses.comparison_step (map-RawCmp RawExpr RawPrimary RawRef RawCand RawCmp RawCond RawDiffer RawMask RawPrim RawSum RawTerm RawUnion Uses Uses Uses Uses Uses Uses Uses Uses Uses Uses Uses Uses uses.expression_uses uses.primary_uses uses.reference_uses uses.conjunction_uses uses.comparison_uses uses.condition_uses uses.differ_uses uses.mask_uses uses.prim_uses uses.sum_uses uses.term_uses uses.union_uses x)
-
-  abbrev condition_judged_layer : RawCond-F RawExpr RawPrimary RawRef RawCand RawCmp RawCond RawDiffer RawMask RawPrim RawSum RawTerm RawUnion → Judged
-  condition_judged_layer x = judged.condition_step named (map-RawCond RawExpr RawPrimary RawRef RawCand RawCmp RawCond RawDiffer RawMask RawPrim RawSum RawTerm RawUnion Judged Judged Judged Judged Judged Judged Judged Judged Judged Judged Judged Judged (judged.expression named) (judged.primary named) (judged.reference named) (judged.conjunction named) (judged.comparison named) (judged.condition named) (judged.differ named) (judged.mask named) (judged.prim named) (judged.sum named) (judged.term named) (judged.union named) x)
-
-  abbrev condition_made_layer : RawCond-F RawExpr RawPrimary RawRef RawCand RawCmp RawCond RawDiffer RawMask RawPrim RawSum RawTerm RawUnion → Cond
-  condition_made_layer x = made.condition_step named numbers (map-RawCond RawExpr RawPrimary RawRef RawCand RawCmp RawCond RawDiffer RawMask RawPrim RawSum RawTerm RawUnion Made Made Placed Cond Cond Cond Made Made Made Made Made Made (made.expression_made named numbers) (made.primary_made named numbers) (made.reference_made named numbers) (made.conjunction_made named numbers) (made.comparison_made named numbers) (made.condition_made named numbers) (made.differ_made named numbers) (made.mask_made named numbers) (made.prim_made named numbers) (made.sum_made named numbers) (made.term_made named numbers) (made.union_made named numbers) x)
-
-  abbrev condition_uses_layer : RawCond-F RawExpr RawPrimary RawRef RawCand RawCmp RawCond RawDiffer RawMask RawPrim RawSum RawTerm RawUnion → Uses
-  condition_uses_layer x = uses.condition_step (map-RawCond RawExpr RawPrimary RawRef RawCand RawCmp RawCond RawDiffer RawMask RawPrim RawSum RawTerm RawUnion Uses Uses Uses Uses Uses Uses Uses Uses Uses Uses Uses Uses uses.expression_uses uses.primary_uses uses.reference_uses uses.conjunction_uses uses.comparison_uses uses.condition_uses uses.differ_uses uses.mask_uses uses.prim_uses uses.sum_uses uses.term_uses uses.union_uses x)
-
-  abbrev differ_judged_layer : RawDiffer-F RawExpr RawPrimary RawRef RawCand RawCmp RawCond RawDiffer RawMask RawPrim RawSum RawTerm RawUnion → Judged
-  differ_judged_layer x = judged.differ_step named (map-RawDiffer RawExpr RawPrimary RawRef RawCand RawCmp RawCond RawDiffer RawMask RawPrim RawSum RawTerm RawUnion Judged Judged Judged Judged Judged Judged Judged Judged Judged Judged Judged Judged (judged.expression named) (judged.primary named) (judged.reference named) (judged.conjunction named) (judged.comparison named) (judged.condition named) (judged.differ named) (judged.mask named) (judged.prim named) (judged.sum named) (judged.term named) (judged.union named) x)
-
-  abbrev differ_made_layer : RawDiffer-F RawExpr RawPrimary RawRef RawCand RawCmp RawCond RawDiffer RawMask RawPrim RawSum RawTerm RawUnion → Made
-  differ_made_layer x = made.differ_step named numbers (map-RawDiffer RawExpr RawPrimary RawRef RawCand RawCmp RawCond RawDiffer RawMask RawPrim RawSum RawTerm RawUnion Made Made Placed Cond Cond Cond Made Made Made Made Made Made (made.expression_made named numbers) (made.primary_made named numbers) (made.reference_made named numbers) (made.conjunction_made named numbers) (made.comparison_made named numbers) (made.condition_made named numbers) (made.differ_made named numbers) (made.mask_made named numbers) (made.prim_made named numbers) (made.sum_made named numbers) (made.term_made named numbers) (made.union_made named numbers) x)
-
-  abbrev differ_uses_layer : RawDiffer-F RawExpr RawPrimary RawRef RawCand RawCmp RawCond RawDiffer RawMask RawPrim RawSum RawTerm RawUnion → Uses
-  differ_uses_layer x = uses.differ_step (map-RawDiffer RawExpr RawPrimary RawRef RawCand RawCmp RawCond RawDiffer RawMask RawPrim RawSum RawTerm RawUnion Uses Uses Uses Uses Uses Uses Uses Uses Uses Uses Uses Uses uses.expression_uses uses.primary_uses uses.reference_uses uses.conjunction_uses uses.comparison_uses uses.condition_uses uses.differ_uses uses.mask_uses uses.prim_uses uses.sum_uses uses.term_uses uses.union_uses x)
-
-  abbrev mask_judged_layer : RawMask-F RawExpr RawPrimary RawRef RawCand RawCmp RawCond RawDiffer RawMask RawPrim RawSum RawTerm RawUnion → Judged
-  mask_judged_layer x = judged.mask_step named (map-RawMask RawExpr RawPrimary RawRef RawCand RawCmp RawCond RawDiffer RawMask RawPrim RawSum RawTerm RawUnion Judged Judged Judged Judged Judged Judged Judged Judged Judged Judged Judged Judged (judged.expression named) (judged.primary named) (judged.reference named) (judged.conjunction named) (judged.comparison named) (judged.condition named) (judged.differ named) (judged.mask named) (judged.prim named) (judged.sum named) (judged.term named) (judged.union named) x)
-
-  abbrev mask_made_layer : RawMask-F RawExpr RawPrimary RawRef RawCand RawCmp RawCond RawDiffer RawMask RawPrim RawSum RawTerm RawUnion → Made
-  mask_made_layer x = made.mask_step named numbers (map-RawMask RawExpr RawPrimary RawRef RawCand RawCmp RawCond RawDiffer RawMask RawPrim RawSum RawTerm RawUnion Made Made Placed Cond Cond Cond Made Made Made Made Made Made (made.expression_made named numbers) (made.primary_made named numbers) (made.reference_made named numbers) (made.conjunction_made named numbers) (made.comparison_made named numbers) (made.condition_made named numbers) (made.differ_made named numbers) (made.mask_made named numbers) (made.prim_made named numbers) (made.sum_made named numbers) (made.term_made named numbers) (made.union_made named numbers) x)
-
-  abbrev mask_uses_layer : RawMask-F RawExpr RawPrimary RawRef RawCand RawCmp RawCond RawDiffer RawMask RawPrim RawSum RawTerm RawUnion → Uses
-  mask_uses_layer x = uses.mask_step (map-RawMask RawExpr RawPrimary RawRef RawCand RawCmp RawCond RawDiffer RawMask RawPrim RawSum RawTerm RawUnion Uses Uses Uses Uses Uses Uses Uses Uses Uses Uses Uses Uses uses.expression_uses uses.primary_uses uses.reference_uses uses.conjunction_uses uses.comparison_uses uses.condition_uses uses.differ_uses uses.mask_uses uses.prim_uses uses.sum_uses uses.term_uses uses.union_uses x)
-
-  abbrev prim_judged_layer : RawPrim-F RawExpr RawPrimary RawRef RawCand RawCmp RawCond RawDiffer RawMask RawPrim RawSum RawTerm RawUnion → Judged
-  prim_judged_layer x = judged.prim_step named (map-RawPrim RawExpr RawPrimary RawRef RawCand RawCmp RawCond RawDiffer RawMask RawPrim RawSum RawTerm RawUnion Judged Judged Judged Judged Judged Judged Judged Judged Judged Judged Judged Judged (judged.expression named) (judged.primary named) (judged.reference named) (judged.conjunction named) (judged.comparison named) (judged.condition named) (judged.differ named) (judged.mask named) (judged.prim named) (judged.sum named) (judged.term named) (judged.union named) x)
-
-  abbrev prim_made_layer : RawPrim-F RawExpr RawPrimary RawRef RawCand RawCmp RawCond RawDiffer RawMask RawPrim RawSum RawTerm RawUnion → Made
-  prim_made_layer x = made.prim_step named numbers (map-RawPrim RawExpr RawPrimary RawRef RawCand RawCmp RawCond RawDiffer RawMask RawPrim RawSum RawTerm RawUnion Made Made Placed Cond Cond Cond Made Made Made Made Made Made (made.expression_made named numbers) (made.primary_made named numbers) (made.reference_made named numbers) (made.conjunction_made named numbers) (made.comparison_made named numbers) (made.condition_made named numbers) (made.differ_made named numbers) (made.mask_made named numbers) (made.prim_made named numbers) (made.sum_made named numbers) (made.term_made named numbers) (made.union_made named numbers) x)
-
-  abbrev prim_uses_layer : RawPrim-F RawExpr RawPrimary RawRef RawCand RawCmp RawCond RawDiffer RawMask RawPrim RawSum RawTerm RawUnion → Uses
-  prim_uses_layer x = uses.prim_step (map-RawPrim RawExpr RawPrimary RawRef RawCand RawCmp RawCond RawDiffer RawMask RawPrim RawSum RawTerm RawUnion Uses Uses Uses Uses Uses Uses Uses Uses Uses Uses Uses Uses uses.expression_uses uses.primary_uses uses.reference_uses uses.conjunction_uses uses.comparison_uses uses.condition_uses uses.differ_uses uses.mask_uses uses.prim_uses uses.sum_uses uses.term_uses uses.union_uses x)
-
-  abbrev sum_judged_layer : RawSum-F RawExpr RawPrimary RawRef RawCand RawCmp RawCond RawDiffer RawMask RawPrim RawSum RawTerm RawUnion → Judged
-  sum_judged_layer x = judged.sum_step named (map-RawSum RawExpr RawPrimary RawRef RawCand RawCmp RawCond RawDiffer RawMask RawPrim RawSum RawTerm RawUnion Judged Judged Judged Judged Judged Judged Judged Judged Judged Judged Judged Judged (judged.expression named) (judged.primary named) (judged.reference named) (judged.conjunction named) (judged.comparison named) (judged.condition named) (judged.differ named) (judged.mask named) (judged.prim named) (judged.sum named) (judged.term named) (judged.union named) x)
-
-  abbrev sum_made_layer : RawSum-F RawExpr RawPrimary RawRef RawCand RawCmp RawCond RawDiffer RawMask RawPrim RawSum RawTerm RawUnion → Made
-  sum_made_layer x = made.sum_step named numbers (map-RawSum RawExpr RawPrimary RawRef RawCand RawCmp RawCond RawDiffer RawMask RawPrim RawSum RawTerm RawUnion Made Made Placed Cond Cond Cond Made Made Made Made Made Made (made.expression_made named numbers) (made.primary_made named numbers) (made.reference_made named numbers) (made.conjunction_made named numbers) (made.comparison_made named numbers) (made.condition_made named numbers) (made.differ_made named numbers) (made.mask_made named numbers) (made.prim_made named numbers) (made.sum_made named numbers) (made.term_made named numbers) (made.union_made named numbers) x)
-
-  abbrev sum_uses_layer : RawSum-F RawExpr RawPrimary RawRef RawCand RawCmp RawCond RawDiffer RawMask RawPrim RawSum RawTerm RawUnion → Uses
-  sum_uses_layer x = uses.sum_step (map-RawSum RawExpr RawPrimary RawRef RawCand RawCmp RawCond RawDiffer RawMask RawPrim RawSum RawTerm RawUnion Uses Uses Uses Uses Uses Uses Uses Uses Uses Uses Uses Uses uses.expression_uses uses.primary_uses uses.reference_uses uses.conjunction_uses uses.comparison_uses uses.condition_uses uses.differ_uses uses.mask_uses uses.prim_uses uses.sum_uses uses.term_uses uses.union_uses x)
-
-  abbrev term_judged_layer : RawTerm-F RawExpr RawPrimary RawRef RawCand RawCmp RawCond RawDiffer RawMask RawPrim RawSum RawTerm RawUnion → Judged
-  term_judged_layer x = judged.term_step named (map-RawTerm RawExpr RawPrimary RawRef RawCand RawCmp RawCond RawDiffer RawMask RawPrim RawSum RawTerm RawUnion Judged Judged Judged Judged Judged Judged Judged Judged Judged Judged Judged Judged (judged.expression named) (judged.primary named) (judged.reference named) (judged.conjunction named) (judged.comparison named) (judged.condition named) (judged.differ named) (judged.mask named) (judged.prim named) (judged.sum named) (judged.term named) (judged.union named) x)
-
-  abbrev term_made_layer : RawTerm-F RawExpr RawPrimary RawRef RawCand RawCmp RawCond RawDiffer RawMask RawPrim RawSum RawTerm RawUnion → Made
-  term_made_layer x = made.term_step named numbers (map-RawTerm RawExpr RawPrimary RawRef RawCand RawCmp RawCond RawDiffer RawMask RawPrim RawSum RawTerm RawUnion Made Made Placed Cond Cond Cond Made Made Made Made Made Made (made.expression_made named numbers) (made.primary_made named numbers) (made.reference_made named numbers) (made.conjunction_made named numbers) (made.comparison_made named numbers) (made.condition_made named numbers) (made.differ_made named numbers) (made.mask_made named numbers) (made.prim_made named numbers) (made.sum_made named numbers) (made.term_made named numbers) (made.union_made named numbers) x)
-
-  abbrev term_uses_layer : RawTerm-F RawExpr RawPrimary RawRef RawCand RawCmp RawCond RawDiffer RawMask RawPrim RawSum RawTerm RawUnion → Uses
-  term_uses_layer x = uses.term_step (map-RawTerm RawExpr RawPrimary RawRef RawCand RawCmp RawCond RawDiffer RawMask RawPrim RawSum RawTerm RawUnion Uses Uses Uses Uses Uses Uses Uses Uses Uses Uses Uses Uses uses.expression_uses uses.primary_uses uses.reference_uses uses.conjunction_uses uses.comparison_uses uses.condition_uses uses.differ_uses uses.mask_uses uses.prim_uses uses.sum_uses uses.term_uses uses.union_uses x)
-
-  abbrev union_judged_layer : RawUnion-F RawExpr RawPrimary RawRef RawCand RawCmp RawCond RawDiffer RawMask RawPrim RawSum RawTerm RawUnion → Judged
-  union_judged_layer x = judged.union_step named (map-RawUnion RawExpr RawPrimary RawRef RawCand RawCmp RawCond RawDiffer RawMask RawPrim RawSum RawTerm RawUnion Judged Judged Judged Judged Judged Judged Judged Judged Judged Judged Judged Judged (judged.expression named) (judged.primary named) (judged.reference named) (judged.conjunction named) (judged.comparison named) (judged.condition named) (judged.differ named) (judged.mask named) (judged.prim named) (judged.sum named) (judged.term named) (judged.union named) x)
-
-  abbrev union_made_layer : RawUnion-F RawExpr RawPrimary RawRef RawCand RawCmp RawCond RawDiffer RawMask RawPrim RawSum RawTerm RawUnion → Made
-  union_made_layer x = made.union_step named numbers (map-RawUnion RawExpr RawPrimary RawRef RawCand RawCmp RawCond RawDiffer RawMask RawPrim RawSum RawTerm RawUnion Made Made Placed Cond Cond Cond Made Made Made Made Made Made (made.expression_made named numbers) (made.primary_made named numbers) (made.reference_made named numbers) (made.conjunction_made named numbers) (made.comparison_made named numbers) (made.condition_made named numbers) (made.differ_made named numbers) (made.mask_made named numbers) (made.prim_made named numbers) (made.sum_made named numbers) (made.term_made named numbers) (made.union_made named numbers) x)
-
-  abbrev union_uses_layer : RawUnion-F RawExpr RawPrimary RawRef RawCand RawCmp RawCond RawDiffer RawMask RawPrim RawSum RawTerm RawUnion → Uses
-  union_uses_layer x = uses.union_step (map-RawUnion RawExpr RawPrimary RawRef RawCand RawCmp RawCond RawDiffer RawMask RawPrim RawSum RawTerm RawUnion Uses Uses Uses Uses Uses Uses Uses Uses Uses Uses Uses Uses uses.expression_uses uses.primary_uses uses.reference_uses uses.conjunction_uses uses.comparison_uses uses.condition_uses uses.differ_uses uses.mask_uses uses.prim_uses uses.sum_uses uses.term_uses uses.union_uses x)
 
 module _ (named : Named) (numbers : Numbers) (body : Context named numbers) where
   right_at : {j k : Judged} {m n : Made} {x y : Uses} → k ≡ j → n ≡ m → y ≡ x → Right named numbers body j m x → Right named numbers body k n y

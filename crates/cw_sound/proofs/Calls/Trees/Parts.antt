@@ -27,12 +27,9 @@ use Rattle.cw_sound.proofs.Expressions.Judging.{Keeps, NoFault}
 -- ---- what parameters take that is no word
 
 abbrev pub plain_wanted : RawIps → List (Option Spec)
-plain_wanted (inner.Value at t) = []
-plain_wanted (inner.Location at t) = []
-plain_wanted (inner.Array t) = []
-plain_wanted (inner.Table at s) = []
 plain_wanted (inner.Label at) = None ∷ []
 plain_wanted (inner.Switch at) = None ∷ []
+plain_wanted _ = []
 
 abbrev pub one_wanted : RawPs → List (Option Spec)
 one_wanted (ps.Plain p) = plain_wanted p

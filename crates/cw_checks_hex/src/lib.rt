@@ -1,7 +1,0 @@
-//! Checks of HEX texts: written texts, texts with the processor that they tell, and texts with their first fault, all by hand from the form.
-#![tactic(auto)]
-
-#[cfg(test)]
-mod read;
-#[cfg(test)]
-mod written;

@@ -1,6 +1,0 @@
-use Rattle.std.proofs.Common.{All}
-use Rattle.cw_link.specs.Views.{IsOpened}
-use Rattle.cw_checks_lists.proofs.lists.views_of.Given as goal
-
-abbrev pub invariant-loop-object : goal.invariant-loop-object
-invariant-loop-object l = All IsOpened l.views

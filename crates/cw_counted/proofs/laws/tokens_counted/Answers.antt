@@ -1,6 +1,0 @@
--- What is derived counts no more than its tokens.
-use Rattle.cw_counted.proofs.Counted.{counted}
-use Rattle.cw_counted.proofs.laws.tokens_counted.Goals as goal
-
-pub returns : goal.returns
-returns c n ts raw d = counted n ts raw d

@@ -1,4 +1,0 @@
-//! What a text's tree says of the number of its tokens.
-#![tactic(auto)]
-
-pub mod laws;

@@ -1,4 +1,0 @@
-//! Statements that open no block from left to right, and statements put together from their parts.
-#![tactic(auto)]
-
-pub mod simple;

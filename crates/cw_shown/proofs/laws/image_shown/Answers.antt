@@ -1,5 +1,0 @@
-use Rattle.cw_shown.proofs.Images.{image_shown}
-use Rattle.cw_shown.proofs.laws.image_shown.Goals as goal
-
-pub returns : goal.returns
-returns c = image_shown c.program_shown.ensures.text
