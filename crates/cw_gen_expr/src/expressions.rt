@@ -128,6 +128,15 @@ fn order_of_two(
     }
 }
 
+/// Adds an item's address below its index, and the order that takes both.
+fn emit_row(out: &mut Output, base: Order, last: Order) -> Result<(), NoMemory>
+    ensures { OnOk result (made out.new ≡ added (plain (order.Save ∷ base ∷ last ∷ [])) (made out.old)) }
+{
+    out.push(Order::Save)?;
+    out.push(base)?;
+    out.push(last)
+}
+
 /// Adds the orders that make an address of a reference's indexes, which have been compared with their bounds or not.
 fn emit_form(
     out: &mut Output,
@@ -155,13 +164,17 @@ fn emit_form(
             })
         }
         Spot::Two(i, lower, upper, second, last, width, _, _) => {
-            out.push(Order::Save)?;
-            out.push(item(layout, *i, 0))?;
-            let words = span(layout, *i);
             let order = order_of_two(
-                compared, *lower, *upper, *second, *last, *width, words, line,
+                compared,
+                *lower,
+                *upper,
+                *second,
+                *last,
+                *width,
+                span(layout, *i),
+                line,
             );
-            out.push(order)
+            emit_row(out, item(layout, *i, 0), order)
         }
         Spot::ParamArray(i, _) => {
             out.push(Order::Save)?;

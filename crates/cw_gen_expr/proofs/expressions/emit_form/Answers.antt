@@ -1,35 +1,14 @@
 -- Each order behind the one before it.
-use Rattle.std.proofs.Common.{rules, ◌≡◌, ℕ, pos, [], ◌∷◌, ◌++◌, sym, ap, ◌∙◌}
+use Rattle.std.proofs.Common.{pos, [], ◌∷◌, ◌++◌, sym, ap, ◌∙◌}
 use Rattle.std.proofs.lemmas.Result.{on_ok_weaker}
 use Rattle.cw_unit.specs.declared.unit.Spot.{out-Spot, out-roll-Spot}
 use Rattle.cw_unit.specs.declared.unit.Spot.TheVariants as spots
 use Rattle.cw_unit.specs.declared.unit.Arg.TheOpen as layer
-use Rattle.cw_order.specs.declared.order.Order.{Order}
 use Rattle.cw_order.specs.declared.order.Order.TheVariants as order
-use Rattle.cw_gen_expr.specs.Pieces.{plain}
-use Rattle.cw_gen_expr.specs.Output.{made, added}
-use Rattle.cw_gen_expr.specs.ReferenceExpressions.{table_orders, item_span, row_order}
-use Rattle.cw_gen_expr.specs.KnownValues.{all_inside}
+use Rattle.cw_gen_expr.specs.Output.{made}
+use Rattle.cw_gen_expr.specs.ReferenceExpressions.{table_orders}
 use Rattle.cw_gen_expr.proofs.Making.{plain_steps}
 use Rattle.cw_gen_expr.proofs.expressions.emit_form.Goals as goal
-
-pub returns-in_ok-push-in-Two-2 : goal.returns-in_ok-push-in-Two-2
-returns-in_ok-push-in-Two-2 c =
-    let x = made c.args.out.now in
-    let x1 = made c.push-in-Two.new.self in
-    let x2 = made c.push-in-Two-2.new.self in
-    let x3 = made c.push-in-Two-3.new.self in
-    let row : ℕ → Order = λ span. row_order (all_inside c.args.compared span c.in-Two.lower c.in-Two.upper c.in-Two.second c.in-Two.last c.in-Two.width) c.in-Two.lower c.in-Two.second c.in-Two.width span c.args.line in
-    let last = row (item_span c.args.layout.now c.in-Two.i) in
-    let by_span : c.order_of_two-order.result ≡ row c.span-words.result = search rules in
-    let is_span : c.span-words.result ≡ item_span c.args.layout.now c.in-Two.i = search rules in
-    on_ok_weaker c.push-in-Two-3.result
-    (λ h.
-    rw (ap out-Spot (c.in-Two.is ∙ sym (spots.rolls-Two c.in-Two.i c.in-Two.lower c.in-Two.upper c.in-Two.second c.in-Two.last c.in-Two.width c.in-Two.field-6 c.in-Two.field-7)) ∙ out-roll-Spot (layer.Two c.in-Two.i c.in-Two.lower c.in-Two.upper c.in-Two.second c.in-Two.last c.in-Two.width c.in-Two.field-6 c.in-Two.field-7), ← c.item-in-Two.ensures)
-    (plain_steps (order.Save ∷ []) (c.item-in-Two.result ∷ last ∷ []) x x1 x3 c.in_ok-push-in-Two.ensures
-    (plain_steps (c.item-in-Two.result ∷ []) (last ∷ []) x1 x2 x3 c.in_ok-push-in-Two-2.ensures
-    (h ∙ ap (λ o. added (plain (o ∷ [])) x2) (by_span ∙ ap row is_span)))))
-    c.push-in-Two-3.ensures
 
 pub returns-in_ok-push-in-ParamArray-3 : goal.returns-in_ok-push-in-ParamArray-3
 returns-in_ok-push-in-ParamArray-3 c =
