@@ -108,7 +108,7 @@ judge_factors-returns-else-i-signs t c =
 
 pub judge_prim-returns-in-empty : goal.judge_prim-returns-in-empty
 judge_prim-returns-in-empty t c =
-    c.judge_primary.ensures ∙ ap (λ p. (primary c.args.named.now p).faults c.args.scale c.args.first.now) c.get.ensures
+    c.judge_primary.ensures
     ∙ ap (λ j. j.faults c.args.scale c.args.first.now) (sym (prim_alone (prim c.args.named.now c.args.e.now) (primary c.args.named.now (out-RawPrim c.args.e.now).primary) (out-RawPrim c.args.e.now).bits c.as_slice.result.now
     (prim-layer c.args.named.now c.args.e.now) c.as_slice.ensures c.in-empty.len_below))
 
@@ -117,8 +117,7 @@ judge_prim-returns-in_default t c =
     prim_within (prim c.args.named.now c.args.e.now) (primary c.args.named.now (out-RawPrim c.args.e.now).primary) (out-RawPrim c.args.e.now).bits c.as_slice.result.now c.args.scale c.primary_shape-shape.result
     c.args.first.now c.judge_each_bits.new.first c.judge_primary-in_default.new.first
     (prim-layer c.args.named.now c.args.e.now) c.as_slice.ensures c.in_default.len_at_least c.judge_each_bits.ensures
-    (c.primary_shape-shape.ensures ∙ ap (λ p. (primary c.args.named.now p).shape) c.get-in_default.ensures)
-    (c.judge_primary-in_default.ensures ∙ ap (λ p. (primary c.args.named.now p).faults c.primary_shape-shape.result.operand c.judge_each_bits.new.first) c.get-in_default-2.ensures)
+    c.primary_shape-shape.ensures c.judge_primary-in_default.ensures
 
 pub judge_arguments-returns : goal.judge_arguments-returns
 judge_arguments-returns t c =
