@@ -107,8 +107,8 @@ pub prim_strings-returns : goal.prim_strings-returns
 prim_strings-returns t c = λ r.
     let s = (of_prim c.args.e.now r).0 in
     on_ok_weaker c.primary_strings.result
-    (λ added. passed_on c.args.owner.now (prim_uses c.args.e.now r) (primary_uses (out-RawPrim c.args.e.now).primary s) (primary_uses c.get.result.now s) c.args.out.now c.primary_strings.new.out
-    added (ap (λ (x : RawPrimary). primary_uses x s) c.get.ensures) (of_prim c.args.e.now r).1)
+    (λ added. passed_on c.args.owner.now (prim_uses c.args.e.now r) (primary_uses (out-RawPrim c.args.e.now).primary s) (primary_uses (out-RawPrim c.args.e.now).primary s) c.args.out.now c.primary_strings.new.out
+    added refl (of_prim c.args.e.now r).1)
     (c.primary_strings.ensures s)
 
 pub expression_strings-returns-in_ok-expression_strings-in-Choice : goal.expression_strings-returns-in_ok-expression_strings-in-Choice
@@ -168,8 +168,8 @@ primary_strings-returns-in-Bracket t c = λ r.
 pub primary_strings-returns-in-Ref : goal.primary_strings-returns-in-Ref
 primary_strings-returns-in-Ref t c = λ r.
     on_ok_weaker c.reference_strings-in-Ref.result
-    (λ added. passed_on c.args.owner.now (primary_uses c.args.e.now r) (reference_uses c.in-Ref.reference r) (reference_uses c.get-in-Ref.result.now r) c.args.out.now c.reference_strings-in-Ref.new.out
-    added (ap (λ (x : RawRef). reference_uses x r) c.get-in-Ref.ensures) (ap (λ (x : RawPrimary). primary_uses x r) c.in-Ref.is ∙ of_ref c.in-Ref.reference r))
+    (λ added. passed_on c.args.owner.now (primary_uses c.args.e.now r) (reference_uses c.in-Ref.reference r) (reference_uses c.in-Ref.reference r) c.args.out.now c.reference_strings-in-Ref.new.out
+    added refl (ap (λ (x : RawPrimary). primary_uses x r) c.in-Ref.is ∙ of_ref c.in-Ref.reference r))
     (c.reference_strings-in-Ref.ensures r)
 
 pub primary_strings-returns-in-Call : goal.primary_strings-returns-in-Call
