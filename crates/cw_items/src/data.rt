@@ -1,5 +1,5 @@
 //! Declared things.
-ghost use Rattle.std.specs.Prelude.{◌≡◌, ◌+◌, ◌*◌, ◌++◌, ◌∷◌, [], OnOk};
+ghost use Rattle.std.specs.Prelude.{◌≡◌, ◌+◌, ◌*◌, ◌++◌, ◌∷◌, [], OnOk, option_copied};
 ghost use Rattle.cw_table.specs.Rows.{item_at};
 ghost use Rattle.cw_items.specs.Things.{capped, thing, steps_to, array_word, table_word, word_of_base};
 ghost use Rattle.cw_items.specs.Things.{base_at, amount_or_none, moved, moved_past, named_things};
