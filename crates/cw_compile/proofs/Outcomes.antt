@@ -31,7 +31,7 @@ use Rattle.cw_compile.specs.Outcomes.{HasOneUnit, HasOneRefusal, HasNotBoth, Has
 use Rattle.cw_compile.proofs.Few.{few_tokens}
 use Rattle.cw_compile.proofs.Counted.{counted}
 use Rattle.cw_compile.proofs.Faults as syntax
-use Rattle.cw_compile.proofs.Places.{named_at, unit_anywhere, unit_tokens, types_anywhere, placed}
+use Rattle.cw_compile.proofs.Places.{same_unit_of, same_type_fault, unit_tokens}
 use Rattle.cw_compile.proofs.Told.{one_name_fault, name_fault, one_type_fault, type_fault}
 
 -- the laws of the passes that this stands on
@@ -40,9 +40,6 @@ pub record Given : Type 0 where
   pub one_fault : HasOneFault
   pub not_both : HasNotBothLexical
   pub one_outcome : HasOneOutcome
-
-abbrev whole : Raw → Named → Named
-whole raw n = named_at n.raw.ref_ptr raw (declarations_of raw) (signatures_of raw) (resolutions_of raw)
 
 module _ (given : Given) (text : List ℕ) where
   -- ---- tokens
@@ -76,22 +73,23 @@ module _ (given : Given) (text : List ℕ) where
 
   -- ---- names
 
-  whole_named : (raw : Raw) (n : Named) → n.raw.now ≡ raw → HasNames text n → n ≡ whole raw n
-  whole_named raw n at x =
-      placed n raw (declarations_of raw) (signatures_of raw) (resolutions_of raw) at (x.resolves.3 ∙ ap declarations_of at) (x.resolves.4 ∙ ap signatures_of at) (x.resolves.2 ∙ ap resolutions_of at)
-
   same_tree : (m n : Named) → HasNames text m → HasNames text n → m.raw.now ≡ n.raw.now
   same_tree m n x y = one_raw m.raw.now n.raw.now x.tree y.tree
 
+  same_declarations : (m n : Named) → HasNames text m → HasNames text n → m.declarations ≡ n.declarations
+  same_declarations m n x y = x.resolves.3 ∙ ap declarations_of (same_tree m n x y) ∙ sym y.resolves.3
+
+  same_signatures : (m n : Named) → HasNames text m → HasNames text n → m.signatures ≡ n.signatures
+  same_signatures m n x y = x.resolves.4 ∙ ap signatures_of (same_tree m n x y) ∙ sym y.resolves.4
+
+  same_uses : (m n : Named) → HasNames text m → HasNames text n → m.uses ≡ n.uses
+  same_uses m n x y = x.resolves.2 ∙ ap resolutions_of (same_tree m n x y) ∙ sym y.resolves.2
+
   same_unit : (m n : Named) → HasNames text m → HasNames text n → unit_of m ≡ unit_of n
-  same_unit m n x y =
-      let raw = n.raw.now in
-      ap unit_of (whole_named raw m (same_tree m n x y) x) ∙ unit_anywhere m.raw.ref_ptr n.raw.ref_ptr raw (declarations_of raw) (signatures_of raw) (resolutions_of raw) ∙ sym (ap unit_of (whole_named raw n refl y))
+  same_unit m n x y = same_unit_of m n (same_tree m n x y) (same_declarations m n x y) (same_signatures m n x y) (same_uses m n x y)
 
   same_types : (m n : Named) → HasNames text m → HasNames text n → first_type_fault m ≡ first_type_fault n
-  same_types m n x y =
-      let raw = n.raw.now in
-      ap first_type_fault (whole_named raw m (same_tree m n x y) x) ∙ types_anywhere m.raw.ref_ptr n.raw.ref_ptr raw (declarations_of raw) (signatures_of raw) (resolutions_of raw) ∙ sym (ap first_type_fault (whole_named raw n refl y))
+  same_types m n x y = same_type_fault m n (same_tree m n x y) (same_declarations m n x y) (same_signatures m n x y) (same_uses m n x y)
 
   names_not_faulty : (n : Named) → HasNames text n → (fault : ScopeFault) → IsRefused text (Scope fault) → ⊥
   names_not_faulty n x fault (raw, has, fails, other) =

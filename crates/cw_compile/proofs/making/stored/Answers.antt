@@ -17,8 +17,8 @@ returns-in-Ok-new-clause-named c = λ text h. subst (HasNames text) (sym c.in-Ok
 pub returns-in-Ok-new-clause-tree : goal.returns-in-Ok-new-clause-tree
 returns-in-Ok-new-clause-tree c = ap (λ (n : Named). n.raw.now) c.in-Ok-new.ensures ∙ c.in-Ok.ensures.1
 
-pub returns : goal.returns
-returns c = record {
+pub returns-in-Err : goal.returns-in-Err
+returns-in-Err c = record {
   named = λ text h. tt;
   tree = tt;
   fault = λ text h. (c.args.raw.now, h, c.in-Err.ensures, search rules);
