@@ -1,12 +1,10 @@
-//! Checks of linking and of what it makes: object files that are spelled by hand, with their images and their faults, and damaged files; lists of texts and
-//! objects, with where their storage ends or their first fault; and HEX texts, by hand from the form.
+//! Checks of linking and of what it makes: object files that are spelled by hand, with their images and their faults, and damaged files; and HEX
+//! texts, by hand from the form.
 #![tactic(auto)]
 
 #[cfg(test)]
 mod damaged;
 #[cfg(test)]
 mod hex;
-#[cfg(test)]
-mod lists;
 #[cfg(test)]
 mod objects;

@@ -26,9 +26,9 @@ alike : {X : Type 0} (read : Named → X) → IsPlaceless read → (m n : Named)
     → m.raw.now ≡ n.raw.now → m.declarations ≡ n.declarations → m.signatures ≡ n.signatures → m.uses ≡ n.uses → read m ≡ read n
 alike read placeless m n r d s u =
     let Same : Raw → List (Row Declaration) → List (Row Signature) → List (Row ℕ) → Type 0 =
-        λ raw ds ss us. (p : ℕ × ℕ) (fs : List Fact) (f : Gathers fs raw) → read (named_at p raw fs f ds ss us) ≡ read n in
+    λ raw ds ss us. (p : ℕ × ℕ) (fs : List Fact) (f : Gathers fs raw) → read (named_at p raw fs f ds ss us) ≡ read n in
     let at_n : Same n.raw.now n.declarations n.signatures n.uses =
-        λ p fs f. placeless p n.raw.ref_ptr n.raw.now fs n.facts f n.gathered n.declarations n.signatures n.uses in
+    λ p fs f. placeless p n.raw.ref_ptr n.raw.now fs n.facts f n.gathered n.declarations n.signatures n.uses in
     let by_raw : Same m.raw.now n.declarations n.signatures n.uses = subst (λ x. Same x n.declarations n.signatures n.uses) (sym r) at_n in
     let by_declarations : Same m.raw.now m.declarations n.signatures n.uses = subst (λ x. Same m.raw.now x n.signatures n.uses) (sym d) by_raw in
     let by_signatures : Same m.raw.now m.declarations m.signatures n.uses = subst (λ x. Same m.raw.now m.declarations x n.uses) (sym s) by_declarations in
