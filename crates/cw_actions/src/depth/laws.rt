@@ -9,11 +9,11 @@ ghost use Rattle.cw_files.specs.Texts.{HasUnit};
 ghost use Rattle.cw_correct.specs.Results.{BoundsRuns};
 
 use cw_compile::laws::one_outcome;
-use cw_tokens::laws::tokens_counted;
 use cw_deepest::laws::linked::no_depth_stop;
 use cw_sound::laws::calls::units_fit;
 use cw_sound::laws::texts::text_units;
 use cw_sound::laws::tokens::unit_counted;
+use cw_tokens::laws::tokens_counted;
 
 /// The procedures of a text's unit have numbers of two bytes: each takes four tokens of the text.
 pub fn few_procedures()
