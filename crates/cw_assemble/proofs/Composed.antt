@@ -1,5 +1,5 @@
 -- Code that is put together from parts: lists of orders, the way of a loop, and switches.
-use Rattle.std.proofs.Common.{get_or, suc, ◌<◌, ◌≡◌, ℕ, Bool, ◌+◌, ◌*◌, List, [], ◌∷◌, ◌++◌, length, drop, drop-cons, sym, ap, ap₂, ◌∙◌, subst, append_assoc, arith, length-append, ℤ}
+use Rattle.std.proofs.Common.{get_or, suc, ◌<◌, ◌≡◌, ℕ, Bool, ◌+◌, ◌*◌, List, [], ◌∷◌, ◌++◌, length, drop, drop-cons, sym, ap, ap₂, ◌∙◌, subst, arith, length-append, ℤ}
 use Rattle.cw_i86.specs.declared.instr.Instr.{Instr}
 use Rattle.cw_i86.specs.declared.instr.Instr.TheVariants as i86
 use Rattle.cw_unit.specs.declared.unit.Goal.{Goal}
@@ -25,10 +25,10 @@ use Rattle.cw_tmpl.specs.Blocks.{block_at, orders_left}
 use Rattle.cw_tmpl.specs.Pieces.{blanks, relocations}
 use Rattle.cw_order.specs.declared.order.Order.TheVariants as order
 use Rattle.cw_tmpl.specs.Templates.{template, back_jump, branch_by, checked_by, pieces_size, distance, number_compared, goal_words, mark_words, loop_way, switch_tested, switch_way, switch_pieces, with_both_bounds, block_pieces, block_size, entry_pieces, argument_load_size}
-use Rattle.cw_tmpl.specs.ShortForms.{Forms, is_short}
-use Rattle.cw_tmpl.specs.ReferenceCode.{templates, landings, switches, places_from, entry_size, landings_place, switches_place, names_of, pieces_of, landing_where, switch_where}
+use Rattle.cw_tmpl.specs.ShortForms.{is_short}
+use Rattle.cw_tmpl.specs.ReferenceCode.{templates, landings, switches, entry_size, landings_place, switches_place, names_of, pieces_of, landing_where, switch_where}
 use Rattle.cw_tmpl.proofs.Sizes.{size_to, size_everywhere, size_of_templates, landings_at}
-use Rattle.cw_tmpl.proofs.Ways.{landing_long, routine_long, size_of_switch, size_of_landings}
+use Rattle.cw_tmpl.proofs.Ways.{landing_long, routine_long, size_of_landings}
 use Rattle.cw_tmpl.proofs.Growing.{adds_then, Coming, coming_more}
 
 as_pieces : (old new : Assembly) (ps qs : List Coded) → ps ≡ qs → Adds old ps new → Adds old qs new
@@ -110,19 +110,6 @@ next_block old new names list k left next short b o bytes relocs e is_block is_n
     subst (λ m. Coming new (templates names (length new.bytes) (k + 1) m rest) bytes relocs) left_is
     (subst (λ m. Coming new (templates names (length new.bytes) m (orders_left c) rest) bytes relocs) number
     (subst (λ n. Coming new (templates names n (suc k) (orders_left c) rest) bytes relocs) long (coming_more old new pieces (templates names (at + block_size s c o) (suc k) (orders_left c) rest) bytes relocs added' here)))
-
-pub next_place : (forms : Forms) (places : List ℕ) (at left size next : ℕ) (list : List Order) (k : ℕ) (b : Block) (o : Order) (whole : List ℕ) → drop k list ≡ o ∷ drop (k + 1) list → b ≡ block_at left (drop k list) → next ≡ orders_left b
-    → size ≡ at + block_size (forms k b o) b o → places ++ places_from forms at k left (drop k list) ≡ whole → (places ++ at ∷ []) ++ places_from forms size (k + 1) next (drop (k + 1) list) ≡ whole
-next_place forms places at left size next list k b o whole e is_block is_next is_size h =
-    let rest = drop (k + 1) list in
-    let c = block_at left (o ∷ rest) in
-    let same : b ≡ c = is_block ∙ ap (block_at left) e in
-    let number : k + 1 ≡ suc k = omega arith in
-    append_assoc places (at ∷ []) (places_from forms size (k + 1) next rest)
-    ∙ ap₂ (λ m n. places ++ (at ∷ places_from forms m (k + 1) n rest)) is_size is_next
-    ∙ ap (λ x. places ++ (at ∷ places_from forms (at + block_size (forms k x o) x o) (k + 1) (orders_left x) rest)) same
-    ∙ ap (λ n. places ++ (at ∷ places_from forms (at + block_size (forms k c o) c o) n (orders_left c) rest)) number
-    ∙ ap (λ l. places ++ places_from forms at k left l) (sym e) ∙ h
 
 pub next_landing : (old new : Assembly) (names : Names) (named : ℕ → Bool) (list : List LabelMark) (k : ℕ) (m : LabelMark) (has : Bool) (bytes : List ℕ) (relocs : List Reloc) → drop k list ≡ m ∷ drop (k + 1) list → has ≡ has_landing named k m
     → Adds old (landing_where has names (length old.bytes) m) new → Coming old (landings names named (length old.bytes) k (drop k list)) bytes relocs → Coming new (landings names named (length new.bytes) (k + 1) (drop (k + 1) list)) bytes relocs

@@ -1,17 +1,60 @@
 -- Flags that are set one after another.
-use Rattle.std.proofs.Common.{ap, ap₂, ◌∙◌, arith}
-use Rattle.std.specs.Prelude.{◌≡◌, ℕ, ◌<◌, List, length, Bool, false, ◌||◌}
+use Rattle.std.proofs.Common.{suc, ◌+◌, ◌∷◌, Option, drop, drop-cons, get_or, sym, ap, ap₂, ◌∙◌, arith}
+use Rattle.std.proofs.Math.Bool.{or_assoc}
+use Rattle.std.specs.Prelude.{◌≡◌, ℕ, ◌<◌, List, length, Bool, false, ◌||◌, ◌&&◌}
 use Rattle.cw_unit.specs.declared.unit.Goal.{Goal}
 use Rattle.cw_unit.specs.declared.unit.Def.{Def}
 use Rattle.cw_order.specs.declared.order.Order.{Order}
 use Rattle.cw_order.specs.declared.order.Orders.{Orders}
-use Rattle.cw_tmpl.specs.Named.{orders_name_switch, shared_has_switch, is_named_switch, orders_name_label, shared_has_label, switches_list_label, is_named_label}
+use Rattle.cw_tmpl.specs.Named.{is_number, goals_list_label, orders_name_switch, shared_has_switch, is_named_switch, orders_name_label, shared_has_label, switches_list_label, is_named_label}
 use Rattle.cw_assemble.specs.Flags.{flag, AreFlags}
+
+-- the items from a place on
+item_next : {A : Type 0} (xs : List A) (i : ℕ) (d : A) → i < length xs → drop i xs ≡ get_or xs i d ∷ drop (i + 1) xs
+item_next xs i d lt =
+    let e : suc i ≡ i + 1 = omega arith in
+    drop-cons xs i d lt ∙ ap (λ n. get_or xs i d ∷ drop n xs) e
 
 -- The flags of now, with what is still to be set, are those of the beginning with all that is to be set.
 pub record Setting (now old : List Bool) (left all : ℕ → Bool) : Type 0 where
   pub long : length now ≡ length old
   pub each : (k : ℕ) → k < length old → (flag now k || left k) ≡ (flag old k || all k)
+
+-- The flag of the number of one item, if it has one, is set: what is left to set are those of the items behind it.
+pub set_next : {A : Type 0} (named : List A → ℕ → Bool) (number : A → Option ℕ) (xs : List A) (i : ℕ) (d : A) (now new old : List Bool) (m : Option ℕ) (all : ℕ → Bool)
+    → ((x : A) (rest : List A) (k : ℕ) → named (x ∷ rest) k ≡ (is_number k (number x) || named rest k)) → i < length xs → m ≡ number (get_or xs i d) → length new ≡ length now
+    → ((k : ℕ) → k < length now → flag new k ≡ (flag now k || is_number k m)) → Setting now old (named (drop i xs)) all → Setting new old (named (drop (i + 1) xs)) all
+set_next named number xs i d now new old m all law lt is long sets s = record {
+  long = long ∙ s.long;
+  each = λ k inside.
+      let x = get_or xs i d in
+      let rest = drop (i + 1) xs in
+      let within : k < length now = omega (arith, s.long, inside) in
+      ap (λ b. b || named rest k) (sets k within)
+      ∙ or_assoc (flag now k) (is_number k m) (named rest k)
+      ∙ ap (λ n. flag now k || (is_number k n || named rest k)) is
+      ∙ ap (λ b. flag now k || b) (sym (law x rest k))
+      ∙ ap (λ l. flag now k || named l k) (sym (item_next xs i d lt))
+      ∙ s.each k inside;
+}
+
+-- The same of one switch, whose labels are set where it is named.
+pub set_next_switch : (named : ℕ → Bool) (xs : List (List Goal)) (i : ℕ) (one gs : List Goal) (has : Bool) (now new old : List Bool) (all : ℕ → Bool) → i < length xs → one ≡ get_or xs i one → gs ≡ one → has ≡ named i
+    → length new ≡ length now → ((k : ℕ) → k < length now → flag new k ≡ (flag now k || (has && goals_list_label gs k)))
+    → Setting now old (switches_list_label named i (drop i xs)) all → Setting new old (switches_list_label named (i + 1) (drop (i + 1) xs)) all
+set_next_switch named xs i one gs has now new old all lt is same flagged long sets s = record {
+  long = long ∙ s.long;
+  each = λ k inside.
+      let rest = drop (i + 1) xs in
+      let within : k < length now = omega (arith, s.long, inside) in
+      let next : i + 1 ≡ suc i = omega arith in
+      let here : drop i xs ≡ gs ∷ rest = item_next xs i one lt ∙ ap (λ g. g ∷ rest) (sym is ∙ sym same) in
+      ap (λ b. b || switches_list_label named (i + 1) rest k) (sets k within)
+      ∙ or_assoc (flag now k) (has && goals_list_label gs k) (switches_list_label named (i + 1) rest k)
+      ∙ ap₂ (λ h n. flag now k || ((h && goals_list_label gs k) || switches_list_label named n rest k)) flagged next
+      ∙ ap (λ l. flag now k || switches_list_label named i l k) (sym here)
+      ∙ s.each k inside;
+}
 
 -- those of a test are set
 abbrev Sets : (old new : List Bool) → (test : ℕ → Bool) → Type 0

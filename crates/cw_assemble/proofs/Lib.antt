@@ -2,3 +2,4 @@ pub mod Factors
 pub mod Composed
 pub mod Flags
 pub mod BeforeChecks
+pub mod Placing

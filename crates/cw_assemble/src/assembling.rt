@@ -1,10 +1,10 @@
 //! From orders to code.
-ghost use Rattle.std.specs.Prelude.{◌≡◌, length, IfOk, OnOk, All};
+ghost use Rattle.std.specs.Prelude.{◌≡◌, length, map, slice_index, IfOk, OnOk, All};
 ghost use Rattle.cw_order.specs.HasCode.{HasCode};
 ghost use Rattle.cw_tmpl.specs.Assembling.{Adds};
 ghost use Rattle.cw_tmpl.specs.Pieces.{blanks, relocations};
 ghost use Rattle.cw_tmpl.specs.Templates.{entry_pieces};
-ghost use Rattle.cw_tmpl.specs.ReferenceCode.{templates, landings, switches, names_of, reach_of, order_places, pieces_of, orders_code};
+ghost use Rattle.cw_tmpl.specs.ReferenceCode.{templates, landings, switches, names_of, reach_of, order_places, mark_starts, label_starts, statements_from, pieces_of, orders_code};
 ghost use Rattle.cw_tmpl.specs.Named.{is_named_label, is_named_switch};
 ghost use Rattle.cw_assemble.specs.Flags.{AreFlags};
 
@@ -13,7 +13,7 @@ use crate::jumping::{put_landing, put_switch};
 use crate::named::{named_labels, named_switches};
 use crate::places::{
     calls, has_landing, label_places, landing_places, longest_places, mark_places, order_places,
-    place_at, procedure_places, statement_places, switch_places, switches_place,
+    place_at, procedure_places, statement_places, switch_places,
 };
 use cw_order::{Order, Orders};
 use cw_tmpl::library::START;
@@ -141,55 +141,98 @@ fn lay(alloc: Global, orders: &Orders) -> Result<Laid, NoMemory>
     })
 }
 
+/// Where the marks, the labels, the procedures and the statements of the orders start.
+#[derive(Drop)]
+struct Starts {
+    marks: List<u32>,
+    labels: List<u32>,
+    procedures: List<u32>,
+    statements: List<(u32, u16)>,
+}
+
+fn starts_of(alloc: Global, orders: &Orders, names: &Names) -> Result<Starts, NoMemory>
+    requires { names.now ≡ names_of orders.now }
+    ensures marks { IfOk result (λ starts. starts.marks ≡ map (slice_index (order_places orders.now)) orders.now.marks) }
+    ensures labels { IfOk result (λ starts. starts.labels ≡ label_starts (names_of orders.now) 0 orders.now.labels) }
+    ensures procedures { IfOk result (λ starts. starts.procedures ≡ map (mark_starts orders.now) orders.now.procedures) }
+    ensures statements { IfOk result (λ starts. starts.statements ≡ statements_from 0 (order_places orders.now) orders.now.list) }
+{
+    let marks = mark_places(alloc, names.places, orders.marks.as_slice())?;
+    let labels = label_places(alloc, orders.labels.as_slice(), names)?;
+    let procedures = procedure_places(alloc, orders.procedures.as_slice(), names)?;
+    let statements = statement_places(alloc, names.places, orders.list.as_slice())?;
+    Ok(Starts {
+        marks,
+        labels,
+        procedures,
+        statements,
+    })
+}
+
+/// The code of orders that are laid out, where flags tell which labels and switches something names.
+fn code_named(
+    alloc: Global,
+    orders: &Orders,
+    laid: &Laid,
+    labels: &[bool],
+    switches: &[bool],
+) -> Result<Code, NoMemory>
+    requires codes { All HasCode orders.now.list }
+    requires longest { laid.now.longest ≡ (reach_of orders.now).longest }
+    requires calls { laid.now.calls ≡ (reach_of orders.now).calls }
+    requires places { laid.now.places ≡ order_places orders.now }
+    requires labels { AreFlags labels.now (length orders.now.labels) (is_named_label orders.now) }
+    requires switches { AreFlags switches.now (length orders.now.switches) (is_named_switch orders.now) }
+    ensures { IfOk result (λ code. code ≡ orders_code orders.now) }
+{
+    let first = place_at(laid.places.as_slice(), orders.list.as_slice().len());
+    let (landings, behind) = landing_places(alloc, first, orders, labels)?;
+    let routines = switch_places(alloc, behind, orders, switches)?;
+    let names = Names {
+        places: laid.places.as_slice(),
+        reach: Reach {
+            marks: orders.marks.as_slice(),
+            longest: laid.longest.as_slice(),
+            calls: laid.calls.as_slice(),
+        },
+        labels: orders.labels.as_slice(),
+        procedures: orders.procedures.as_slice(),
+        landings: landings.as_slice(),
+        switches: routines.as_slice(),
+    };
+    let code = code_of(alloc, orders, labels, switches, &names)?;
+    let starts = starts_of(alloc, orders, &names)?;
+    Ok(Code {
+        bytes: code.bytes,
+        relocs: code.relocs,
+        starts: starts.marks,
+        entry: 0,
+        labels: starts.labels,
+        switches: routines,
+        procedures: starts.procedures,
+        statements: starts.statements,
+    })
+}
+
+/// The code of orders that are laid out.
+fn code_laid(alloc: Global, orders: &Orders, laid: &Laid) -> Result<Code, NoMemory>
+    requires codes { All HasCode orders.now.list }
+    requires longest { laid.now.longest ≡ (reach_of orders.now).longest }
+    requires calls { laid.now.calls ≡ (reach_of orders.now).calls }
+    requires places { laid.now.places ≡ order_places orders.now }
+    ensures { IfOk result (λ code. code ≡ orders_code orders.now) }
+{
+    let switches = named_switches(alloc, orders)?;
+    let labels = named_labels(alloc, orders, switches.as_slice())?;
+    code_named(alloc, orders, laid, labels.as_slice(), switches.as_slice())
+}
+
 /// The code of the orders. NoMemory comes for want of memory, where the code would pass 2^32 - 1 bytes, and where a table
 /// would have more than 65,535 entries.
 pub fn assemble(alloc: Global, orders: &Orders) -> Result<Code, NoMemory>
     requires { All HasCode orders.now.list }
     ensures { IfOk result (λ code. code ≡ orders_code orders.now) }
 {
-    let Laid {
-        longest,
-        calls,
-        places,
-    } = lay(alloc, orders)?;
-    let reach = Reach {
-        marks: orders.marks.as_slice(),
-        longest: longest.as_slice(),
-        calls: calls.as_slice(),
-    };
-    let named_switches = named_switches(alloc, orders)?;
-    let named_labels = named_labels(alloc, orders, named_switches.as_slice())?;
-    let first = place_at(places.as_slice(), orders.list.as_slice().len());
-    let landings = landing_places(alloc, first, orders, named_labels.as_slice())?;
-    let behind = switches_place(first, orders, named_labels.as_slice())?;
-    let switches = switch_places(alloc, behind, orders, named_switches.as_slice())?;
-    let names = Names {
-        places: places.as_slice(),
-        reach,
-        labels: orders.labels.as_slice(),
-        procedures: orders.procedures.as_slice(),
-        landings: landings.as_slice(),
-        switches: switches.as_slice(),
-    };
-    let code = code_of(
-        alloc,
-        orders,
-        named_labels.as_slice(),
-        named_switches.as_slice(),
-        &names,
-    )?;
-    let starts = mark_places(alloc, places.as_slice(), orders.marks.as_slice())?;
-    let labels = label_places(alloc, orders.labels.as_slice(), &names)?;
-    let procedures = procedure_places(alloc, orders.procedures.as_slice(), &names)?;
-    let statements = statement_places(alloc, places.as_slice(), orders.list.as_slice())?;
-    Ok(Code {
-        bytes: code.bytes,
-        relocs: code.relocs,
-        starts,
-        entry: 0,
-        labels,
-        switches,
-        procedures,
-        statements,
-    })
+    let laid = lay(alloc, orders)?;
+    code_laid(alloc, orders, &laid)
 }

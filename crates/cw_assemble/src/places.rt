@@ -2,18 +2,31 @@
 ghost use Rattle.std.specs.Prelude.{◌≡◌, ◌+◌, ◌*◌, map, slice_index, Some, None, IfOk, All, ◌&&◌, not, length};
 ghost use Rattle.cw_order.specs.HasCode.{HasCode};
 ghost use Rattle.cw_tmpl.specs.Backward.{calls_from};
+ghost use Rattle.cw_tmpl.specs.Blocks.{NamesParts};
 ghost use Rattle.cw_tmpl.specs.Names.{mark_place, way_to_label, landing_bytes, switch_bytes, place_of_one};
 ghost use Rattle.cw_tmpl.specs.Named.{is_named_label, is_named_switch};
 ghost use Rattle.cw_tmpl.specs.ShortForms.{is_short};
+ghost use Rattle.cw_tmpl.specs.Templates.{block_size};
 ghost use Rattle.cw_tmpl.specs.ReferenceCode.{longest_places, places_by, landing_places, landing_sizes, switch_places, label_starts, statements_from};
 ghost use Rattle.cw_assemble.specs.Flags.{AreFlags};
 
-use crate::sizes::{block_size, near_size, sum, table_size};
+use crate::sizes::{block_size, sum, table_size};
 use cw_order::{LabelMark, Order, Orders};
-use cw_tmpl::{Call, LANDING, Names, Reach, block_in, call_after, call_for, check_of, orders_left};
+use cw_tmpl::{
+    Block, Call, LANDING, Names, Reach, block_in, call_after, call_for, check_of, orders_left,
+};
 use cw_unit::unit::Goal;
 use cw_word::{List, NoMemory};
 use std::alloc::Global;
+
+/// The place behind a block that stands at a place. NoMemory comes where it is no u32.
+fn place_behind(at: u32, short: bool, block: Block, order: &Order) -> Result<u32, NoMemory>
+    requires code { HasCode order.now }
+    requires parts { NamesParts block }
+    ensures { IfOk result (λ n. n ≡ at + block_size short block order.now) }
+{
+    sum(at, block_size(short, block, order)?)
+}
 
 /// The places of the orders' code, and of the end, where no jump is short.
 pub(crate) fn longest_places(alloc: Global, orders: &[Order]) -> Result<List<u32>, NoMemory>
@@ -24,9 +37,11 @@ pub(crate) fn longest_places(alloc: Global, orders: &[Order]) -> Result<List<u32
     let mut at: u32 = 11;
     let mut left = 0;
     for k in 0..orders.len() {
-        list.push(at)?;
+        let order = &orders[k];
         let block = block_in(left, orders, k);
-        at = sum(at, near_size(block, &orders[k])?)?;
+        let behind = place_behind(at, false, block, order)?;
+        list.push(at)?;
+        at = behind;
         left = orders_left(block);
     }
     list.push(at)?;
@@ -52,8 +67,9 @@ pub(crate) fn calls(alloc: Global, orders: &[Order], longest: &[u32]) -> Result<
         let block = block_in(left, orders, k);
         let check = check_of(block, &orders[k]);
         let call = call_for(longest, last, k, check);
+        let behind = order_number(k + 1)?;
         list.push(call)?;
-        last = call_after(last, order_number(k + 1)?, call, check);
+        last = call_after(last, behind, call, check);
         left = orders_left(block);
     }
     Ok(list)
@@ -72,10 +88,12 @@ pub(crate) fn order_places(
     let mut at: u32 = 11;
     let mut left = 0;
     for k in 0..orders.len() {
-        list.push(at)?;
+        let order = &orders[k];
         let block = block_in(left, orders, k);
-        let short = reach.is_short(k, block, &orders[k]);
-        at = sum(at, block_size(short, block, &orders[k])?)?;
+        let short = reach.is_short(k, block, order);
+        let behind = place_behind(at, short, block, order)?;
+        list.push(at)?;
+        at = behind;
         left = orders_left(block);
     }
     list.push(at)?;
@@ -112,43 +130,34 @@ fn switch_bytes(has: bool, goals: &[Goal]) -> Result<u32, NoMemory>
     }
 }
 
-/// The places of the landings of labels, the first one given.
+/// The places of the landings of labels, the first one given, and the place behind the last.
 pub(crate) fn landing_places(
     alloc: Global,
     first: u32,
     orders: &Orders,
     named: &[bool],
-) -> Result<List<u32>, NoMemory>
+) -> Result<(List<u32>, u32), NoMemory>
     requires { AreFlags named.now (length orders.now.labels) (is_named_label orders.now) }
-    ensures { IfOk result (λ list. list ≡ landing_places (is_named_label orders.now) first 0 orders.now.labels) }
+    ensures places { IfOk result (λ found. found.0 ≡ landing_places (is_named_label orders.now) first 0 orders.now.labels) }
+    ensures behind { IfOk result (λ found. found.1 ≡ first + landing_sizes (is_named_label orders.now) 0 orders.now.labels) }
 {
     let labels = orders.labels.as_slice();
     let mut list = List::new(alloc);
     let mut at = first;
     for number in 0..labels.len() {
         let has = has_landing(named[number], labels[number]);
+        let behind = sum(at, landing_bytes(has))?;
         list.push(place_of_one(has, at))?;
-        at = sum(at, landing_bytes(has))?;
+        at = behind;
     }
-    Ok(list)
+    Ok((list, at))
 }
 
-/// Where the routines of switches start: behind the landings.
-pub(crate) fn switches_place(
-    landings: u32,
-    orders: &Orders,
-    named: &[bool],
-) -> Result<u32, NoMemory>
-    requires { AreFlags named.now (length orders.now.labels) (is_named_label orders.now) }
-    ensures { IfOk result (λ n. n ≡ landings + landing_sizes (is_named_label orders.now) 0 orders.now.labels) }
+/// The place behind the routine of a switch that stands at a place, if it has one. NoMemory comes where it is no u32.
+fn routine_behind(at: u32, has: bool, goals: &[Goal]) -> Result<u32, NoMemory>
+    ensures { IfOk result (λ n. n ≡ at + switch_bytes has goals.now) }
 {
-    let labels = orders.labels.as_slice();
-    let mut at = landings;
-    for number in 0..labels.len() {
-        let has = has_landing(named[number], labels[number]);
-        at = sum(at, landing_bytes(has))?;
-    }
-    Ok(at)
+    sum(at, switch_bytes(has, goals)?)
 }
 
 /// The places of the routines of switches, the first one given.
@@ -166,8 +175,9 @@ pub(crate) fn switch_places(
     let mut at = first;
     for number in 0..switches.len() {
         let has = named[number];
+        let behind = routine_behind(at, has, switches[number].as_slice())?;
         list.push(place_of_one(has, at))?;
-        at = sum(at, switch_bytes(has, switches[number].as_slice())?)?;
+        at = behind;
     }
     Ok(list)
 }

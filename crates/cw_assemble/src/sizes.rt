@@ -505,7 +505,7 @@ pub(crate) fn block_size(short: bool, block: Block, order: &Order) -> Result<u32
 }
 
 /// How many bytes it has with a near jump.
-pub(crate) fn near_size(block: Block, order: &Order) -> Result<u32, NoMemory>
+fn near_size(block: Block, order: &Order) -> Result<u32, NoMemory>
     requires code { HasCode order.now }
     requires parts { NamesParts block }
     ensures { IfOk result (λ n. n ≡ block_size false block order.now) }

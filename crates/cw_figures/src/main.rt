@@ -2,6 +2,8 @@
 //! those of what bcc makes of the same in C, and how long a text takes by its size.
 #![tactic(auto)]
 
+mod passes;
+
 use cw_cpu86::Cpu;
 use cw_io::{MemSink, MemSource};
 use cw_link::{Linked, link};
@@ -10,6 +12,7 @@ use cw_texts::compile_text;
 use cw_unit::layout::Limits;
 use cw_view::View;
 use cw_word::List;
+use passes::time_text;
 use std::alloc::{AllocError, Global};
 use std::io;
 use std::rt::Clock;
@@ -206,6 +209,25 @@ fn time(
     Ok(())
 }
 
+// Tells the share of each pass in compiling a text of so many statements, in hundredths; what is left goes to orders, code and the object.
+fn share(rt: &(impl Eprint + Clock), alloc: Global, statements: u32) -> anyhow::Result<()> {
+    let text = long_text(alloc, statements)?;
+    if text.len() > 1_048_576 {
+        return Ok(());
+    }
+    let start = Instant::now(rt)?;
+    let _bytes = code_of(alloc, text.as_str());
+    let whole = start.elapsed(rt)?.as_micros();
+    let mut spans = Vec::new(alloc);
+    time_text(rt, alloc, text.as_bytes(), &mut spans)?;
+    if whole > 0 {
+        for span in &spans {
+            eprintln!(rt; "{}: {} of 100", span.pass, span.took * 100 / whole)?;
+        }
+    }
+    Ok(())
+}
+
 fn main(rt: HostRuntime) -> anyhow::Result<()> {
     let samples = [
         Sample {
@@ -268,5 +290,6 @@ fn main(rt: HostRuntime) -> anyhow::Result<()> {
     }
     time(&rt, rt.alloc(), 166, 640)?;
     time(&rt, rt.alloc(), 10_900, 10)?;
+    share(&rt, rt.alloc(), 10_900)?;
     Ok(())
 }

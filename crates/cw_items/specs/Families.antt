@@ -77,6 +77,10 @@ abbrev pub with_area : Known → List (Row Site) → Counts → (frame : Option 
 with_area k sites extents None n = record { sites = sites; extents = extents; frames = k.frames; rest = n }
 with_area k sites extents (Some f) n = record { sites = sites; extents = extents; frames = with_count k.frames f n; rest = k.rest }
 
+-- the same with one more site
+abbrev pub with_place : Known → (token : ℕ) → Site → Known
+with_place k token s = record { sites = k.sites ++ record { token = token; item = s } ∷ []; extents = k.extents; frames = k.frames; rest = k.rest }
+
 abbrev pub with_site : Known → Thing → Site → Known
 with_site k t s =
     with_area k (k.sites ++ record { token = t.at.token; item = s } ∷ [])

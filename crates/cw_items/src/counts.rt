@@ -1,5 +1,5 @@
 //! Numbers of words by the tokens to which they belong.
-ghost use Rattle.std.specs.Prelude.{◌≡◌, IfOk, []};
+ghost use Rattle.std.specs.Prelude.{◌≡◌, IfOk, OnOk, []};
 ghost use Rattle.cw_items.specs.Families.{count_in, with_count};
 
 use cw_word::NoMemory;
@@ -40,14 +40,22 @@ impl Counts {
         }
     }
 
+    /// Another number for a token.
+    pub(crate) fn set(&mut self, token: u32, count: u32) -> Result<(), NoMemory>
+        ensures { OnOk result (self.new ≡ with_count self.old token count) }
+    {
+        match self.counts.insert(token, count) {
+            Ok(_) => Ok(()),
+            Err(_) => Err(NoMemory),
+        }
+    }
+
     /// The same with another number for a token.
     pub fn with(self, token: u32, count: u32) -> Result<Counts, NoMemory>
         ensures { IfOk result (λ c. c ≡ with_count self token count) }
     {
-        let Counts { mut counts } = self;
-        match counts.insert(token, count) {
-            Ok(_) => Ok(Counts { counts }),
-            Err(_) => Err(NoMemory),
-        }
+        let mut counts = self;
+        counts.set(token, count)?;
+        Ok(counts)
     }
 }

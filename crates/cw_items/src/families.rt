@@ -2,7 +2,7 @@
 ghost use Rattle.std.specs.Prelude.{◌≡◌, ◌≤◌, ◌++◌, ◌∷◌, [], IfOk, OnOk, drop};
 ghost use Rattle.cw_table.specs.Rows.{item_at};
 ghost use Rattle.cw_items.specs.Families.{count_in, frame_of_owner, frame_of, own_site, site_on, site_by, site_of, nothing_known, end_of, growth};
-ghost use Rattle.cw_items.specs.Families.{area_with, with_area, with_site, with_thing, has_room, thing_judged, things_judged, all_known};
+ghost use Rattle.cw_items.specs.Families.{area_with, with_count, with_area, with_place, with_site, with_thing, has_room, thing_judged, things_judged, all_known};
 
 use crate::counts::Counts;
 use crate::thing::{Base, Owner, Sort, Thing, capped, is_fixed};
@@ -136,37 +136,50 @@ impl Known {
         }
     }
 
-    fn with_site(self, thing: &Thing, site: &Site) -> Result<Known, NoMemory>
-        ensures { IfOk result (λ k. k ≡ with_site self thing.now site.now) }
+    // Counts the words of a site whose family reaches so far, where its area then has so many words.
+    fn count(&mut self, site: &Site, extent: u32, words: u32) -> Result<(), NoMemory>
+        ensures { OnOk result (self.new
+            ≡ with_area self.old self.old.sites (with_count self.old.extents site.now.root extent)
+            site.now.frame words) }
     {
-        let end = end_of(thing, site);
-        let words = self.area_with(&site.frame, self.growth(site, end));
-        let extent = self.extents.of(site.root).max(end);
+        self.extents.set(site.root, extent)?;
+        match site.frame {
+            None => {
+                self.rest = words;
+                Ok(())
+            }
+            Some(token) => self.frames.set(token, words),
+        }
+    }
+
+    // The same with one more site.
+    fn with_place(self, token: u32, site: &Site) -> Result<Known, NoMemory>
+        ensures { IfOk result (λ k. k ≡ with_place self token site.now) }
+    {
         let Known {
             sites,
             extents,
             frames,
             rest,
         } = self;
-        let sites = sites.with(thing.at.token, *site)?;
-        let extents = extents.with(site.root, extent)?;
-        match site.frame {
-            None => Ok(Known {
-                sites,
-                extents,
-                frames,
-                rest: words,
-            }),
-            Some(token) => {
-                let frames = frames.with(token, words)?;
-                Ok(Known {
-                    sites,
-                    extents,
-                    frames,
-                    rest,
-                })
-            }
-        }
+        let sites = sites.with(token, *site)?;
+        Ok(Known {
+            sites,
+            extents,
+            frames,
+            rest,
+        })
+    }
+
+    fn with_site(self, thing: &Thing, site: &Site) -> Result<Known, NoMemory>
+        ensures { IfOk result (λ k. k ≡ with_site self thing.now site.now) }
+    {
+        let end = end_of(thing, site);
+        let words = self.area_with(&site.frame, self.growth(site, end));
+        let extent = self.extents.of(site.root).max(end);
+        let mut known = self;
+        known.count(site, extent, words)?;
+        known.with_place(thing.at.token, site)
     }
 
     fn has_room(&self, thing: &Thing, site: &Site) -> bool

@@ -15,7 +15,7 @@ use cw_facts::fact::{Declaration, Kind};
 use cw_make_items::descriptors::descs_of;
 use cw_make_items::items::{addresses_of, items_of};
 use cw_make_stmt::statements::make_block;
-use cw_number::listed::listed_of;
+use cw_number::listed::{Listing, listed_of};
 use cw_number::numbered::Numbered;
 use cw_number::numbers::numbers_of;
 use cw_number::{StoredText, Thing};
@@ -54,6 +54,62 @@ struct Storage {
     items: List<Item>,
 }
 
+// The items, from the tables that they are looked up in. Each of these functions owns one table and lends it to the next.
+fn items_at(
+    alloc: Global,
+    named: &Named,
+    numbers: &Table<Numbered>,
+    listed: &Table<Listing>,
+    addresses: &Table<u16>,
+    things: &[Thing],
+) -> Result<List<Item>, NoMemory>
+    ensures { IfOk result (λ all. all
+        ≡ items_of named.now.declarations numbers.now listed.now addresses.now (held_of named.now.raw.now) things.now) }
+{
+    let held = held_of(alloc, named.raw)?;
+    items_of(
+        alloc,
+        &named.declarations,
+        numbers,
+        listed,
+        addresses,
+        &held,
+        things,
+    )
+}
+
+fn items_in(
+    alloc: Global,
+    named: &Named,
+    numbers: &Table<Numbered>,
+    listed: &Table<Listing>,
+    things: &[Thing],
+) -> Result<List<Item>, NoMemory>
+    ensures { IfOk result (λ all. all
+        ≡ items_of named.now.declarations numbers.now listed.now (addresses_of named.now.raw.now.comms)
+        (held_of named.now.raw.now) things.now) }
+{
+    let addresses = addresses_of(alloc, named.raw.comms.as_slice())?;
+    items_at(alloc, named, numbers, listed, &addresses, things)
+}
+
+fn storage_in(
+    alloc: Global,
+    named: &Named,
+    numbers: &Table<Numbered>,
+    listed: &Table<Listing>,
+    things: &[Thing],
+) -> Result<Storage, NoMemory>
+    ensures descs { IfOk result (λ s. s.descs ≡ descs_of numbers.now listed.now things.now named.now.raw.now.comms) }
+    ensures items { IfOk result (λ s. s.items
+        ≡ items_of named.now.declarations numbers.now listed.now (addresses_of named.now.raw.now.comms)
+        (held_of named.now.raw.now) things.now) }
+{
+    let descs = descs_of(alloc, numbers, listed, things, named.raw.comms.as_slice())?;
+    let items = items_in(alloc, named, numbers, listed, things)?;
+    Ok(Storage { descs, items })
+}
+
 fn storage_of(
     alloc: Global,
     named: &Named,
@@ -69,21 +125,8 @@ fn storage_of(
         (addresses_of named.now.raw.now.comms) (held_of named.now.raw.now)
         (text_things named.now named.now.raw.now)) }
 {
-    let lists = named.raw.comms.as_slice();
     let listed = listed_of(alloc, named.raw)?;
-    let addresses = addresses_of(alloc, lists)?;
-    let held = held_of(alloc, named.raw)?;
-    let descs = descs_of(alloc, numbers, &listed, things, lists)?;
-    let items = items_of(
-        alloc,
-        &named.declarations,
-        numbers,
-        &listed,
-        &addresses,
-        &held,
-        things,
-    )?;
-    Ok(Storage { descs, items })
+    storage_in(alloc, named, numbers, &listed, things)
 }
 
 fn unit_with(

@@ -16,7 +16,10 @@ use Rattle.cw_tree.specs.declared.expression.RawSum.{RawSum}
 use Rattle.cw_tree.specs.declared.expression.RawExpr.{RawExpr, fold-roll-RawExpr}
 use Rattle.cw_tree.specs.declared.expression.RawPrimary.{RawPrimary, fold-roll-RawPrimary}
 use Rattle.cw_tree.specs.declared.expression.RawRef.{RawRef, fold-roll-RawRef}
+use Rattle.cw_tree.specs.declared.segment.RawIps.{RawIps}
+use Rattle.cw_tree.specs.declared.segment.RawIps.TheVariants as inner
 use Rattle.cw_tree.specs.declared.segment.RawPs.{RawPs}
+use Rattle.cw_tree.specs.declared.segment.RawPs.TheVariants as ps
 use Rattle.cw_scope.specs.declared.resolve.Named.{Named}
 use Rattle.cw_amount.specs.Amounts.{octal_word}
 use Rattle.cw_scale.specs.Kinds.{fraction_of, signature_of}
@@ -28,10 +31,11 @@ use Rattle.cw_unit.specs.declared.unit.Ref.{Ref}
 use Rattle.cw_unit.specs.declared.unit.Spot.{roll-Spot}
 use Rattle.cw_unit.specs.declared.unit.Spot.TheVariants as spots
 use Rattle.cw_unit.specs.declared.unit.Arg.{Arg}
+use Rattle.cw_unit.specs.declared.unit.Arg.TheVariants as args
 use Rattle.cw_unit.specs.declared.unit.Target.{Target}
-use Rattle.cw_make_expr.specs.Nodes.{number, constant, string, call, force, locate, choice, reference, whole_part_if}
+use Rattle.cw_make_expr.specs.Nodes.{number, constant, string, call, force, locate, choice, reference, place_argument, whole_part_if}
 use Rattle.cw_make_expr.specs.Parts.{Numbers, within, item_here, params_of}
-use Rattle.cw_make_expr.specs.Made.{Made, Placed, simply, plainly, place_read, place_of_name, indexed_place, twice_indexed_place, value_of, arguments_for, target, arguments, expression_step, primary_step, reference_step, conjunction_step, comparison_step, condition_step, differ_step, mask_step, prim_step, sum_step, term_step, union_step, expression_made, primary_made, reference_made, condition_made, sum_made}
+use Rattle.cw_make_expr.specs.Made.{Made, Placed, simply, plainly, place_read, place_of_name, indexed_place, twice_indexed_place, value_of, argument_for, arguments_for, target, arguments, expression_step, primary_step, reference_step, conjunction_step, comparison_step, condition_step, differ_step, mask_step, prim_step, sum_step, term_step, union_step, expression_made, primary_made, reference_made, condition_made, sum_made}
 
 module _ (named : Named) (numbers : Numbers) where
   pub of_choice : (at : Position) (test : RawCond) (a : RawExpr) (b : RawExpr) → expression_made named numbers (expression.Choice at test a b) ≡ simply (choice (condition_made named numbers test) ((expression_made named numbers a).made false) ((expression_made named numbers b).made false))
@@ -182,3 +186,16 @@ module _ (named : Named) (numbers : Numbers) where
   bare_made r at e e' x y z er ee e1 e2 k =
       k ∙ ap (λ s. reference s 0 None) (ap spots.Bare (e2 ∙ e1 ∙ ap (λ e. (expression_made named numbers e).made false) ee) ∙ sym (spots.rolls-Bare ((expression_made named numbers e).made false)))
       ∙ ap (λ m. m.place) (sym (of_bare at e) ∙ ap (reference_made named numbers) (sym er))
+
+-- ---- an argument by what its parameter takes
+
+pub value_taken : (p : RawPs) (i : RawIps) (at : Position) (t : RawType) (m : Made) (x y : Expr) (f : ℕ) → p ≡ ps.Plain i → i ≡ inner.Value at t → x ≡ m.made false → y ≡ x
+    → f ≡ fraction_of t
+    → args.Value y f ≡ argument_for p m
+value_taken p i at t m x y f ep ei e1 e2 ef =
+    ap₂ args.Value (e2 ∙ e1) ef ∙ sym (args.rolls-Value (m.made false) (fraction_of t)) ∙ ap (λ (p : RawPs). argument_for p m) (sym (ep ∙ ap ps.Plain ei))
+
+pub place_taken : (p : RawPs) (i : RawIps) (at : Position) (t : RawType) (m : Made) (x y : Expr) (f : ℕ) (z : Arg) → p ≡ ps.Plain i → i ≡ inner.Location at t → x ≡ m.made false
+    → y ≡ x
+    → f ≡ fraction_of t → z ≡ place_argument y f → z ≡ argument_for p m
+place_taken p i at t m x y f z ep ei e1 e2 ef k = k ∙ ap₂ place_argument (e2 ∙ e1) ef ∙ ap (λ (p : RawPs). argument_for p m) (sym (ep ∙ ap ps.Plain ei))

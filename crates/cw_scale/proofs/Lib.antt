@@ -3,3 +3,5 @@ mod Layers
 mod Passing
 pub mod Telling
 pub mod Turns
+mod Arms
+mod Shapes

@@ -1,7 +1,6 @@
 //! Which parameters take which arguments.
-ghost use Rattle.std.specs.Prelude.{◌≡◌, map};
-ghost use Rattle.cw_scale.specs.Kinds.{kind_of, signature_of};
-ghost use Rattle.cw_scale.specs.Arguments.{takes_none, answers_alone, is_array, is_table, is_passed, takes_these, specified_so, name_is_value};
+ghost use Rattle.std.specs.Prelude.{◌≡◌, map, option_copied};
+ghost use Rattle.cw_scale.specs.Arguments.{takes_none, answers_alone, is_array, is_table, is_passed, takes_these, specified_so};
 ghost use Rattle.cw_scale.specs.Arguments.{kind_fits, takes_value, takes_name, takes_plain, is_passed_if, takes_procedure, takes};
 ghost use Rattle.cw_scale.specs.TypeRules.{all_taken, expression};
 
@@ -21,10 +20,10 @@ fn takes_none(params: &[RawPs]) -> bool
     params.is_empty()
 }
 
-fn answers_alone(named: &Named, name: &RawName) -> bool
-    ensures { result ≡ answers_alone (signature_of named.now name.now) }
+fn answers_alone(signature: Option<&Signature>) -> bool
+    ensures { result ≡ answers_alone (option_copied signature.entry) }
 {
-    match signature_of(named, name) {
+    match signature {
         None => false,
         Some(signature) => signature.answer.is_some() && takes_none(signature.params.as_slice()),
     }
@@ -83,12 +82,6 @@ fn takes_these(params: &[RawPs], these: &[RawIps]) -> bool
     rest.is_empty()
 }
 
-fn name_is_value(named: &Named, name: &RawName) -> bool
-    ensures { result ≡ name_is_value named.now name.now }
-{
-    is_word_item_if(kind_of(named, name)) || answers_alone(named, name)
-}
-
 fn kind_fits(param: &RawIps, kind: &Kind) -> bool
     ensures { result ≡ kind_fits param.now kind.now }
 {
@@ -118,7 +111,9 @@ fn takes_value(bare: &Option<RawName>, named: &Named) -> bool
 {
     match bare {
         None => true,
-        Some(name) => name_is_value(named, name),
+        Some(name) => {
+            is_word_item_if(kind_of(named, name)) || answers_alone(signature_of(named, name))
+        }
     }
 }
 
@@ -132,10 +127,10 @@ fn takes_plain(param: &RawIps, shape: &Shape, named: &Named) -> bool
     }
 }
 
-fn specified_so(named: &Named, name: &RawName, answer: &Option<RawType>, params: &[RawIps]) -> bool
-    ensures { result ≡ specified_so (signature_of named.now name.now) answer.now params.now }
+fn specified_so(signature: Option<&Signature>, answer: &Option<RawType>, params: &[RawIps]) -> bool
+    ensures { result ≡ specified_so (option_copied signature.entry) answer.now params.now }
 {
-    match signature_of(named, name) {
+    match signature {
         None => false,
         Some(signature) => {
             same_answer(&signature.answer, answer)
@@ -144,10 +139,10 @@ fn specified_so(named: &Named, name: &RawName, answer: &Option<RawType>, params:
     }
 }
 
-fn names_passed(named: &Named, name: &RawName) -> bool
-    ensures { result ≡ is_passed_if (kind_of named.now name.now) }
+fn is_passed_if(kind: Option<&Kind>) -> bool
+    ensures { result ≡ is_passed_if (option_copied kind.entry) }
 {
-    match kind_of(named, name) {
+    match kind {
         None => false,
         Some(kind) => is_passed(kind),
     }
@@ -163,7 +158,10 @@ fn takes_procedure(
 {
     match bare {
         None => false,
-        Some(name) => names_passed(named, name) && specified_so(named, name, answer, params),
+        Some(name) => {
+            is_passed_if(kind_of(named, name))
+                && specified_so(signature_of(named, name), answer, params)
+        }
     }
 }
 

@@ -1,5 +1,6 @@
 //! The scales of expressions.
-ghost use Rattle.std.specs.Prelude.{◌≡◌, ◌≤◌, ◌<◌, ◌==◌, max, length, map};
+ghost use Rattle.std.specs.Prelude.{◌≡◌, ◌≤◌, ◌<◌, ◌==◌, ◌&&◌, is_none, max, length, map, option_copied};
+ghost use Rattle.cw_tree.specs.declared.expression.RawSum.{out-RawSum};
 ghost use Rattle.cw_scale.specs.Kinds.{kind_of, fraction_of_kind};
 ghost use Rattle.cw_scale.specs.Arguments.{is_whole_if};
 ghost use Rattle.cw_scale.specs.TypeRules.{plain, number_shape, name_shape, place_shape, merged, logic_merged, fits_at, best_within};
@@ -8,6 +9,7 @@ ghost use Rattle.cw_scale.specs.TypeRules.{number_operand, expression, sum, term
 use crate::kinds::{
     fraction_of, fraction_of_kind, is_whole_if, is_word_item_if, kind_of, name_fraction,
 };
+use cw_facts::fact::Kind;
 use cw_scope::resolve::Named;
 use cw_tree::expression::{
     RawDiffer, RawExpr, RawMask, RawPrim, RawPrimary, RawRef, RawSum, RawTerm, RawUnion,
@@ -132,12 +134,19 @@ pub fn expression_shape(e: &RawExpr, named: &Named) -> Shape
     }
 }
 
+// Whether one operand is the whole sum: a sign makes a value of it.
+fn stands_alone(e: &RawSum) -> bool
+    ensures { result ≡ (length (out-RawSum e.now).operands == 1 && is_none (out-RawSum e.now).sign) }
+{
+    e.operands.as_slice().len() == 1 && e.sign.is_none()
+}
+
 #[cycle(shape)]
 pub(crate) fn sum_shape(e: &RawSum, named: &Named) -> Shape
     ensures { result ≡ (sum named.now e.now).shape }
 {
     let operands = e.operands.as_slice();
-    let alone = operands.len() == 1 && e.sign.is_none();
+    let alone = stands_alone(e);
     let mut shape = plain(0);
     for operand in operands {
         let next = term_shape(operand, named);
@@ -160,46 +169,35 @@ fn term_shape(e: &RawTerm, named: &Named) -> Shape
     shape
 }
 
+// One operand of word logic stands for the whole, and several come to scale 0.
 #[cycle(shape)]
 pub(crate) fn differ_shape(e: &RawDiffer, named: &Named) -> Shape
     ensures { result ≡ (differ named.now e.now).shape }
 {
-    let operands = e.operands.as_slice();
-    let alone = operands.len() == 1;
-    let mut shape = plain(0);
-    for operand in operands {
-        let next = union_shape(operand, named);
-        shape = logic_merged(alone, &next);
+    match e.operands.as_slice() {
+        [operand] => union_shape(operand, named),
+        _ => plain(0),
     }
-    shape
 }
 
 #[cycle(shape)]
 pub(crate) fn union_shape(e: &RawUnion, named: &Named) -> Shape
     ensures { result ≡ (union named.now e.now).shape }
 {
-    let operands = e.operands.as_slice();
-    let alone = operands.len() == 1;
-    let mut shape = plain(0);
-    for operand in operands {
-        let next = mask_shape(operand, named);
-        shape = logic_merged(alone, &next);
+    match e.operands.as_slice() {
+        [operand] => mask_shape(operand, named),
+        _ => plain(0),
     }
-    shape
 }
 
 #[cycle(shape)]
 pub(crate) fn mask_shape(e: &RawMask, named: &Named) -> Shape
     ensures { result ≡ (mask named.now e.now).shape }
 {
-    let operands = e.operands.as_slice();
-    let alone = operands.len() == 1;
-    let mut shape = plain(0);
-    for operand in operands {
-        let next = prim_shape(operand, named);
-        shape = logic_merged(alone, &next);
+    match e.operands.as_slice() {
+        [operand] => prim_shape(operand, named),
+        _ => plain(0),
     }
-    shape
 }
 
 #[cycle(shape)]
@@ -230,10 +228,9 @@ pub(crate) fn primary_shape(e: &RawPrimary, named: &Named) -> Shape
     }
 }
 
-fn indexed_shape(name: &RawName, named: &Named) -> Shape
-    ensures { let kind = kind_of named.now name.now in result ≡ place_shape (fraction_of_kind kind) (is_whole_if kind) }
+fn indexed_shape(kind: Option<&Kind>) -> Shape
+    ensures { let kind = option_copied kind.entry in result ≡ place_shape (fraction_of_kind kind) (is_whole_if kind) }
 {
-    let kind = kind_of(named, name);
     place_shape(fraction_of_kind(kind), is_whole_if(kind))
 }
 
@@ -246,8 +243,8 @@ pub fn reference_shape(r: &RawRef, named: &Named) -> Shape
             let kind = kind_of(named, name);
             name_shape(name, fraction_of_kind(kind), is_word_item_if(kind))
         }
-        RawRef::One(name, _) => indexed_shape(name, named),
-        RawRef::Two(name, _, _) => indexed_shape(name, named),
+        RawRef::One(name, _) => indexed_shape(kind_of(named, name)),
+        RawRef::Two(name, _, _) => indexed_shape(kind_of(named, name)),
         RawRef::Bare(..) => place_shape(0, true),
     }
 }

@@ -1,21 +1,8 @@
 //! The laws, by what they speak of: each is a function without a body, whose contract is the law.
-pub mod calls;
 pub mod expressions;
-pub mod front;
-pub mod items;
-pub mod labels;
-pub mod lines;
 pub mod names;
-pub mod need;
-pub mod presets;
-pub mod ranged;
-pub mod ranges;
-pub mod ready;
-pub mod regular;
 pub mod statements;
 pub mod storage;
 pub mod texts;
-pub mod tokens;
 pub mod trees;
 pub mod units;
-pub mod written;

@@ -1,5 +1,6 @@
 -- The two forms of a block, by how it ends.
 use Rattle.std.proofs.Common.{◌≡◌, ℕ, zero, suc, ◌+◌, ◌≤◌, List, [], ◌∷◌, ◌++◌, length, Some, None, refl, sym, ap, ◌∙◌, arith, append_assoc, length-append}
+use Rattle.std.proofs.lemmas.Option.{none-some}
 use Rattle.std.specs.Prelude.{◌-◌, ◌^◌, ◌==◌, nat_le, ℤ, pos, negsuc, Bool, true, false, if◌then◌else◌}
 use Rattle.cw_i86.specs.declared.instr.Instr.TheVariants as i86
 use Rattle.cw_order.specs.declared.order.Order.{Order}
@@ -153,13 +154,13 @@ no_jump block.Single (order.Neg n) line e = refl
 no_jump block.Single (order.Rescale from to n) line e = refl
 no_jump block.Single (order.Mul s n) line e = refl
 no_jump block.Single (order.Div s n) line e = refl
-no_jump block.Single o line e = absurd (cc)
+no_jump block.Single o line e = absurd (none-some line e)
 no_jump (block.Operate s (uses.Add n)) o line e = refl
 no_jump (block.Operate s (uses.Subtract n)) o line e = refl
 no_jump (block.Operate s (uses.Multiply n)) o line e = refl
-no_jump (block.Operate s u) o line e = absurd (cc)
+no_jump (block.Operate s u) o line e = absurd (none-some line e)
 no_jump (block.Count down n) o line e = refl
-no_jump b o line e = absurd (cc)
+no_jump b o line e = absurd (none-some line e)
 
 saved_if : (ends : Bool) (n line : ℕ) → (if ends then Some n else None) ≡ Some line → let saves : ℕ = if ends then 5 else 0 in saves ≡ 5
 saved_if true n line e = refl
@@ -172,13 +173,13 @@ check_saved block.Single (order.Neg n) line e = refl
 check_saved block.Single (order.Rescale from to n) line e = saved_if (nat_le from to) n line e
 check_saved block.Single (order.Mul s n) line e = saved_if (is_checked s) n line e
 check_saved block.Single (order.Div s n) line e = refl
-check_saved block.Single o line e = absurd (cc)
+check_saved block.Single o line e = absurd (none-some line e)
 check_saved (block.Operate s (uses.Add n)) o line e = refl
 check_saved (block.Operate s (uses.Subtract n)) o line e = refl
 check_saved (block.Operate s (uses.Multiply n)) o line e = refl
-check_saved (block.Operate s u) o line e = absurd (cc)
+check_saved (block.Operate s u) o line e = absurd (none-some line e)
 check_saved (block.Count down n) o line e = refl
-check_saved b o line e = absurd (cc)
+check_saved b o line e = absurd (none-some line e)
 
 -- in its whole form it ends with the check
 pub record EndsChecked (pieces : List Coded) (line : ℕ) : Type 0 where
@@ -201,10 +202,10 @@ ends_checked names place number block.Single (order.Neg n) line e = ends_so (cod
 ends_checked names place number block.Single (order.Rescale from to n) line e = ends_if (nat_le from to) (rescale n from to) (rescale_before from to) n line (rescale_ends n from to) e
 ends_checked names place number block.Single (order.Mul s n) line e = ends_if (is_checked s) (product n s) (product_before n s) n line (product_ends n s) e
 ends_checked names place number block.Single (order.Div s n) line e = ends_if true (quotient n s) (quotient_before n s) n line (λ is. quotient_ends n s) e
-ends_checked names place number block.Single o line e = absurd (cc)
+ends_checked names place number block.Single o line e = absurd (none-some line e)
 ends_checked names place number (block.Operate s (uses.Add n)) o line e = ends_so (with_operand 0 s) n line e
 ends_checked names place number (block.Operate s (uses.Subtract n)) o line e = ends_so (with_operand 5 s) n line e
 ends_checked names place number (block.Operate s (uses.Multiply n)) o line e = ends_so (product_with s) n line e
-ends_checked names place number (block.Operate s u) o line e = absurd (cc)
+ends_checked names place number (block.Operate s u) o line e = absurd (none-some line e)
 ends_checked names place number (block.Count down n) o line e = ends_so (coded.Whole (counted down) ∷ []) n line e
-ends_checked names place number b o line e = absurd (cc)
+ends_checked names place number b o line e = absurd (none-some line e)

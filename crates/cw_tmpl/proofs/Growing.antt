@@ -1,14 +1,15 @@
 -- Code grows piece by piece.
-use Rattle.std.proofs.Common.{◌≡◌, ℕ, ◌+◌, ◌-◌, ◌*◌, ◌^◌, pow_mono, pow_pos, pow-add, ◌<◌, ◌≤◌, List, [], ◌∷◌, ◌++◌, length, refl, sym, ap, ap₂, ◌∙◌, arith, append_assoc, length-append, Some}
+use Rattle.std.proofs.Common.{rules, lit<, subst, None, ◌≡◌, ℕ, ◌+◌, ◌-◌, ◌*◌, ◌^◌, pow_mono, pow_pos, pow-add, ◌<◌, ◌≤◌, List, [], ◌∷◌, ◌++◌, length, refl, sym, ap, ap₂, ◌∙◌, arith, append_assoc, length-append, Some}
 use Rattle.std.proofs.lemmas.List.{append-nil}
-use Rattle.cw_i86.specs.Encoding.{bytes_of}
+use Rattle.std.proofs.lemmas.Option.{none-some}
+use Rattle.cw_i86.specs.Encoding.{bytes_of, IsInstr}
 use Rattle.cw_i86.specs.declared.instr.Instr.{Instr}
 use Rattle.cw_unit.specs.declared.layout.Reloc.{Reloc}
 use Rattle.cw_tmpl.specs.declared.assembling.Assembly.{Assembly}
 use Rattle.cw_tmpl.specs.declared.pieces.Target.{Target}
 use Rattle.cw_tmpl.specs.declared.pieces.Coded.{Coded}
 use Rattle.cw_tmpl.specs.declared.pieces.Coded.TheVariants as coded
-use Rattle.cw_tmpl.specs.Pieces.{bytes_with, size_of, target_of, blanks, relocation_of, relocation_before, relocations}
+use Rattle.cw_tmpl.specs.Pieces.{bytes_with, size_of, target_of, instruction_of, IsCoded, blanks, relocation_of, relocation_before, relocations}
 use Rattle.cw_tmpl.specs.Assembling.{Adds}
 use Rattle.cw_word.specs.BitField.{field_mask}
 
@@ -43,6 +44,60 @@ word_added old new p t target bytes relocs =
       relocs = relocs ∙ ap (λ n. old.relocs ++ relocation_of (n - 2) t ∷ []) long
           ∙ ap (λ o. old.relocs ++ (relocation_before (length old.bytes + size_of p) o ++ [])) (sym target);
     }
+
+pub plain_added : (old new : Assembly) (p : Coded) → target_of p ≡ None → new.bytes ≡ old.bytes ++ bytes_with 0 p → new.relocs ≡ old.relocs → Adds old (p ∷ []) new
+plain_added old new p target bytes relocs = record {
+  bytes = bytes ∙ ap (λ l. old.bytes ++ l) (sym (append-nil (bytes_with 0 p)));
+  relocs = relocs ∙ sym (append-nil old.relocs) ∙ ap (λ o. old.relocs ++ (relocation_before (length old.bytes + size_of p) o ++ [])) (sym target);
+}
+
+-- the instruction of a piece
+same_instruction : (i j : Instr) → Some i ≡ Some j → i ≡ j
+same_instruction i j e = cc
+
+as_bytes : (i j : Instr) → Some i ≡ Some j → bytes_of j ≡ bytes_of i
+as_bytes i j e = ap bytes_of (sym (same_instruction i j e))
+
+as_instruction : (i j : Instr) → Some i ≡ Some j → IsInstr i → IsInstr j
+as_instruction i j e = subst IsInstr (same_instruction i j e)
+
+pub instruction_bytes : (p : Coded) (i : Instr) → instruction_of p ≡ Some i → bytes_of i ≡ bytes_with 0 p
+instruction_bytes (coded.Whole j) i e = as_bytes _ i e
+instruction_bytes (coded.Move reg t) i e = as_bytes _ i e
+instruction_bytes (coded.Sum reg t) i e = as_bytes _ i e
+instruction_bytes (coded.Fetch reg t) i e = as_bytes _ i e
+instruction_bytes (coded.Load t) i e = as_bytes _ i e
+instruction_bytes (coded.Store t) i e = as_bytes _ i e
+instruction_bytes (coded.PushCode t) i e = as_bytes _ i e
+instruction_bytes (coded.Operate op reg t) i e = as_bytes _ i e
+instruction_bytes (coded.Change op reg t) i e = as_bytes _ i e
+instruction_bytes (coded.Call t) i e = as_bytes _ i e
+instruction_bytes (coded.Jump t) i e = as_bytes _ i e
+instruction_bytes (coded.Way t) i e = as_bytes _ i e
+instruction_bytes (coded.Word t) i e = absurd (none-some i e)
+instruction_bytes (coded.Data n) i e = absurd (none-some i e)
+
+pub instruction_coded : (p : Coded) (i : Instr) → IsCoded p → instruction_of p ≡ Some i → IsInstr i
+instruction_coded (coded.Whole j) i h e = as_instruction _ i e h
+instruction_coded (coded.Move reg t) i h e = as_instruction _ i e h
+instruction_coded (coded.Sum reg t) i h e = as_instruction _ i e h
+instruction_coded (coded.Fetch reg t) i h e = as_instruction _ i e h
+instruction_coded (coded.Load t) i h e = as_instruction _ i e (lit< tt)
+instruction_coded (coded.Store t) i h e = as_instruction _ i e (lit< tt)
+instruction_coded (coded.PushCode t) i h e = as_instruction _ i e (search rules)
+instruction_coded (coded.Operate op reg t) i h e = as_instruction _ i e h
+instruction_coded (coded.Change op reg t) i h e = as_instruction _ i e h
+instruction_coded (coded.Call t) i h e = as_instruction _ i e (lit< tt)
+instruction_coded (coded.Jump t) i h e = as_instruction _ i e (lit< tt)
+instruction_coded (coded.Way t) i h e = as_instruction _ i e (search rules)
+instruction_coded (coded.Word t) i h e = absurd (none-some i e)
+instruction_coded (coded.Data n) i h e = absurd (none-some i e)
+
+-- a piece with a word that is filled has room for it
+pub word_room : (p : Coded) (t : Target) → target_of p ≡ Some t → 2 ≤ size_of p
+word_room (coded.Whole i) t e = absurd (none-some t e)
+word_room (coded.Data n) t e = absurd (none-some t e)
+word_room _ t e = omega arith
 
 -- ---- many pieces
 

@@ -1,6 +1,8 @@
 -- The orders of a block stand at the front of the list that it begins.
 use Rattle.std.proofs.Common.{◌≡◌, ℕ, zero, suc, ◌+◌, ℤ, pos, List, [], ◌∷◌, ◌++◌, length, drop, Bool, true, false, Option, Some, None, refl, sym, ap, ap₂, ◌∙◌, subst, arith, append_assoc, length-append}
+use Rattle.std.proofs.lemmas.Bool.{false≢true}
 use Rattle.std.proofs.lemmas.Bool.Decides.{nat_tests}
+use Rattle.std.proofs.lemmas.Option.{none-some}
 use Rattle.std.specs.Prelude.{slice_get, if◌then◌else◌, negsuc, ◌==◌, ◌&&◌, int_le, ◌-ℤ◌}
 use Rattle.cw_order.specs.declared.order.Order.{Order}
 use Rattle.cw_order.specs.declared.order.Order.TheVariants as order
@@ -68,20 +70,20 @@ behind_save : (before os : List Order) (o : Order) → BeginsWith before o os �
 behind_save before os o e = ap (λ l. order.Save ∷ l) e
 
 place_shape : (os : List Order) (x : Place) → place_at os ≡ Some x → os ≡ address_orders x ++ drop (length (address_orders x)) os
-place_shape [] x e = absurd (cc)
+place_shape [] x e = absurd (none-some x e)
 place_shape (order.Home f n ∷ os) x e =
     let same : cell.Word f n ≡ x = cc in
     subst (λ y. order.Home f n ∷ os ≡ address_orders y ++ drop (length (address_orders y)) (order.Home f n ∷ os)) same refl
 place_shape (order.FrameHome n ∷ os) x e =
     let same : cell.Frame n ≡ x = cc in
     subst (λ y. order.FrameHome n ∷ os ≡ address_orders y ++ drop (length (address_orders y)) (order.FrameHome n ∷ os)) same refl
-place_shape (_ ∷ os) x e = absurd (cc)
+place_shape (_ ∷ os) x e = absurd (none-some x e)
 
 as_used : (o : Order) (v u : Use) → order_of v ≡ o → Some v ≡ Some u → Some o ≡ Some (order_of u)
 as_used o v u is e = let same : v ≡ u = cc in ap Some (sym is ∙ ap order_of same)
 
 use_shape : (next : Option Order) (u : Use) → use_of next ≡ Some u → next ≡ Some (order_of u)
-use_shape None u e = absurd (cc)
+use_shape None u e = absurd (none-some u e)
 use_shape (Some (order.Add line)) u e = as_used (order.Add line) (uses.Add line) u refl e
 use_shape (Some (order.Sub line)) u e = as_used (order.Sub line) (uses.Subtract line) u refl e
 use_shape (Some (order.Mul (pos zero) line)) u e = as_used (order.Mul (pos zero) line) (uses.Multiply line) u refl e
@@ -89,7 +91,7 @@ use_shape (Some order.And) u e = as_used order.And uses.Mask u refl e
 use_shape (Some order.Or) u e = as_used order.Or uses.Union u refl e
 use_shape (Some order.Xor) u e = as_used order.Xor uses.Differ u refl e
 use_shape (Some (order.JumpIf c m)) u e = as_used (order.JumpIf c m) (uses.Compare c m) u refl e
-use_shape (Some _) u e = absurd (cc)
+use_shape (Some _) u e = absurd (none-some u e)
 
 -- what is known of an element that the orders at the front of a list make
 abbrev pub IsElement : List Order → Element → Type 0
@@ -104,13 +106,13 @@ both_bounds (negsuc m) (negsuc n) e = let same : m ≡ n = grind (arith, nat_tes
 
 is_a_save : (o : Option Order) → is_save o ≡ true → o ≡ Some order.Save
 is_a_save (Some order.Save) e = refl
-is_a_save None e = absurd (cc)
-is_a_save (Some _) e = absurd (cc)
+is_a_save None e = absurd (false≢true e)
+is_a_save (Some _) e = absurd (false≢true e)
 
 is_a_load : (o : Option Order) → is_load o ≡ true → o ≡ Some order.Load
 is_a_load (Some order.Load) e = refl
-is_a_load None e = absurd (cc)
-is_a_load (Some _) e = absurd (cc)
+is_a_load None e = absurd (false≢true e)
+is_a_load (Some _) e = absurd (false≢true e)
 
 -- the orders that make the address of an element
 element_shape : (os : List Order) (e : Element) → element_at (place_at os) os ≡ Some e → IsElement os e
@@ -166,7 +168,7 @@ element_shape os e is = placed (place_at os) refl is
         addressed x f n l s line (zero_word l s n) refl
         (there ∙ ap (λ r. address_orders x ++ order.Load ∷ r)
         (further k 1 order.Save e2 ∙ ap (λ r. order.Save ∷ r) (further k 2 (order.Home f n) e3 ∙ ap (λ r. order.Home f n ∷ r) (further k 3 (order.Element l s line) e4)))) is
-    addressed_at x _ _ e2 e3 e4 there is = absurd (cc)
+    addressed_at x _ _ e2 e3 e4 there is = absurd (none-some e is)
 
     bounded_at : (x : Place) (puts forms bounds : Option Order) → slice_get os (length (address_orders x) + 1) ≡ bounds → slice_get os (length (address_orders x) + 2) ≡ Some order.Save
         → slice_get os (length (address_orders x) + 3) ≡ puts → slice_get os (length (address_orders x) + 4) ≡ forms → os ≡ address_orders x ++ order.Load ∷ drop (length (address_orders x) + 1) os
@@ -177,7 +179,7 @@ element_shape os e is = placed (place_at os) refl is
         (there ∙ ap (λ r. address_orders x ++ order.Load ∷ r)
         (further k 1 (order.InBounds l u at) e2 ∙ ap (λ r. order.InBounds l u at ∷ r)
         (further k 2 order.Save e3 ∙ ap (λ r. order.Save ∷ r) (further k 3 (order.Home f n) e4 ∙ ap (λ r. order.Home f n ∷ r) (further k 4 (order.Element begins s line) e5))))) is
-    bounded_at x _ _ _ e2 e3 e4 e5 there is = absurd (cc)
+    bounded_at x _ _ _ e2 e3 e4 e5 there is = absurd (none-some e is)
 
     formed : (x : Place) (second third : Option Order) (first_saves then_saves : Bool) → slice_get os (length (address_orders x) + 1) ≡ second → slice_get os (length (address_orders x) + 2) ≡ third
         → is_save second ≡ first_saves → is_save third ≡ then_saves → os ≡ address_orders x ++ order.Load ∷ drop (length (address_orders x) + 1) os
@@ -338,7 +340,7 @@ module _ (os : List Order) where
 
 -- behind the comparison of an index with bounds
 form_shape : (lower : ℤ) (o : Option Order) (w : Form) → form_of lower o ≡ Some w → o ≡ Some (form_order lower w)
-form_shape lower None w is = absurd (cc)
+form_shape lower None w is = absurd (none-some w is)
 form_shape lower (Some (order.Element l span line)) w is = cases (int_le lower l && int_le l lower) refl is
   where
     cases : (same : Bool) → (int_le lower l && int_le l lower) ≡ same → (if same then Some (form.Element span line) else None) ≡ Some w → Some (order.Element l span line) ≡ Some (form_order lower w)
@@ -350,7 +352,7 @@ form_shape lower (Some (order.Element l span line)) w is = cases (int_le lower l
 form_shape lower (Some (order.Entry width word span line)) w is =
     let made : form.Entry width word span line ≡ w = cc in
     ap (λ y. Some (form_order lower y)) made
-form_shape lower (Some _) w is = absurd (cc)
+form_shape lower (Some _) w is = absurd (none-some w is)
 
 bounded_shape : (os : List Order) (b : Bounds) (saves puts forms : Option Order) → slice_get os 0 ≡ saves → slice_get os 1 ≡ puts → slice_get os 2 ≡ forms
     → IsBlock (behind_bounds b saves puts forms) (order.InBounds b.lower b.upper b.line ∷ os)
@@ -384,16 +386,16 @@ column_shape (order.Home f n ∷ order.Load ∷ os) c is =
 column_shape (order.FrameHome n ∷ order.Load ∷ os) c is =
     let same : column.Contents (cell.Frame n) ≡ c = cc in
     subst (λ y. order.FrameHome n ∷ order.Load ∷ os ≡ column_orders y ++ drop (length (column_orders y)) (order.FrameHome n ∷ order.Load ∷ os)) same refl
-column_shape (_ ∷ _) c is = absurd (cc)
-column_shape [] c is = absurd (cc)
+column_shape (_ ∷ _) c is = absurd (none-some c is)
+column_shape [] c is = absurd (none-some c is)
 
 -- bounds that an order compares an index with
 bounds_there : (o : Option Order) (b : Bounds) → bounds_at o ≡ Some b → o ≡ Some (order.InBounds b.lower b.upper b.line)
 bounds_there (Some (order.InBounds l u line)) b is =
     let same : record { lower = l; upper = u; line = line } ≡ b = cc in
     ap (λ y. Some (order.InBounds y.lower y.upper y.line)) same
-bounds_there None b is = absurd (cc)
-bounds_there (Some _) b is = absurd (cc)
+bounds_there None b is = absurd (none-some b is)
+bounds_there (Some _) b is = absurd (none-some b is)
 
 -- what is known of an element of two dimensions that the orders at the front of a list make
 abbrev IsRow : List Order → Row → Type 0
@@ -438,7 +440,7 @@ row_made_shape rows c os columns (Some (order.Home f n)) (Some (order.ElementIns
     cases true true same same' false within is = absurd (cc)
     cases true false same same' w within is = absurd (cc)
     cases false b same same' w within is = absurd (cc)
-row_made_shape rows c os columns _ _ r there e0 e1 e2 e3 is = absurd (cc)
+row_made_shape rows c os columns _ _ r there e0 e1 e2 e3 is = absurd (none-some r is)
 
 row_formed_shape : (rows : Bounds) (c : Column) (os : List Order) (columns : Option Bounds) (saves : Bool) (r : Row) → os ≡ column_orders c ++ drop (length (column_orders c)) os
     → bounds_at (slice_get os (length (column_orders c))) ≡ columns → is_save (slice_get os (length (column_orders c) + 1)) ≡ saves
@@ -462,13 +464,13 @@ row_behind_shape rows (Some c) os r there is =
 
 row_saved_shape : (rows : Bounds) (os : List Order) (r : Row) → row_saved rows os ≡ Some r → IsRow (order.InBounds rows.lower rows.upper rows.line ∷ os) r
 row_saved_shape rows (order.Save ∷ os) r is = row_behind_shape rows (column_at os) os r refl is
-row_saved_shape rows (_ ∷ _) r is = absurd (cc)
-row_saved_shape rows [] r is = absurd (cc)
+row_saved_shape rows (_ ∷ _) r is = absurd (none-some r is)
+row_saved_shape rows [] r is = absurd (none-some r is)
 
 row_shape : (os : List Order) (r : Row) → row_at os ≡ Some r → IsRow os r
 row_shape (order.InBounds l u line ∷ os) r is = row_saved_shape (record { lower = l; upper = u; line = line }) os r is
-row_shape (_ ∷ _) r is = absurd (cc)
-row_shape [] r is = absurd (cc)
+row_shape (_ ∷ _) r is = absurd (none-some r is)
+row_shape [] r is = absurd (none-some r is)
 
 -- and another block where there is none
 row_or_shape : (os : List Order) (other : Block) → IsBlock other os → IsBlock (row_or (row_at os) other) os

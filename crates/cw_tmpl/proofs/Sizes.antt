@@ -267,13 +267,16 @@ behind_save x same [] = refl
 behind_save x same (y ∷ ys) = ap (λ n. n + sizes_behind (Some x) (Some y) ys) (same y)
 
 -- what is fetched from a place is no order alone
+fetch_single : (x : Place) → block.Fetch x ≡ block.Single → ⊥
+fetch_single x is = cc
+
 fetched_never_single : (x : Place) (e : Option Element) (os : List Order) → fetched_or e os (block.Fetch x) ≡ block.Single → ⊥
-fetched_never_single x None os is = cc
+fetched_never_single x None os is = fetch_single x is
 fetched_never_single x (Some e) os is = cases (slice_get os (length (element_orders e))) is
   where
     cases : (o : Option Order) → element_fetched e o (block.Fetch x) ≡ block.Single → ⊥
     cases (Some order.Load) is = cc
-    cases _ is = cc
+    cases _ is = fetch_single x is
 
 -- nor is it with a comparison or another word behind it
 compared_never_single : (n : ℕ) (saves puts jumps : Option Order) (other : Block) → (other ≡ block.Single → ⊥) → compared_or n saves puts jumps other ≡ block.Single → ⊥
@@ -282,29 +285,38 @@ compared_never_single n _ _ _ other never is = never is
 
 both_never_single : (n : ℕ) (saves : Option Order) (saved next : Block) → both_or n saves saved next (block.Fetch (cell.Frame n)) ≡ block.Single → ⊥
 both_never_single n (Some order.Save) block.Single (block.Fetch (cell.Frame m)) is = cc
-both_never_single n _ _ _ is = cc
+both_never_single n _ _ _ is = fetch_single (cell.Frame n) is
 
 joined_single : (b : Block) (os : List Order) → joined b os ≡ block.Single → b ≡ block.Single
 joined_single (block.Fetch (cell.Frame n)) os is = absurd (compared_never_single n (slice_get os 2) (slice_get os 3) (slice_get os 4) (fetched_behind n os) (both_never_single n (slice_get os 2) (block_alone (drop 2 os)) (block_alone (drop 3 os))) is)
 joined_single b os is = is
+
+-- an order and one behind it, which has no fewer bytes there than alone
+before_fits : (o x : Order) (os : List Order) → size_in_list o + owed (Some o) ≡ listed_size o → size_behind None (Some o) x ≡ owed (Some o) + size_in_list x → sizes_behind (Some o) (Some x) os ≡ sizes_behind None (Some x) os
+    → listed_size o + listed_sizes (x ∷ os) ≤ listed_sizes (o ∷ x ∷ os)
+before_fits o x os size next same = omega (arith, size, next, same)
+
+-- an order that owes no bytes, and those behind it
+other_fits : (o : Order) (os : List Order) → size_in_list o ≡ listed_size o → sizes_behind None (Some o) os ≡ listed_sizes os → listed_size o + listed_sizes os ≤ listed_sizes (o ∷ os)
+other_fits o os size same = omega (arith, size, same)
 
 -- an order alone, and the orders behind it
 single_fits : (o : Order) (os : List Order) → block_of (o ∷ os) ≡ block.Single → listed_size o + listed_sizes os ≤ listed_sizes (o ∷ os)
 single_fits order.Save [] is = omega arith
 single_fits order.Save (order.Home f n ∷ []) is = omega arith
 single_fits order.Save (order.Home f n ∷ order.Store ∷ os) is = absurd (cc)
-single_fits order.Save (order.Home f n ∷ o ∷ os) is = omega arith
+single_fits order.Save (order.Home f n ∷ o ∷ os) is = before_fits order.Save (order.Home f n) (o ∷ os) refl refl refl
 single_fits order.Save (order.FrameHome n ∷ []) is = omega arith
 single_fits order.Save (order.FrameHome n ∷ order.Store ∷ os) is = absurd (cc)
-single_fits order.Save (order.FrameHome n ∷ o ∷ os) is = omega arith
-single_fits order.Save (x ∷ os) is = omega (arith, behind_save x (λ y. refl) os)
+single_fits order.Save (order.FrameHome n ∷ o ∷ os) is = before_fits order.Save (order.FrameHome n) (o ∷ os) refl refl refl
+single_fits order.Save (x ∷ os) is = before_fits order.Save x os refl refl (behind_save x (λ y. refl) os)
 single_fits (order.Home f n) [] is = omega arith
 single_fits (order.Home f n) (order.Load ∷ os) is = absurd (fetched_never_single (cell.Word f n) (element_at (Some (cell.Word f n)) (order.Home f n ∷ order.Load ∷ os)) (order.Home f n ∷ order.Load ∷ os) (joined_single _ (order.Home f n ∷ order.Load ∷ os) is))
-single_fits (order.Home f n) (x ∷ os) is = omega (arith, behind_unsaved (order.Home f n) tt x os)
+single_fits (order.Home f n) (x ∷ os) is = before_fits (order.Home f n) x os refl refl (behind_unsaved (order.Home f n) tt x os)
 single_fits (order.FrameHome n) [] is = omega arith
 single_fits (order.FrameHome n) (order.Load ∷ os) is = absurd (fetched_never_single (cell.Frame n) (element_at (Some (cell.Frame n)) (order.FrameHome n ∷ order.Load ∷ os)) (order.FrameHome n ∷ order.Load ∷ os) (joined_single _ (order.FrameHome n ∷ order.Load ∷ os) is))
-single_fits (order.FrameHome n) (x ∷ os) is = omega (arith, behind_unsaved (order.FrameHome n) tt x os)
-single_fits o os is = omega (arith, behind_other None o tt (λ x. refl) refl os)
+single_fits (order.FrameHome n) (x ∷ os) is = before_fits (order.FrameHome n) x os refl refl (behind_unsaved (order.FrameHome n) tt x os)
+single_fits o os is = other_fits o os refl (behind_other None o tt (λ x. refl) refl os)
 
 pub listed : (o : Order) → order_size o ≡ listed_size o
 listed (order.Const zero) = refl

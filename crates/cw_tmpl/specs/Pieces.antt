@@ -2,6 +2,7 @@
 use Rattle.std.specs.Prelude.{true, false, ℕ, ◌+◌, ◌-◌, ◌/◌, ◌%◌, ◌<◌, List, [], ◌∷◌, ◌++◌, length, slice_set, Option, Some, None}
 use Rattle.cw_i86.specs.Encoding.{bytes_of, word, IsInstr}
 use Rattle.cw_i86.specs.declared.instr.Imm.TheVariants as imm
+use Rattle.cw_i86.specs.declared.instr.Instr.{Instr}
 use Rattle.cw_i86.specs.declared.instr.Instr.TheVariants as i86
 use Rattle.cw_run86.specs.Views.{with_memory}
 use Rattle.cw_unit.specs.declared.layout.Reloc.{Reloc}
@@ -50,6 +51,28 @@ target_of (coded.Jump t) = Some t
 target_of (coded.Word t) = Some t
 target_of (coded.Data n) = None
 target_of (coded.Way t) = Some t
+
+-- the instruction of a piece, with the word 0; a word alone has none
+abbrev pub instruction_of : Coded → Option Instr
+instruction_of (coded.Whole i) = Some i
+instruction_of (coded.Move reg t) = Some (i86.MovImm reg (imm.Word 0))
+instruction_of (coded.Sum reg t) = Some (operate_number 0 reg 0)
+instruction_of (coded.Fetch reg t) = Some (load reg (memory (places.Direct 0)))
+instruction_of (coded.Load t) = Some (i86.MovAcc false true false 0)
+instruction_of (coded.Store t) = Some (i86.MovAcc false true true 0)
+instruction_of (coded.PushCode t) = Some (i86.PushRm (code_at 0))
+instruction_of (coded.Operate op reg t) = Some (with_memory op reg 0)
+instruction_of (coded.Change op reg t) = Some (change_memory op 0 reg)
+instruction_of (coded.Call t) = Some (i86.Call 0)
+instruction_of (coded.Jump t) = Some (i86.Jump 0)
+instruction_of (coded.Word t) = None
+instruction_of (coded.Data n) = None
+instruction_of (coded.Way t) = Some (i86.JumpRm (entry_of_table 0))
+
+-- the word of one that is a word alone
+abbrev pub word_alone : Coded → ℕ
+word_alone (coded.Data n) = n
+word_alone _ = 0
 
 -- The instruction has the numbers of its row, and a word that is known is one.
 abbrev pub IsCoded : Coded → Type 0

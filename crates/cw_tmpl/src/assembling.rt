@@ -2,12 +2,14 @@
 ghost use Rattle.std.specs.Prelude.{◌≡◌, ◌≤◌, ◌++◌, ◌-◌, ◌∷◌, [], length, OnOk};
 ghost use Rattle.cw_i86.specs.Encoding.{bytes_of, IsInstr};
 ghost use Rattle.cw_tmpl.specs.Assembling.{Adds};
-ghost use Rattle.cw_tmpl.specs.Pieces.{relocation_of, IsCoded, AllCoded};
+ghost use Rattle.cw_tmpl.specs.Pieces.{bytes_with, instruction_of, word_alone, target_of, relocation_of, IsCoded, AllCoded};
 
-use crate::instructions::{AT_ZERO, CODE_AT_ZERO, change, entry_of_table, load, operate_number};
+use crate::instructions::{
+    AT_ZERO, CODE_AT_ZERO, change, entry_of_table, load, operate, operate_number,
+};
 use crate::pieces::{Coded, Limit, Target};
 use cw_enc86::encode;
-use cw_i86::{Imm, Instr, Mem, Place, Rm};
+use cw_i86::{Imm, Instr};
 use cw_unit::layout::Reloc;
 use cw_word::{List, NoMemory};
 
@@ -60,6 +62,71 @@ fn relocation(place: u32, target: Target) -> Reloc
     }
 }
 
+/// The instruction of a piece, with 0 for the word that the linker fills; None for a word alone.
+fn instruction_of(piece: &Coded) -> Option<Instr>
+    ensures { result ≡ instruction_of piece.now }
+{
+    match *piece {
+        Coded::Whole(instruction) => Some(instruction),
+        Coded::Move { reg, .. } => Some(Instr::MovImm {
+            reg,
+            imm: Imm::Word(0),
+        }),
+        Coded::Sum { reg, .. } => Some(operate_number(0, reg, 0)),
+        Coded::Fetch { reg, .. } => Some(load(reg, AT_ZERO)),
+        Coded::Load(_) => Some(Instr::MovAcc {
+            cs: false,
+            wide: true,
+            store: false,
+            at: 0,
+        }),
+        Coded::Store(_) => Some(Instr::MovAcc {
+            cs: false,
+            wide: true,
+            store: true,
+            at: 0,
+        }),
+        Coded::PushCode(_) => Some(Instr::PushRm(CODE_AT_ZERO)),
+        Coded::Operate { operation, reg, .. } => Some(operate(operation, reg, AT_ZERO)),
+        Coded::Change { operation, reg, .. } => Some(change(operation, AT_ZERO, reg)),
+        Coded::Call(_) => Some(Instr::Call(0)),
+        Coded::Jump(_) => Some(Instr::Jump(0)),
+        Coded::Way(_) => Some(Instr::JumpRm(entry_of_table(0))),
+        Coded::Word(_) | Coded::Data(_) => None,
+    }
+}
+
+/// The word of a piece that is a word alone, with 0 for one that the linker fills.
+fn word_alone(piece: &Coded) -> u16
+    ensures { result ≡ word_alone piece.now }
+{
+    match *piece {
+        Coded::Data(word) => word,
+        _ => 0,
+    }
+}
+
+/// What the linker fills the word of a piece with.
+fn target_of(piece: &Coded) -> Option<Target>
+    ensures { result ≡ target_of piece.now }
+{
+    match *piece {
+        Coded::Whole(_) | Coded::Data(_) => None,
+        Coded::Move { target, .. }
+        | Coded::Sum { target, .. }
+        | Coded::Fetch { target, .. }
+        | Coded::Operate { target, .. }
+        | Coded::Change { target, .. }
+        | Coded::Load(target)
+        | Coded::Store(target)
+        | Coded::PushCode(target)
+        | Coded::Call(target)
+        | Coded::Jump(target)
+        | Coded::Word(target)
+        | Coded::Way(target) => Some(target),
+    }
+}
+
 impl Assembly {
     fn put_bytes(&mut self, bytes: &[u8]) -> Result<(), NoMemory>
         ensures bytes { OnOk result (self.new.bytes ≡ self.old.bytes ++ bytes.now) }
@@ -93,92 +160,27 @@ impl Assembly {
         }
     }
 
+    /// Adds a piece with 0 for the word that the linker fills.
+    fn put_blank(&mut self, piece: &Coded) -> Result<(), NoMemory>
+        requires { IsCoded piece.now }
+        ensures bytes { OnOk result (self.new.bytes ≡ self.old.bytes ++ bytes_with 0 piece.now) }
+        ensures relocs { self.new.relocs ≡ self.old.relocs }
+    {
+        match instruction_of(piece) {
+            Some(instruction) => self.put_instruction(&instruction),
+            None => self.put_bytes(&word_alone(piece).to_le_bytes()),
+        }
+    }
+
     /// Adds a piece. NoMemory comes for want of memory, and where a relocation would stand past 2^32 - 1.
     pub fn put(&mut self, piece: &Coded) -> Result<(), NoMemory>
         requires { IsCoded piece.now }
         ensures { OnOk result (Adds self.old (piece.now ∷ []) self.new) }
     {
-        match *piece {
-            Coded::Whole(instruction) => self.put_instruction(&instruction),
-            Coded::Move { reg, target } => {
-                self.put_instruction(&Instr::MovImm {
-                    reg,
-                    imm: Imm::Word(0),
-                })?;
-                self.relocate(target)
-            }
-            Coded::Sum { reg, target } => {
-                self.put_instruction(&operate_number(0, reg, 0))?;
-                self.relocate(target)
-            }
-            Coded::Fetch { reg, target } => {
-                self.put_instruction(&load(reg, AT_ZERO))?;
-                self.relocate(target)
-            }
-            Coded::Load(target) => {
-                self.put_instruction(&Instr::MovAcc {
-                    cs: false,
-                    wide: true,
-                    store: false,
-                    at: 0,
-                })?;
-                self.relocate(target)
-            }
-            Coded::Store(target) => {
-                self.put_instruction(&Instr::MovAcc {
-                    cs: false,
-                    wide: true,
-                    store: true,
-                    at: 0,
-                })?;
-                self.relocate(target)
-            }
-            Coded::PushCode(target) => {
-                self.put_instruction(&Instr::PushRm(CODE_AT_ZERO))?;
-                self.relocate(target)
-            }
-            Coded::Operate {
-                operation,
-                reg,
-                target,
-            } => {
-                self.put_instruction(&Instr::AluRm {
-                    op: operation,
-                    wide: true,
-                    to_reg: true,
-                    reg,
-                    rm: Rm::Mem(Mem {
-                        cs: false,
-                        place: Place::Direct(0),
-                    }),
-                })?;
-                self.relocate(target)
-            }
-            Coded::Change {
-                operation,
-                reg,
-                target,
-            } => {
-                self.put_instruction(&change(operation, AT_ZERO, reg))?;
-                self.relocate(target)
-            }
-            Coded::Call(target) => {
-                self.put_instruction(&Instr::Call(0))?;
-                self.relocate(target)
-            }
-            Coded::Jump(target) => {
-                self.put_instruction(&Instr::Jump(0))?;
-                self.relocate(target)
-            }
-            Coded::Data(word) => self.put_bytes(&word.to_le_bytes()),
-            Coded::Word(target) => {
-                self.put_bytes(&[0, 0])?;
-                self.relocate(target)
-            }
-            Coded::Way(target) => {
-                self.put_instruction(&Instr::JumpRm(entry_of_table(0)))?;
-                self.relocate(target)
-            }
+        self.put_blank(piece)?;
+        match target_of(piece) {
+            Some(target) => self.relocate(target),
+            None => Ok(()),
         }
     }
 

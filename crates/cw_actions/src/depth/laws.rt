@@ -10,9 +10,9 @@ ghost use Rattle.cw_correct.specs.Results.{BoundsRuns};
 
 use cw_compile::laws::one_outcome;
 use cw_deepest::laws::linked::no_depth_stop;
-use cw_sound::laws::calls::units_fit;
+use cw_sound::laws::expressions::units_fit;
 use cw_sound::laws::texts::text_units;
-use cw_sound::laws::tokens::unit_counted;
+use cw_sound::laws::trees::unit_counted;
 use cw_tokens::laws::tokens_counted;
 
 /// The procedures of a text's unit have numbers of two bytes: each takes four tokens of the text.

@@ -1,4 +1,4 @@
-//! Laws of the names of a text: each is a function without a body, whose contract is the law.
+//! Laws of the names and labels of a text: each is a function without a body, whose contract is the law.
 ghost use Rattle.std.specs.Prelude.{◌≡◌, true, None, IsTrue};
 ghost use Rattle.std.specs.declared.result.Result.TheVariants as results;
 ghost use Rattle.cw_facts.specs.Facts.{block_facts};
@@ -13,8 +13,9 @@ ghost use Rattle.cw_sound.specs.Uses.Stands.{FactsStand};
 ghost use Rattle.cw_sound.specs.Uses.Mentions.{listed_mentions, block_mentions, text_mentions};
 ghost use Rattle.cw_sound.specs.Names.Placed.{Placed};
 ghost use Rattle.cw_sound.specs.Names.Found.{UsesFound};
-ghost use Rattle.cw_sound.specs.Names.Standing.{AnswersAreCalled, AnswersFit, CountsOwn, FewParameters, Stand, ItemsStand};
-ghost use Rattle.cw_sound.specs.Names.Standing.{is_element, is_own_procedure, is_control, is_built_in, is_common};
+ghost use Rattle.cw_sound.specs.Names.Standing.{AnswersAreCalled, AnswersFit, CountsOwn, FewParameters, Stand, ItemsStand, is_element, is_own_procedure};
+ghost use Rattle.cw_sound.specs.Names.Standing.{is_control, is_built_in, is_common};
+ghost use Rattle.cw_tokens.specs.SetLabels.{LabelsStand};
 
 /// Each use of a name of a text without faults refers to a declaration that allows it, of the same body or of none.
 pub fn uses_found()
@@ -136,3 +137,8 @@ pub fn all_stand()
     built_ins();
     answers_are_called();
 }
+
+/// The unit of a text has no more labels than its bodies set.
+pub fn labels_set()
+    ensures { (named : Named) → LabelsStand (unit_of named) }
+{}

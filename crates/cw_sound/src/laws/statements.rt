@@ -1,7 +1,7 @@
-//! Laws of the statements of a text: each is a function without a body, whose contract is the law.
+//! Laws of the statements of a text, and of the numbers of its unit: each is a function without a body, whose contract is the law.
 //!
-//! In the body of the segment, or of one of its procedures, the names that are used stand for right things of a unit, ANSWER too, and no type has a
-//! fault.
+//! In the body of the segment, or of one of its procedures, the names that are used stand for right things of a unit, ANSWER too, and no type has
+//! a fault.
 ghost use Rattle.std.specs.Prelude.{◌≡◌, ℕ, ◌≤◌, Bool, true, IsTrue, List, map, Option, Some, None};
 ghost use Rattle.cw_table.specs.declared.table.Row.{Row};
 ghost use Rattle.cw_tree.specs.declared.statement.RawBlock.{RawBlock};
@@ -9,7 +9,7 @@ ghost use Rattle.cw_tree.specs.declared.statement.RawStmt.{RawStmt};
 ghost use Rattle.cw_facts.specs.Facts.{statement_facts, block_facts};
 ghost use Rattle.cw_scope.specs.declared.resolve.Named.{Named};
 ghost use Rattle.cw_items.specs.declared.families.Site.{Site};
-ghost use Rattle.cw_judge.specs.Judged.{statement_judged, block_judged};
+ghost use Rattle.cw_judge.specs.Judged.{statement_judged, block_judged, first_type_fault};
 ghost use Rattle.cw_make_expr.specs.Parts.{Numbers};
 ghost use Rattle.cw_make_stmt.specs.Made.{statement_of, block_of};
 ghost use Rattle.cw_unit.specs.declared.unit.Unit.{Unit as SourceUnit};
@@ -29,6 +29,21 @@ ghost use Rattle.cw_sound.specs.Statements.Bodies.{Body, block_bodies};
 ghost use Rattle.cw_sound.specs.Statements.Counted.{Counted, BodiesFit, BodiesBuilt};
 ghost use Rattle.cw_sound.specs.Statements.Levels.{statement_levels, block_levels};
 ghost use Rattle.cw_sound.specs.Statements.Regular.{is_regular_statement, is_regular_block};
+ghost use Rattle.std.specs.List.{list_all};
+ghost use Rattle.std.specs.declared.result.Result.TheVariants.{Ok};
+ghost use Rattle.cw_tree.specs.declared.segment.Raw.{Raw};
+ghost use Rattle.cw_scope.specs.Outcome.{Resolves};
+ghost use Rattle.cw_make.specs.Made.{unit_of};
+ghost use Rattle.cw_unit.specs.declared.unit.Switch.{Switch};
+ghost use Rattle.cw_built.specs.Coded.{has_few};
+ghost use Rattle.cw_writable.specs.Coded.RangedUnits.{is_ranged_statement, are_ranged_procedures, is_ranged};
+ghost use Rattle.cw_sound.specs.Ranges.Declared.{DeclarationsInRange};
+ghost use Rattle.cw_sound.specs.Storage.Frames.{FramesFit};
+ghost use Rattle.cw_sound.specs.Units.TreeFits.{TreeFits};
+
+use crate::laws::names::all_stand;
+use crate::laws::storage::{frames_fit, items_stand, parts_free};
+use crate::laws::units::{answers_stand, bodies_counted, items_declared};
 
 /// The trees have orders that do what they mean, within the levels that they need.
 pub fn built()
@@ -91,3 +106,57 @@ pub fn unit_bodies()
         → AnswersStand named numbers u (block_facts b true) None → block_judged named sites b None ≡ None
         → BodiesBuilt u }
 {}
+
+/// The numbers of what a text declares are in range.
+pub fn declarations()
+    ensures { (named : Named) → Resolves named.raw.now (Ok named) → first_type_fault named ≡ None → DeclarationsInRange named }
+{
+    parts_free();
+}
+
+/// Each switch has few labels.
+pub fn switches()
+    ensures { (named : Named) → first_type_fault named ≡ None → IsTrue (list_all (λ (s : Switch). has_few s.list) (unit_of named).switches) }
+{
+    parts_free();
+}
+
+/// The numbers of the trees are in range, where those of declarations are.
+pub fn statements()
+    ensures statement { (named : Named) (sites : List (Row Site)) (numbers : Numbers) (u : SourceUnit)
+        (who : Option ℕ) (s : RawStmt) → DeclarationsInRange named → IsTrue (is_regular_statement s)
+        → FactsStand named numbers u (statement_facts s) who → AnswersStand named numbers u (statement_facts s) who
+        → statement_judged named sites s None ≡ None → statement_levels s ≤ most_levels
+        → IsTrue (is_ranged_statement u (answer_of u who) (statement_of named numbers s)) }
+    ensures block { (named : Named) (sites : List (Row Site)) (numbers : Numbers) (u : SourceUnit) (who : Option ℕ)
+        (outermost : Bool) (b : RawBlock) → DeclarationsInRange named → IsTrue (is_regular_block b)
+        → FactsStand named numbers u (block_facts b outermost) who
+        → AnswersStand named numbers u (block_facts b outermost) who → block_judged named sites b None ≡ None
+        → block_levels b ≤ most_levels → IsTrue (is_ranged_statement u (answer_of u who) (block_of named numbers b)) }
+{}
+
+/// The numbers of the procedures of a text's outermost block are in range, where they have the numbers from 0 on and their frames have room.
+pub fn procedures()
+    ensures { (named : Named) (sites : List (Row Site)) (numbers : Numbers) (u : SourceUnit) (b : RawBlock)
+        → DeclarationsInRange named → u.procs ≡ block_procs named numbers b → BodiesFit (block_bodies b)
+        → Counted numbers 0 (block_bodies b) → FactsStand named numbers u (block_facts b true) None
+        → AnswersStand named numbers u (block_facts b true) None → block_judged named sites b None ≡ None
+        → FramesFit u → IsTrue (are_ranged_procedures u 0 u.procs) }
+{}
+
+/// The numbers of a text's unit are in the ranges of the language.
+pub fn unit_ranged()
+    ensures { (raw : Raw) (named : Named) → Resolves raw (Ok named) → first_type_fault named ≡ None → TreeFits raw → IsTrue (is_ranged (unit_of named)) }
+{
+    items_stand();
+    parts_free();
+    items_declared();
+    bodies_counted();
+    answers_stand();
+    all_stand();
+    frames_fit();
+    declarations();
+    switches();
+    statements();
+    procedures();
+}

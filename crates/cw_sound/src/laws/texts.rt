@@ -6,20 +6,18 @@ ghost use Rattle.cw_compile.specs.Texts.{HasTree, IsUnitOf};
 ghost use Rattle.cw_build.specs.Compiled.{code_of, IsCompilable};
 ghost use Rattle.cw_sound.specs.Units.TreeFits.{TreeFits};
 
-use crate::laws::front::{bases_listed, items_called, names_identified};
-use crate::laws::items::{descriptors_named, items_stand};
-use crate::laws::labels::labels_set;
-use crate::laws::lines::{lines_counted, positions_fit};
-use crate::laws::need::need_fits;
-use crate::laws::presets::{bytes_kept, presets_fit};
-use crate::laws::ranged::unit_ranged;
-use crate::laws::ready::unit_ready;
-use crate::laws::regular::regular;
-use crate::laws::storage::{definitions_met, stored};
-use crate::laws::tokens::unit_counted;
-use crate::laws::trees::{items_derived, placed, within_levels};
-use crate::laws::units::{items_declared, unit_built, unit_formed};
-use crate::laws::written::{homes_fit, items_fit, items_titled, segment_named};
+use crate::laws::names::labels_set;
+use crate::laws::statements::unit_ranged;
+use crate::laws::storage::{
+    bytes_kept, definitions_met, descriptors_named, items_stand, presets_fit, stored,
+};
+use crate::laws::trees::{
+    items_derived, lines_counted, placed, positions_fit, regular, unit_counted, within_levels,
+};
+use crate::laws::units::{
+    bases_listed, homes_fit, items_called, items_declared, items_fit, items_titled,
+    names_identified, need_fits, segment_named, unit_built, unit_formed, unit_ready,
+};
 use cw_compile::laws::one_outcome;
 use cw_size::laws::short_code;
 use cw_spelled::laws::spelled;

@@ -1,14 +1,17 @@
-use Rattle.std.proofs.Common.{true, length, refl, ap, sym, ◌∙◌, map, false}
+use Rattle.std.proofs.Common.{true, length, refl, ap, sym, ◌∙◌, List, [], ◌∷◌, ◌++◌, map, false, append_assoc, append-nil}
 use Rattle.std.specs.Prelude.{◌==◌}
 use Rattle.std.proofs.lemmas.Result.{IfOk-weaker}
 use Rattle.cw_tree.specs.declared.expression.RawCmp.{out-RawCmp}
 use Rattle.cw_tree.specs.declared.expression.RawSum.{out-RawSum}
 use Rattle.cw_tree.specs.declared.expression.RawTerm.{out-RawTerm}
 use Rattle.cw_tree.specs.declared.expression.RawPrim.{out-RawPrim}
+use Rattle.cw_tree.specs.declared.segment.RawPs.{RawPs}
+use Rattle.cw_unit.specs.declared.unit.Arg.{Arg}
 use Rattle.cw_unit.specs.declared.unit.LogicOp.TheVariants as logic_op
 use Rattle.cw_make_expr.specs.Nodes.{both, either, logic, comparison, comparator, added, multiplied}
+use Rattle.cw_make_expr.specs.Made.{Made, argument_for, arguments_for, expression_made}
 use Rattle.cw_make_expr.specs.Made.{any_from, any_of, all_from, all_of, logic_from, logic_of, factors_from, term_of, terms_from, sum_of, prim_of, operand_for, bits_around, conjunction_made, comparison_made, sum_made, term_made, differ_made, union_made, mask_made, prim_made, primary_made}
-use Rattle.cw_make_expr.proofs.Arms.{choice_made, alone_made, number_made, text_made, location_made, forced_made, bracket_made, value_made, call_made, place_made, named_made, indexed_made, twice_indexed_made, bare_made}
+use Rattle.cw_make_expr.proofs.Arms.{choice_made, alone_made, number_made, text_made, location_made, forced_made, bracket_made, value_made, call_made, place_made, named_made, indexed_made, twice_indexed_made, bare_made, value_taken, place_taken}
 use Rattle.cw_scale.proofs.Turns.{behind_first, one_more}
 use Rattle.cw_make_expr.proofs.Loops.{one_more_signed, no_more_signed, no_more_signs}
 use Rattle.cw_make_expr.proofs.Layers.{condition-layer, conjunction-layer, comparison-layer, sum-layer, term-layer, differ-layer, union-layer, mask-layer, prim-layer, logic_none, logic_end, any_none, any_end, all_none, all_end, term_none, term_whole, sum_none, sum_alone, sum_whole}
@@ -262,3 +265,29 @@ make_sum-loop-other-preserved t c =
     one_more_signed terms_from (λ s o b. added o.op s (b.made false)) (λ s b bs o os. refl) (term_made c.args.named.now c.args.numbers.now) (behind_first c.as_slice.result.now) c.loop-other.signs.now _ c.loop-other.other-index c.other-item.result c.loop-other.so_far
     c.in_ok-so_far-in-len1-up-signs.so_far _ c.loop-other-test.true c.other-item.is c.in-len1-up-signs.len_at_least
     (c.in_ok-so_far-in-len1-up-signs.ensures ∙ ap (added _ c.loop-other.so_far) c.in_ok-next-in-len1-up-signs.ensures) c.loop-other.invariant
+
+pub make_arguments-loop-argument-init : goal.make_arguments-loop-argument-init
+make_arguments-loop-argument-init t c =
+    ap (λ (all : List Arg). all ++ arguments_for (map (expression_made c.args.named.now c.args.numbers.now) c.args.arguments.now) c.args.params.now) c.new-all.ensures
+
+pub make_arguments-loop-argument-preserved : goal.make_arguments-loop-argument-preserved
+make_arguments-loop-argument-preserved t c =
+    one_more_signed (λ (all : List Arg) (ms : List Made) (params : List RawPs). all ++ arguments_for ms params) (λ all p m. all ++ argument_for p m ∷ [])
+    (λ all m ms p params. sym (append_assoc all (argument_for p m ∷ []) (arguments_for ms params)))
+    (expression_made c.args.named.now c.args.numbers.now) c.args.arguments.now c.loop-argument.rest.now c.param-item.result c.loop-argument.argument-index
+    c.argument-item.result c.loop-argument.all
+    c.push.new.self _ c.loop-argument-test.true c.argument-item.is c.in-len1-up.len_at_least
+    (c.in_ok-push-in-len1-up.ensures.ok ∙ ap (λ (a : Arg). c.loop-argument.all ++ a ∷ []) (c.in_ok-make_argument-in-len1-up.ensures
+    ∙ ap (λ (p : RawPs). argument_for p (expression_made c.args.named.now c.args.numbers.now c.argument-item.result)) c.param-item.is)) c.loop-argument.invariant
+
+pub make_arguments-returns-in-empty : goal.make_arguments-returns-in-empty
+make_arguments-returns-in-empty t c =
+    no_more_signs (λ (all : List Arg) (ms : List Made) (params : List RawPs). all ++ arguments_for ms params) (λ all m ms. append-nil all)
+    (expression_made c.args.named.now c.args.numbers.now) c.args.arguments.now c.loop-argument.rest.now c.loop-argument.argument-index c.argument-item.result c.loop-argument.all _
+    c.loop-argument-test.true c.argument-item.is c.in-empty.len_below c.loop-argument.invariant
+
+pub make_arguments-returns : goal.make_arguments-returns
+make_arguments-returns t c =
+    no_more_signed (λ (all : List Arg) (ms : List Made) (params : List RawPs). all ++ arguments_for ms params) (λ all params. append-nil all)
+    (expression_made c.args.named.now c.args.numbers.now) c.args.arguments.now c.loop-argument.rest.now c.loop-argument.argument-index c.loop-argument.all _
+    c.loop-argument-test.false c.loop-argument.invariant

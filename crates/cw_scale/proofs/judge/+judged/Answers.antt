@@ -1,4 +1,4 @@
-use Rattle.std.proofs.Common.{◌≡◌, length, drop, sym, ap, ◌∙◌, arith}
+use Rattle.std.proofs.Common.{◌≡◌, length, drop, refl, sym, ap, ◌∙◌, arith}
 use Rattle.cw_tree.specs.declared.expression.RawDiffer.{out-RawDiffer}
 use Rattle.cw_tree.specs.declared.expression.RawMask.{out-RawMask}
 use Rattle.cw_tree.specs.declared.expression.RawPrim.{out-RawPrim}
@@ -8,6 +8,7 @@ use Rattle.cw_tree.specs.declared.expression.RawCand.{out-RawCand}
 use Rattle.cw_tree.specs.declared.expression.RawCond.{out-RawCond}
 use Rattle.cw_tree.specs.declared.expression.RawSum.{out-RawSum}
 use Rattle.cw_scale.specs.TypeRules.{condition, conjunction, comparison, sum, term, differ, union, mask, prim, primary}
+use Rattle.cw_scale.proofs.Arms.{choice_faults, sum_alone_faults, comparison_faults, number_faults, location_faults, forced_faults, bracket_faults, reference_arm_faults, call_arm_faults, index_faults, indexes_faults, address_faults}
 use Rattle.cw_scale.proofs.Chains.{head_judged, next_judged, no_operand, no_sign}
 use Rattle.cw_scale.proofs.Layers.{logic_goes_on, logic_ends, each_goes_on, each_ends, term_none, term_alone, prim_alone, prim_within, condition-layer, conjunction-layer, sum-layer, term-layer, differ-layer, union-layer, mask-layer, prim-layer}
 use Rattle.cw_scale.proofs.Passing.{all_judged}
@@ -122,3 +123,63 @@ judge_prim-returns-in_default t c =
 pub judge_arguments-returns : goal.judge_arguments-returns
 judge_arguments-returns t c =
     all_judged c.args.named.now c.loop-argument.rest.now c.args.arguments.now c.loop-argument.argument-index c.loop-argument.first _ c.loop-argument-test.false c.loop-argument.invariant
+
+pub judge_expression-returns-in-Choice : goal.judge_expression-returns-in-Choice
+judge_expression-returns-in-Choice t c =
+    choice_faults c.args.named.now c.args.e.now c.args.scale c.in-Choice.field-0 c.in-Choice.test c.get.result.now c.in-Choice.a c.get-in-Choice.result.now c.in-Choice.b c.get-in-Choice-2.result.now
+    c.args.first.now c.judge_condition.new.first c.judge_expression.new.first c.judge_expression-in-Choice.new.first
+    c.in-Choice.is c.get.ensures c.get-in-Choice.ensures c.get-in-Choice-2.ensures c.judge_condition.ensures c.judge_expression.ensures c.judge_expression-in-Choice.ensures
+
+pub judge_expression-returns-in-Sum : goal.judge_expression-returns-in-Sum
+judge_expression-returns-in-Sum t c =
+    sum_alone_faults c.args.named.now c.args.e.now c.args.scale c.in-Sum.e c.get-in-Sum.result.now c.args.first.now c.judge_sum.new.first c.in-Sum.is c.get-in-Sum.ensures c.judge_sum.ensures
+
+pub judge_comparison-returns : goal.judge_comparison-returns
+judge_comparison-returns t c =
+    comparison_faults c.args.named.now c.args.c.now 0 c.get.result.now c.get-3.result.now c.get-2.result.now c.get-4.result.now c.sum_shape-left.result c.sum_shape-right.result c.max-scale.result
+    c.args.first.now c.judge_sum.new.first c.judge_sum-2.new.first
+    c.get.ensures c.get-2.ensures c.get-3.ensures c.get-4.ensures c.sum_shape-left.ensures c.sum_shape-right.ensures c.max-scale.ensures c.judge_sum.ensures c.judge_sum-2.ensures
+
+pub judge_primary-returns-in-Number : goal.judge_primary-returns-in-Number
+judge_primary-returns-in-Number t c =
+    number_faults c.args.named.now c.args.e.now c.args.scale c.in-Number.n c.fits_at.result c.args.first.now c.keep_unless.new.first c.in-Number.is c.fits_at.ensures c.keep_unless.ensures
+
+pub judge_primary-returns-in-Location : goal.judge_primary-returns-in-Location
+judge_primary-returns-in-Location t c =
+    location_faults c.args.named.now c.args.e.now c.args.scale c.in-Location.field-0 c.in-Location.r c.get.result.now c.args.first.now c.judge_reference.new.first
+    c.in-Location.is c.get.ensures c.judge_reference.ensures
+
+pub judge_primary-returns-in-Forced : goal.judge_primary-returns-in-Forced
+judge_primary-returns-in-Forced t c =
+    forced_faults c.args.named.now c.args.e.now c.args.scale c.in-Forced.t c.in-Forced.e c.get-in-Forced.result.now c.fraction_of.result c.args.first.now c.judge_type.new.first c.judge_expression.new.first
+    c.in-Forced.is c.get-in-Forced.ensures c.fraction_of.ensures c.judge_type.ensures c.judge_expression.ensures
+
+pub judge_primary-returns-in-Bracket : goal.judge_primary-returns-in-Bracket
+judge_primary-returns-in-Bracket t c =
+    bracket_faults c.args.named.now c.args.e.now c.args.scale c.in-Bracket.field-0 c.in-Bracket.e c.get-in-Bracket.result.now c.args.first.now c.judge_expression-in-Bracket.new.first
+    c.in-Bracket.is c.get-in-Bracket.ensures c.judge_expression-in-Bracket.ensures
+
+pub judge_primary-returns-in-Ref : goal.judge_primary-returns-in-Ref
+judge_primary-returns-in-Ref t c =
+    reference_arm_faults c.args.named.now c.args.e.now c.args.scale c.in-Ref.r c.in-Ref.r c.args.first.now c.judge_reference-in-Ref.new.first
+    c.in-Ref.is refl c.judge_reference-in-Ref.ensures
+
+pub judge_primary-returns-in-Call : goal.judge_primary-returns-in-Call
+judge_primary-returns-in-Call t c =
+    call_arm_faults c.args.named.now c.args.e.now c.args.scale c.in-Call.name c.in-Call.arguments c.as_slice.result.now c.args.first.now c.judge_call.new.first
+    c.in-Call.is c.as_slice.ensures c.judge_call.ensures
+
+pub judge_reference-returns-in-One : goal.judge_reference-returns-in-One
+judge_reference-returns-in-One t c =
+    index_faults c.args.named.now c.args.r.now c.in-One.field-0 c.in-One.i c.get.result.now c.args.first.now c.judge_expression.new.first c.in-One.is c.get.ensures c.judge_expression.ensures
+
+pub judge_reference-returns-in-Two : goal.judge_reference-returns-in-Two
+judge_reference-returns-in-Two t c =
+    indexes_faults c.args.named.now c.args.r.now c.in-Two.field-0 c.in-Two.i c.get-in-Two.result.now c.in-Two.j c.get-in-Two-2.result.now
+    c.args.first.now c.judge_expression-in-Two.new.first c.judge_expression-in-Two-2.new.first
+    c.in-Two.is c.get-in-Two.ensures c.get-in-Two-2.ensures c.judge_expression-in-Two.ensures c.judge_expression-in-Two-2.ensures
+
+pub judge_reference-returns-in-Bare : goal.judge_reference-returns-in-Bare
+judge_reference-returns-in-Bare t c =
+    address_faults c.args.named.now c.args.r.now c.in-Bare.field-0 c.in-Bare.e c.get-in-Bare.result.now c.args.first.now c.judge_expression-in-Bare.new.first
+    c.in-Bare.is c.get-in-Bare.ensures c.judge_expression-in-Bare.ensures

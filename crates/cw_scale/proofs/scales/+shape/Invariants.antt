@@ -1,5 +1,5 @@
 use Rattle.std.proofs.Common.{◌≡◌, map, drop}
-use Rattle.cw_scale.specs.TypeRules.{plain, shape_from, logic_shape_from, term, differ, union, mask, prim}
+use Rattle.cw_scale.specs.TypeRules.{plain, shape_from, term, differ}
 use Rattle.cw_scale.proofs.scales.+shape.Given as goal
 
 abbrev pub invariant-sum_shape-loop-operand : goal.invariant-sum_shape-loop-operand
@@ -7,12 +7,3 @@ invariant-sum_shape-loop-operand l = shape_from l.alone l.shape (map (term l.nam
 
 abbrev pub invariant-term_shape-loop-operand : goal.invariant-term_shape-loop-operand
 invariant-term_shape-loop-operand l = shape_from l.alone l.shape (map (differ l.named) (drop l.operand-index l.operands)) ≡ shape_from l.alone (plain 0) (map (differ l.named) l.operands)
-
-abbrev pub invariant-differ_shape-loop-operand : goal.invariant-differ_shape-loop-operand
-invariant-differ_shape-loop-operand l = logic_shape_from l.alone l.shape (map (union l.named) (drop l.operand-index l.operands)) ≡ logic_shape_from l.alone (plain 0) (map (union l.named) l.operands)
-
-abbrev pub invariant-union_shape-loop-operand : goal.invariant-union_shape-loop-operand
-invariant-union_shape-loop-operand l = logic_shape_from l.alone l.shape (map (mask l.named) (drop l.operand-index l.operands)) ≡ logic_shape_from l.alone (plain 0) (map (mask l.named) l.operands)
-
-abbrev pub invariant-mask_shape-loop-operand : goal.invariant-mask_shape-loop-operand
-invariant-mask_shape-loop-operand l = logic_shape_from l.alone l.shape (map (prim l.named) (drop l.operand-index l.operands)) ≡ logic_shape_from l.alone (plain 0) (map (prim l.named) l.operands)

@@ -1,6 +1,0 @@
--- Declared names are identifiers.
-use Rattle.cw_sound.proofs.Front.IdentifiedTexts.{all_identified}
-use Rattle.cw_sound.proofs.laws.front.names_identified.Goals as goal
-
-pub returns : goal.returns
-returns c = all_identified

@@ -1,6 +1,0 @@
--- The names of items.
-use Rattle.cw_sound.proofs.Written.Titles.{items_titled}
-use Rattle.cw_sound.proofs.laws.written.items_titled.Goals as goal
-
-pub returns : goal.returns
-returns c named resolves names = items_titled named resolves names
