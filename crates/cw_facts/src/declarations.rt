@@ -3,6 +3,7 @@ ghost use Rattle.std.specs.Prelude.{◌≡◌, ◌++◌, ◌∷◌, [], OnOk, co
 ghost use Rattle.cw_facts.specs.Facts.{declares, specifies, procedure_parameter_facts, each_declares, each_uses, groups_facts, element_name, elements_facts, table_facts};
 ghost use Rattle.cw_facts.specs.Facts.{data_facts, base_name, base_facts, parameter_facts, parameters_facts, answer_name, type_position, answer_facts};
 
+use crate::boxed::{BoxedDeclaration, BoxedSignature};
 use crate::expressions::note;
 use crate::fact::{Declaration, Fact, Form, Kind, Signature};
 use crate::signatures::plain;
@@ -13,13 +14,20 @@ use cw_tree::statement::RawParam;
 use cw_word::{List, Name, NoMemory};
 use std::alloc::Global;
 
-pub(crate) fn declare(name: RawName, kind: Kind, out: &mut List<Fact>) -> Result<(), NoMemory>
+pub(crate) fn declare(
+    alloc: Global,
+    name: RawName,
+    kind: Kind,
+    out: &mut List<Fact>,
+) -> Result<(), NoMemory>
     ensures { OnOk result (out.new ≡ out.old ++ declares name kind ∷ []) }
 {
-    out.push(Fact::Declares(Declaration { name, kind }))
+    let declaration = BoxedDeclaration::new(alloc, Declaration { name, kind })?;
+    out.push(Fact::Declares(declaration))
 }
 
 pub(crate) fn declare_each(
+    alloc: Global,
     names: &[RawName],
     kind: &Kind,
     out: &mut List<Fact>,
@@ -27,7 +35,7 @@ pub(crate) fn declare_each(
     ensures { OnOk result (out.new ≡ out.old ++ each_declares kind.now names.now) }
 {
     for name in names {
-        declare(*name, *kind, out)?;
+        declare(alloc, *name, *kind, out)?;
     }
     Ok(())
 }
@@ -41,11 +49,17 @@ pub(crate) fn use_each(names: &[RawName], out: &mut List<Fact>) -> Result<(), No
     Ok(())
 }
 
-fn groups(scale: &RawType, groups: &[RawGroup], out: &mut List<Fact>) -> Result<(), NoMemory>
+fn groups(
+    alloc: Global,
+    scale: &RawType,
+    groups: &[RawGroup],
+    out: &mut List<Fact>,
+) -> Result<(), NoMemory>
     ensures { OnOk result (out.new ≡ out.old ++ groups_facts scale.now groups.now) }
 {
     for group in groups {
         declare_each(
+            alloc,
             group.names.as_slice(),
             &Kind::Array(*scale, group.bounds),
             out,
@@ -63,38 +77,54 @@ fn element_name(element: &RawElem) -> RawName
     }
 }
 
-fn elements(table: &RawName, elements: &[RawElem], out: &mut List<Fact>) -> Result<(), NoMemory>
+fn elements(
+    alloc: Global,
+    table: &RawName,
+    elements: &[RawElem],
+    out: &mut List<Fact>,
+) -> Result<(), NoMemory>
     ensures { OnOk result (out.new ≡ out.old ++ elements_facts table.now elements.now) }
 {
     for element in elements {
-        declare(element_name(element), Kind::Element(*table, *element), out)?;
+        declare(
+            alloc,
+            element_name(element),
+            Kind::Element(*table, *element),
+            out,
+        )?;
     }
     Ok(())
 }
 
 pub(crate) fn table_facts(
+    alloc: Global,
     kind: &Kind,
     table: &RawTable,
     out: &mut List<Fact>,
 ) -> Result<(), NoMemory>
     ensures { OnOk result (out.new ≡ out.old ++ table_facts kind.now table.now) }
 {
-    declare(table.name, *kind, out)?;
-    elements(&table.name, table.elems.as_slice(), out)
+    declare(alloc, table.name, *kind, out)?;
+    elements(alloc, &table.name, table.elems.as_slice(), out)
 }
 
 /// Adds the facts of a declaration of data.
-pub(crate) fn data_facts(items: &RawData, out: &mut List<Fact>) -> Result<(), NoMemory>
+pub(crate) fn data_facts(
+    alloc: Global,
+    items: &RawData,
+    out: &mut List<Fact>,
+) -> Result<(), NoMemory>
     ensures { OnOk result (out.new ≡ out.old ++ data_facts items.now) }
 {
     match items {
         RawData::Singles(scale, names, _) => declare_each(
+            alloc,
             names.as_slice(),
             &Kind::Single(*scale),
             out,
         ),
-        RawData::Arrays(scale, list, _) => groups(scale, list.as_slice(), out),
-        RawData::Table(tree, _, _) => table_facts(&Kind::Table(tree.size), tree, out),
+        RawData::Arrays(scale, list, _) => groups(alloc, scale, list.as_slice(), out),
+        RawData::Table(tree, _, _) => table_facts(alloc, &Kind::Table(tree.size), tree, out),
     }
 }
 
@@ -117,6 +147,7 @@ pub(crate) fn base_facts(base: &RawBase, out: &mut List<Fact>) -> Result<(), NoM
 
 /// The specification of the procedure with a name of this token.
 pub(crate) fn specifies(
+    alloc: Global,
     token: u32,
     answer: Option<RawType>,
     params: List<RawPs>,
@@ -124,7 +155,8 @@ pub(crate) fn specifies(
 ) -> Result<(), NoMemory>
     ensures { OnOk result (out.new ≡ out.old ++ specifies token answer params ∷ []) }
 {
-    out.push(Fact::Specifies(token, Signature { answer, params }))
+    let signature = BoxedSignature::new(alloc, Signature { answer, params })?;
+    out.push(Fact::Specifies(token, signature))
 }
 
 fn procedure_parameter(
@@ -136,9 +168,9 @@ fn procedure_parameter(
 ) -> Result<(), NoMemory>
     ensures { OnOk result (out.new ≡ out.old ++ procedure_parameter_facts answer.now name.now inner.now) }
 {
-    declare(*name, Kind::ProcParam(*answer), out)?;
+    declare(alloc, *name, Kind::ProcParam(*answer), out)?;
     let params = plain(alloc, inner)?;
-    specifies(name.at.token, *answer, params, out)
+    specifies(alloc, name.at.token, *answer, params, out)
 }
 
 fn parameter(alloc: Global, parameter: &RawParam, out: &mut List<Fact>) -> Result<(), NoMemory>
@@ -146,23 +178,31 @@ fn parameter(alloc: Global, parameter: &RawParam, out: &mut List<Fact>) -> Resul
 {
     match parameter {
         RawParam::Value(_, scale, names) => declare_each(
+            alloc,
             names.as_slice(),
             &Kind::Value(*scale),
             out,
         ),
         RawParam::Location(_, scale, names) => declare_each(
+            alloc,
             names.as_slice(),
             &Kind::Location(*scale),
             out,
         ),
         RawParam::Array(scale, names) => declare_each(
+            alloc,
             names.as_slice(),
             &Kind::ArrayParam(*scale),
             out,
         ),
-        RawParam::Table(tree) => table_facts(&Kind::TableParam(tree.size), tree, out),
-        RawParam::Label(_, names) => declare_each(names.as_slice(), &Kind::LabelParam, out),
-        RawParam::Switch(_, names) => declare_each(names.as_slice(), &Kind::SwitchParam, out),
+        RawParam::Table(tree) => table_facts(alloc, &Kind::TableParam(tree.size), tree, out),
+        RawParam::Label(_, names) => declare_each(alloc, names.as_slice(), &Kind::LabelParam, out),
+        RawParam::Switch(_, names) => declare_each(
+            alloc,
+            names.as_slice(),
+            &Kind::SwitchParam,
+            out,
+        ),
         RawParam::Proc(answer, _, name, inner) => {
             procedure_parameter(alloc, answer, name, inner.as_slice(), out)
         }
@@ -210,11 +250,18 @@ fn type_position(scale: &RawType) -> Position
     }
 }
 
-pub(crate) fn answer(answer: &Option<RawType>, out: &mut List<Fact>) -> Result<(), NoMemory>
+pub(crate) fn answer(
+    alloc: Global,
+    answer: &Option<RawType>,
+    out: &mut List<Fact>,
+) -> Result<(), NoMemory>
     ensures { OnOk result (out.new ≡ out.old ++ answer_facts answer.now) }
 {
     match answer {
         None => Ok(()),
-        Some(scale) => declare(answer_name(type_position(scale)), Kind::Answer(*scale), out),
+        Some(scale) => {
+            let name = answer_name(type_position(scale));
+            declare(alloc, name, Kind::Answer(*scale), out)
+        }
     }
 }

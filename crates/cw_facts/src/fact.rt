@@ -1,4 +1,5 @@
 //! What a text says about names, and which words it asks for.
+use crate::boxed::{BoxedDeclaration, BoxedSignature};
 use cw_tree::items::{RawBounds, RawElem};
 use cw_tree::leaf::{Position, RawName, RawSize, RawType};
 use cw_tree::segment::RawPs;
@@ -87,10 +88,10 @@ pub struct Signature {
 /// What stands in a block, in order of the text.
 #[derive(Drop)]
 pub enum Fact {
-    Declares(Declaration),
+    Declares(BoxedDeclaration),
     Uses(Use),
     /// The specification of the procedure with this name's token.
-    Specifies(u32, Signature),
+    Specifies(u32, BoxedSignature),
     /// The words of a FOR.
     Loop(Position),
     /// A string, with the number of its characters.

@@ -3,6 +3,7 @@
 //! The facts of each block are gathered from the tree, in order of the text. Names and storage are judged by them alone.
 #![tactic(auto)]
 
+pub mod boxed;
 pub mod declarations;
 pub mod expressions;
 pub mod fact;

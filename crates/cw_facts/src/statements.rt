@@ -53,7 +53,7 @@ fn enclose(facts: List<Fact>, out: &mut List<Fact>) -> Result<(), NoMemory>
 pub fn statement_facts(alloc: Global, s: &RawStmt, out: &mut List<Fact>) -> Result<(), NoMemory>
     ensures { OnOk result (out.new ≡ out.old ++ statement_facts s.now) }
 {
-    declare_each(s.labels.as_slice(), &Kind::Label, out)?;
+    declare_each(alloc, s.labels.as_slice(), &Kind::Label, out)?;
     form_facts(alloc, s.form.get(), out)
 }
 
@@ -71,7 +71,7 @@ fn form_facts(alloc: Global, form: &RawForm, out: &mut List<Fact>) -> Result<(),
             second,
         } => {
             condition_uses(test.get(), out)?;
-            declare_each(labels.as_slice(), &Kind::Label, out)?;
+            declare_each(alloc, labels.as_slice(), &Kind::Label, out)?;
             simple_facts(alloc, first.get(), out)?;
             match second {
                 None => Ok(()),
@@ -162,13 +162,13 @@ fn declaration_facts(alloc: Global, d: &RawDecl, out: &mut List<Fact>) -> Result
     ensures { OnOk result (out.new ≡ out.old ++ declaration_facts d.now) }
 {
     match d {
-        RawDecl::Data(data) => data_facts(data, out),
+        RawDecl::Data(data) => data_facts(alloc, data, out),
         RawDecl::Overlay(_, base, data) => {
             base_facts(base, out)?;
-            data_facts(data, out)
+            data_facts(alloc, data, out)
         }
         RawDecl::Switch(_, name, labels) => {
-            declare(*name, Kind::Switch, out)?;
+            declare(alloc, *name, Kind::Switch, out)?;
             use_each(labels.as_slice(), out)
         }
         RawDecl::Proc(procedure) => procedure_facts(alloc, procedure.get(), out),
@@ -179,11 +179,11 @@ fn declaration_facts(alloc: Global, d: &RawDecl, out: &mut List<Fact>) -> Result
 fn procedure_facts(alloc: Global, p: &RawProc, out: &mut List<Fact>) -> Result<(), NoMemory>
     ensures { OnOk result (out.new ≡ out.old ++ procedure_facts p.now) }
 {
-    declare(p.name, Kind::Proc(p.answer), out)?;
+    declare(alloc, p.name, Kind::Proc(p.answer), out)?;
     let params = flattened(alloc, p.params.as_slice())?;
-    specifies(p.name.at.token, p.answer, params, out)?;
+    specifies(alloc, p.name.at.token, p.answer, params, out)?;
     let mut facts = List::new(alloc);
-    answer(&p.answer, &mut facts)?;
+    answer(alloc, &p.answer, &mut facts)?;
     parameters(alloc, p.params.as_slice(), &mut facts)?;
     statement_facts(alloc, p.body.get(), &mut facts)?;
     out.push(Fact::Block(Some(p.name.at.token), facts))

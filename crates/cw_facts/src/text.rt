@@ -35,9 +35,9 @@ fn spec_facts(
 ) -> Result<(), NoMemory>
     ensures { OnOk result (out.new ≡ out.old ++ spec_facts kind.now spec.now) }
 {
-    declare(spec.name, *kind, out)?;
+    declare(alloc, spec.name, *kind, out)?;
     let params = specified(alloc, spec.params.as_slice())?;
-    specifies(spec.name.at.token, spec.answer, params, out)
+    specifies(alloc, spec.name.at.token, spec.answer, params, out)
 }
 
 fn library(alloc: Global, specs: &[RawSpec], out: &mut List<Fact>) -> Result<(), NoMemory>
@@ -54,13 +54,13 @@ fn citem(alloc: Global, item: &RawCitem, out: &mut List<Fact>) -> Result<(), NoM
     ensures { OnOk result (out.new ≡ out.old ++ citem_facts item.now) }
 {
     match item {
-        RawCitem::Data(data) => data_facts(data, out),
+        RawCitem::Data(data) => data_facts(alloc, data, out),
         RawCitem::Overlay(_, base, data) => {
             base_facts(base, out)?;
-            data_facts(data, out)
+            data_facts(alloc, data, out)
         }
-        RawCitem::Label(_, names) => declare_each(names.as_slice(), &Kind::Label, out),
-        RawCitem::Switch(_, names) => declare_each(names.as_slice(), &Kind::Switch, out),
+        RawCitem::Label(_, names) => declare_each(alloc, names.as_slice(), &Kind::Label, out),
+        RawCitem::Switch(_, names) => declare_each(alloc, names.as_slice(), &Kind::Switch, out),
         RawCitem::Spec(spec) => spec_facts(alloc, &Kind::Proc(spec.answer), spec, out),
     }
 }
@@ -74,25 +74,26 @@ fn citems(alloc: Global, items: &[RawCitem], out: &mut List<Fact>) -> Result<(),
     Ok(())
 }
 
-fn aitem(item: &RawAitem, out: &mut List<Fact>) -> Result<(), NoMemory>
+fn aitem(alloc: Global, item: &RawAitem, out: &mut List<Fact>) -> Result<(), NoMemory>
     ensures { OnOk result (out.new ≡ out.old ++ aitem_facts item.now) }
 {
     match item {
-        RawAitem::Single(scale, name, _) => declare(*name, Kind::Single(*scale), out),
+        RawAitem::Single(scale, name, _) => declare(alloc, *name, Kind::Single(*scale), out),
         RawAitem::Array(scale, name, bounds, _) => declare(
+            alloc,
             *name,
             Kind::Array(*scale, *bounds),
             out,
         ),
-        RawAitem::Table(tree, _) => table_facts(&Kind::Table(tree.size), tree, out),
+        RawAitem::Table(tree, _) => table_facts(alloc, &Kind::Table(tree.size), tree, out),
     }
 }
 
-fn aitems(items: &[RawAitem], out: &mut List<Fact>) -> Result<(), NoMemory>
+fn aitems(alloc: Global, items: &[RawAitem], out: &mut List<Fact>) -> Result<(), NoMemory>
     ensures { OnOk result (out.new ≡ out.old ++ aitems_facts items.now) }
 {
     for item in items {
-        aitem(item, out)?;
+        aitem(alloc, item, out)?;
     }
     Ok(())
 }
@@ -103,7 +104,7 @@ fn communicator(alloc: Global, list: &RawComm, out: &mut List<Fact>) -> Result<(
     match list {
         RawComm::Common(_, items) => citems(alloc, items.as_slice(), out),
         RawComm::Library(_, specs) => library(alloc, specs.as_slice(), out),
-        RawComm::Absolute(_, items) => aitems(items.as_slice(), out),
+        RawComm::Absolute(_, items) => aitems(alloc, items.as_slice(), out),
     }
 }
 

@@ -19,7 +19,7 @@ fn with_declared(fact: &Fact, before: Names) -> Result<Names, NoMemory>
     ensures { IfOk result (λ names. names ≡ before ++ declared_by (out-Fact fact.now)) }
 {
     match fact {
-        Fact::Declares(declaration) => before.with(declaration),
+        Fact::Declares(declaration) => before.with(declaration.get()),
         _ => Ok(before),
     }
 }

@@ -62,7 +62,7 @@ fn fact_labels(
     ensures { OnOk result (out.new ≡ out.old ++ fact_labels numbers.now fact.now proc) }
 {
     match fact {
-        Fact::Declares(declaration) => declared_label(declaration, proc, out),
+        Fact::Declares(declaration) => declared_label(declaration.get(), proc, out),
         Fact::Block(owner, facts) => {
             let within = proc_within(numbers, owner, proc);
             facts_labels(facts.as_slice(), numbers, within, out)

@@ -1,5 +1,5 @@
 //! The declarations and specifications of a text, found by the tokens of their names.
-ghost use Rattle.std.specs.Prelude.{◌≡◌, ◌++◌, map, IfOk};
+ghost use Rattle.std.specs.Prelude.{◌≡◌, ◌++◌, ◌∷◌, [], map, IfOk};
 ghost use Rattle.cw_scope.specs.Resolved.{all_rows, fact_declarations, fact_signatures};
 
 use cw_facts::fact::{Declaration, Fact, Signature};
@@ -7,6 +7,19 @@ use cw_facts::signatures::signature_again;
 use cw_table::table::Table;
 use cw_word::NoMemory;
 use std::alloc::Global;
+
+// A declaration in an option of its own: the prover knows what one holds where a type of the function holds one unboxed.
+fn with_declaration(
+    before: Table<Declaration>,
+    declaration: &Declaration,
+) -> Result<Table<Declaration>, NoMemory>
+    ensures { IfOk result (λ d. d ≡ before ++ record { token = declaration.now.name.at.token; item = declaration.now } ∷ []) }
+{
+    match Some(*declaration) {
+        Some(row) => before.with(row.name.at.token, row),
+        None => Ok(before),
+    }
+}
 
 /// Adds the declarations of facts.
 #[cycle(declared)]
@@ -28,7 +41,7 @@ fn declarations_in(fact: &Fact, before: Table<Declaration>) -> Result<Table<Decl
     ensures { IfOk result (λ d. d ≡ before ++ fact_declarations fact.now) }
 {
     match fact {
-        Fact::Declares(declaration) => before.with(declaration.name.at.token, *declaration),
+        Fact::Declares(declaration) => with_declaration(before, declaration.get()),
         Fact::Block(_, facts) => declarations_of(facts.as_slice(), before),
         _ => Ok(before),
     }
@@ -60,7 +73,7 @@ fn signatures_in(
 {
     match fact {
         Fact::Specifies(token, signature) => {
-            let again = signature_again(alloc, signature)?;
+            let again = signature_again(alloc, signature.get())?;
             before.with(*token, again)
         }
         Fact::Block(_, facts) => signatures_of(facts.as_slice(), alloc, before),

@@ -146,6 +146,7 @@ fn judge_own(
 {
     match fact {
         Fact::Declares(declaration) => {
+            let declaration = declaration.get();
             let listed = communicators.find(&declaration.name.name);
             judge_definition(signatures, listed, declaration, first);
         }
@@ -176,6 +177,7 @@ fn judge_listed(
 {
     match fact {
         Fact::Declares(declaration) => {
+            let declaration = declaration.get();
             let fits = fits_own(declaration, signatures);
             keep_unless(fits, Rule::SpecDiffers, &declaration.name, first);
         }

@@ -267,7 +267,7 @@ pub(crate) fn declared(alloc: Global, facts: &[Fact]) -> Result<Names, NoMemory>
     let mut table = Names::new(alloc);
     for fact in facts {
         if let Fact::Declares(declaration) = fact {
-            table = table.with(declaration)?;
+            table = table.with(declaration.get())?;
         }
     }
     Ok(table)
@@ -303,7 +303,7 @@ fn judge_fact(
 {
     match fact {
         Fact::Declares(declaration) => {
-            judge_declaration(blocks.as_slice(), declaration, findings);
+            judge_declaration(blocks.as_slice(), declaration.get(), findings);
             Ok(())
         }
         Fact::Uses(usage) => {
