@@ -222,7 +222,9 @@ fn share(rt: &(impl Eprint + Clock), alloc: Global, statements: u32) -> anyhow::
     time_text(rt, alloc, text.as_bytes(), &mut spans)?;
     if whole > 0 {
         for span in &spans {
-            eprintln!(rt; "{}: {} of 100", span.pass, span.took * 100 / whole)?;
+            if let Some(hundredfold) = span.took.checked_mul(100) {
+                eprintln!(rt; "{}: {} of 100", span.pass, hundredfold / whole)?;
+            }
         }
     }
     Ok(())
