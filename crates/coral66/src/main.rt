@@ -1,12 +1,9 @@
 //! The program: makes the real files and streams and calls the command.
 #![tactic(auto)]
 
-mod outside;
-mod replace;
-
 use cw_io::Sink;
+use cw_outside::{Files, Reading, Writing};
 use cw_top::{Status, coral66};
-use outside::{Files, Reading, Writing};
 use std::io::ErrorKind;
 use std::process::ExitCode;
 use std::{env, io};
