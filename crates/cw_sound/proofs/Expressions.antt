@@ -6,11 +6,14 @@ pub mod Passes
 pub mod Standing
 pub mod Lists
 pub mod Parts
+pub mod Built
 pub mod Nodes
 pub mod Numbers
-pub mod Operands
 pub mod Places
 pub mod Calls
+pub mod Senses
+pub mod Given
+pub mod Operands
 pub mod Arguments
 pub mod Rules
 pub mod Primaries
@@ -20,4 +23,5 @@ pub mod Layers
 pub mod Induction
 pub mod Trees
 pub mod Whole
+pub mod BuiltTrees
 pub mod Keeping

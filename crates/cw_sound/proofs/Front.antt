@@ -1,4 +1,3 @@
-pub mod Shapes
 pub mod Identified
 pub mod IdentifiedTexts
 pub mod Counts

@@ -17,6 +17,8 @@ pub mod Params
 pub mod Inside
 pub mod InProcedure
 pub mod PartKinds
+pub mod Signed
+pub mod Placing
 pub mod InParts
 pub mod PlainFacts
 pub mod ExpressionUses

@@ -1,11 +1,6 @@
-pub mod Parts
+pub mod InRanges
 pub mod Nodes
-pub mod Operands
 pub mod Places
 pub mod Calls
-pub mod Arguments
-pub mod Rules
-pub mod Primaries
-pub mod References
-pub mod Conditions
-pub mod Trees
+pub mod Given
+pub mod RangedTrees

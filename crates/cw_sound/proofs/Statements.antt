@@ -4,6 +4,7 @@ pub mod Procedures
 pub mod Folds
 pub mod Keeping
 pub mod Parts
+pub mod Halves
 pub mod Nodes
 pub mod Induction
 pub mod Trees

@@ -74,7 +74,7 @@ module _ (named : Named) (sites : List (Row Site)) (numbers : Numbers) (u : Sour
   FitsIn who s = All (Fits (scope_in u who)) (in_statement s)
 
   right : AllFit named numbers (inside named numbers u None) (in_statement (block_of named numbers b)) × AllRight named sites numbers (inside named numbers u) (owned named numbers u) (block_bodies b)
-  right = block_is_right named sites numbers (inside named numbers u) (owned named numbers u) b None true stood free
+  right = block_is_right named sites numbers (inside named numbers u) (owned named numbers u) b true None stood free
 
   segment_fits : FitsIn None u.body
   segment_fits = subst (FitsIn None) (sym is_body) (All-from_recursion (Fits (scope_in u None)) (in_statement (block_of named numbers b)) right.0)

@@ -38,6 +38,7 @@ use Rattle.cw_sound.specs.Uses.Stands.{kind_of_plain, taken_by_plain, kind_speci
 use Rattle.cw_sound.proofs.Expressions.Truth.{no, both}
 use Rattle.cw_sound.proofs.Expressions.Judging.{NoFault}
 use Rattle.cw_sound.proofs.Expressions.Parts.{Result}
+use Rattle.cw_sound.proofs.Expressions.Built.{built_well}
 use Rattle.cw_sound.proofs.Expressions.Nodes.{value_rolled, formed_rolled, result_of}
 use Rattle.cw_sound.proofs.Expressions.Places.{Place, place_result, named_place, item_of_kind}
 use Rattle.cw_tree.specs.declared.segment.RawIps.TheVariants as inner
@@ -169,14 +170,14 @@ module _ (named : Named) (numbers : Numbers) (u : SourceUnit) (who : Option ℕ)
   answering targets.Write (Some ks) h = no h
   answering _ ks h = refl
 
-  pub called_result : (n : RawName) (args : List Arg) (c : Callable true n) → IsTrue (all_built (map (is_argument u (has_words u who)) args)) → kinds_of (map (formed.kind_of (alone u) 0 (at_work who)) args) ≡ Some (map kind_specified c.params)
-      → Result u who (fraction_of_kind (kind_of named n)) (call (target named numbers n) args)
-  called_result n args c h ks =
+  pub called_result : (f : ℕ) (n : RawName) (args : List Arg) (c : Callable true n) → IsTrue (all_built (map (is_argument u (has_words u who)) args)) → kinds_of (map (formed.kind_of (alone u) 0 (at_work who)) args) ≡ Some (map kind_specified c.params)
+      → Result (built_well u who) (fraction_of_kind (kind_of named n)) f (call (target named numbers n) args)
+  called_result f n args c h ks =
       let t : Target = target named numbers n in
       let e : Expr = call t args in
-      subst (λ (f : ℕ). Result u who f e) c.scale
-      (result_of u who (answer_scale u t) e (λ f levels. answers t && all_built (map (is_argument u (has_words u who)) args)) (value_rolled u who (layer.Call t args))
-      (λ f levels. both (answers t) (all_built (map (is_argument u (has_words u who)) args)) (answering t (Some (map kind_specified c.params)) c.call) h)
+      subst (λ (g : ℕ). Result (built_well u who) g f e) c.scale
+      (result_of u who (answer_scale u t) f e (λ f levels. answers t && all_built (map (is_argument u (has_words u who)) args)) (value_rolled u who (layer.Call t args))
+      (λ levels. both (answers t) (all_built (map (is_argument u (has_words u who)) args)) (answering t (Some (map kind_specified c.params)) c.call) h)
       (subst IsTrue (sym (formed_rolled u who (layer.Call t args))) (subst (λ (o : Option (List Kind)). IsTrue (is_call (alone u) 0 (at_work who) true t o)) (sym ks) c.call)))
 
   none_given : (s : Signature) (n : RawName) → NoFault (call_faults named (Some s) n []) → s.params ≡ []
@@ -189,32 +190,19 @@ module _ (named : Named) (numbers : Numbers) (u : SourceUnit) (who : Option ℕ)
   pub no_params : (wanted : Bool) (n : RawName) (c : Callable wanted n) → NoFault (call_faults named (signature_of named n) n []) → c.params ≡ []
   no_params wanted n c free = none_given (record { answer = c.answer; params = c.params }) n (subst (λ (o : Option Signature). NoFault (call_faults named o n [])) c.signature free)
 
-  alone_result : (n : RawName) → Callable true n → NoFault (call_faults named (signature_of named n) n []) → Result u who (fraction_of_kind (kind_of named n)) (call (target named numbers n) [])
-  alone_result n c free = called_result n [] c refl (sym (ap (λ (qs : List RawPs). Some (map kind_specified qs)) (no_params true n c free)))
-
   -- ---- names by themselves
-
-  read_name : (n : RawName) (k : NameKind) → kind_of named n ≡ Some k → IsTrue (has_words u who (item_in (number_of named numbers n)) 1) → Result u who (fraction_of_kind (kind_of named n)) (read (place_of_name named numbers n))
-  read_name n k is h =
-      let i : ℕ = item_in (number_of named numbers n) in
-      place_result u who (named_spot (kind_of named n) i) (fraction_of_kind (kind_of named n)) (field_of (kind_of named n))
-      (subst (λ (o : Option NameKind). Place u who (named_spot o i)) (sym is) (named_place u who k i h))
 
   pub name_good : (n : RawName) (k : NameKind) → kind_of named n ≡ Some k → StandsAs named numbers u who k n → IsTrue (is_reference k 0) → Place u who (named_spot (kind_of named n) (item_in (number_of named numbers n)))
   name_good n k is x h =
       let i : ℕ = item_in (number_of named numbers n) in
       subst (λ (o : Option NameKind). Place u who (named_spot o i)) (sym is) (named_place u who k i (item_of_kind u who named numbers k n x h))
 
-  abbrev ValueOf : RawName → Type 0
-  ValueOf n = Result u who (fraction_of_kind (kind_of named n)) (value_of_name (is_called (kind_of named n)) (target named numbers n) (place_of_name named numbers n))
+  abbrev ValueOf : RawName → ℕ → (called : Bool) → Type 0
+  ValueOf n f called = Result (built_well u who) (fraction_of_kind (kind_of named n)) f (value_of_name called (target named numbers n) (place_of_name named numbers n))
 
-  as_item : (n : RawName) (k : NameKind) → kind_of named n ≡ Some k → is_called (Some k) ≡ false → IsTrue (has_words u who (item_in (number_of named numbers n)) 1) → ValueOf n
-  as_item n k is item h =
-      subst (λ (b : Bool). Result u who (fraction_of_kind (kind_of named n)) (value_of_name b (target named numbers n) (place_of_name named numbers n))) (sym (ap is_called is ∙ item)) (read_name n k is h)
-
-  as_called : (n : RawName) (k : NameKind) → kind_of named n ≡ Some k → is_called (Some k) ≡ true → Callable true n → NoFault (call_faults named (signature_of named n) n []) → ValueOf n
-  as_called n k is called c free =
-      subst (λ (b : Bool). Result u who (fraction_of_kind (kind_of named n)) (value_of_name b (target named numbers n) (place_of_name named numbers n))) (sym (ap is_called is ∙ called)) (alone_result n c free)
+  as_called : (f : ℕ) (n : RawName) (k : NameKind) → kind_of named n ≡ Some k → is_called (Some k) ≡ true → Callable true n → NoFault (call_faults named (signature_of named n) n []) → ValueOf n f (is_called (kind_of named n))
+  as_called f n k is called c free =
+      subst (ValueOf n f) (sym (ap is_called is ∙ called)) (called_result f n [] c refl (sym (ap (λ (qs : List RawPs). Some (map kind_specified qs)) (no_params true n c free))))
 
   kinds_of_one : (params : List RawPs) (k : Kind) → map kind_specified params ≡ k ∷ [] → params ≡ [] → ⊥
   kinds_of_one params k one none = let same : k ∷ [] ≡ [] = sym one ∙ ap (map kind_specified) none in cc
@@ -223,20 +211,22 @@ module _ (named : Named) (numbers : Numbers) (u : SourceUnit) (who : Option ℕ)
   writer_alone n is x free =
       kinds_of_one x.1.params WordKind x.1.is.0 (none_given (record { answer = x.0; params = x.1.params }) n (subst (λ (o : Option Signature). NoFault (call_faults named o n [])) x.1.signature free))
 
-  item_like : (n : RawName) (k : NameKind) → kind_of named n ≡ Some k → StandsAs named numbers u who k n → is_called (Some k) ≡ false → IsTrue (is_reference k 0) → ValueOf n
-  item_like n k is x item h = as_item n k is item (item_of_kind u who named numbers k n x h)
+  as_item : (f : ℕ) (n : RawName) (k : NameKind) → kind_of named n ≡ Some k → StandsAs named numbers u who k n → is_called (Some k) ≡ false → IsTrue (is_reference k 0) → ValueOf n f (is_called (kind_of named n))
+  as_item f n k is x item h =
+      subst (ValueOf n f) (sym (ap is_called is ∙ item))
+      (place_result u who f (named_spot (kind_of named n) (item_in (number_of named numbers n))) (fraction_of_kind (kind_of named n)) (field_of (kind_of named n)) (name_good n k is x h))
 
-  pub name_value : (n : RawName) (k : NameKind) → kind_of named n ≡ Some k → StandsAs named numbers u who k n → IsTrue (is_reference k 0 || is_procedure k) → NoFault (call_faults named (signature_of named n) n []) → ValueOf n
-  name_value n (kind.Single t) is x h free = item_like n (kind.Single t) is x refl refl
-  name_value n (kind.Value t) is x h free = item_like n (kind.Value t) is x refl refl
-  name_value n (kind.Location t) is x h free = item_like n (kind.Location t) is x refl refl
-  name_value n (kind.Array t b) is x h free = item_like n (kind.Array t b) is x refl (left (is_reference (kind.Array t b) 0) h)
+  pub name_value : (f : ℕ) (n : RawName) (k : NameKind) → kind_of named n ≡ Some k → StandsAs named numbers u who k n → IsTrue (is_reference k 0 || is_procedure k) → NoFault (call_faults named (signature_of named n) n []) → ValueOf n f (is_called (kind_of named n))
+  name_value f n (kind.Single t) is x h free = as_item f n (kind.Single t) is x refl refl
+  name_value f n (kind.Value t) is x h free = as_item f n (kind.Value t) is x refl refl
+  name_value f n (kind.Location t) is x h free = as_item f n (kind.Location t) is x refl refl
+  name_value f n (kind.Array t b) is x h free = as_item f n (kind.Array t b) is x refl (left (is_reference (kind.Array t b) 0) h)
     where
       left : (c : Bool) → IsTrue (c || false) → IsTrue c
       left true e = refl
       left false e = no e
-  name_value n (kind.Proc t) is x h free = as_called n (kind.Proc t) is refl (may_be_called true (kind.Proc t) n is x refl) free
-  name_value n (kind.ProcParam t) is x h free = as_called n (kind.ProcParam t) is refl (may_be_called true (kind.ProcParam t) n is x refl) free
-  name_value n kind.ReadByte is x h free = as_called n kind.ReadByte is refl (may_be_called true kind.ReadByte n is x refl) free
-  name_value n kind.WriteByte is x h free = absurd (writer_alone n is x free)
-  name_value n _ is x h free = no h
+  name_value f n (kind.Proc t) is x h free = as_called f n (kind.Proc t) is refl (may_be_called true (kind.Proc t) n is x refl) free
+  name_value f n (kind.ProcParam t) is x h free = as_called f n (kind.ProcParam t) is refl (may_be_called true (kind.ProcParam t) n is x refl) free
+  name_value f n kind.ReadByte is x h free = as_called f n kind.ReadByte is refl (may_be_called true kind.ReadByte n is x refl) free
+  name_value f n kind.WriteByte is x h free = absurd (writer_alone n is x free)
+  name_value f n _ is x h free = no h

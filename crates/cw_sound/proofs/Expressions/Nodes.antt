@@ -25,7 +25,8 @@ use Rattle.cw_gen_expr.specs.BuiltExpressions.{BuiltValue, BuiltReference, most_
 use Rattle.cw_gen_expr.proofs.Layers.{built_value_layer, value-built}
 use Rattle.cw_built.specs.Built.{alone, at_work}
 use Rattle.cw_sound.proofs.Expressions.Truth.{both, le_true, lt_true, lt_of}
-use Rattle.cw_sound.proofs.Expressions.Parts.{value, is_formed, Ready, Result, Addend}
+use Rattle.cw_sound.proofs.Expressions.Parts.{Ready, Result, Addend, WholePart}
+use Rattle.cw_sound.proofs.Expressions.Built.{value, is_formed, built_well, BuiltAt, whole_at, ready_whole}
 
 module _ (u : SourceUnit) (who : Option ℕ) where
   pub value_rolled : (x : Expr-F Arg Cond Expr Spot Ref) → value u who (roll-Expr x) ≡ built_value_layer u (has_words u who) x
@@ -39,93 +40,73 @@ module _ (u : SourceUnit) (who : Option ℕ) where
 
   -- ---- operators that give a word at their own scale
 
-  pub result_of : (n : ℕ) (e : Expr) (p : (f levels : ℕ) → Bool) → value u who e ≡ built_scaled n p → ((f levels : ℕ) → IsTrue (p f levels)) → IsTrue (is_formed u who e) → Result u who n e
-  result_of n e p is h k = record {
+  pub result_of : (n f : ℕ) (e : Expr) (p : (f levels : ℕ) → Bool) → value u who e ≡ built_scaled n p → ((levels : ℕ) → IsTrue (p f levels)) → IsTrue (is_formed u who e) → Result (built_well u who) n f e
+  result_of n f e p is h k = record {
     natural = ap (λ (v : BuiltValue). v.natural) is;
     operand = ap (λ (v : BuiltValue). v.operand) is;
-    at = λ f levels. subst (λ (v : BuiltValue). IsTrue (v.at f levels)) (sym is) (h f levels);
-    formed = k;
-  }
-
-  pub result_ready : (n : ℕ) (e : Expr) → n ≤ 15 → Result u who n e → Ready u who e
-  result_ready n e small r = record {
-    operand = subst (λ (f : ℕ). IsTrue (nat_le f 15 && (value u who e).at f most_levels)) (sym r.operand) (both (nat_le n 15) ((value u who e).at n most_levels) (le_true n 15 small) (r.at n most_levels));
-    formed = r.formed;
+    at = record { built = λ levels low high. subst (λ (v : BuiltValue). IsTrue (v.at f levels)) (sym is) (h levels); formed = k };
   }
 
   abbrev operands : (a b : Expr) → Bool
   operands a b = whole (value u who a) (value u who a).operand && whole (value u who b) (value u who b).operand
 
-  both_operands : (a b : Expr) → Ready u who a → Ready u who b → IsTrue (operands a b)
-  both_operands a b h k = both (whole (value u who a) (value u who a).operand) (whole (value u who b) (value u who b).operand) h.operand k.operand
+  both_operands : (a b : Expr) → Ready (built_well u who) a → Ready (built_well u who) b → IsTrue (operands a b)
+  both_operands a b h k = both (whole (value u who a) (value u who a).operand) (whole (value u who b) (value u who b).operand) (ready_whole u who a h) (ready_whole u who b k)
 
-  pub logic_result : (op : LogicOp) (a b : Expr) → Ready u who a → Ready u who b → Result u who 0 (logic op a b)
-  logic_result op a b h k =
-      result_of 0 (logic op a b) (λ f levels. operands a b) (value_rolled (layer.Logic op a b)) (λ f levels. both_operands a b h k)
-      (subst IsTrue (sym (formed_rolled (layer.Logic op a b))) (both (is_formed u who a) (is_formed u who b) h.formed k.formed))
+  both_formed : (a b : Expr) → Ready (built_well u who) a → Ready (built_well u who) b → IsTrue (is_formed u who a && is_formed u who b)
+  both_formed a b h k = both (is_formed u who a) (is_formed u who b) h.at.formed k.at.formed
 
-  pub bits_result : (t b : ℕ) (a : Expr) → Ready u who a → Result u who 0 (bits t b a)
-  bits_result t b a h =
-      result_of 0 (bits t b a) (λ f levels. whole (value u who a) (value u who a).operand) (value_rolled (layer.Bits t b a)) (λ f levels. h.operand)
-      (subst IsTrue (sym (formed_rolled (layer.Bits t b a))) h.formed)
+  pub logic_result : (op : LogicOp) (f : ℕ) (a b : Expr) → Ready (built_well u who) a → Ready (built_well u who) b → Result (built_well u who) 0 f (logic op a b)
+  logic_result op f a b h k =
+      result_of 0 f (logic op a b) (λ f levels. operands a b) (value_rolled (layer.Logic op a b)) (λ levels. both_operands a b h k)
+      (subst IsTrue (sym (formed_rolled (layer.Logic op a b))) (both_formed a b h k))
 
-  pub multiplied_result : (op : MulOp) (a b : Expr) → Ready u who a → Ready u who b → Result u who (max (value u who a).natural (value u who b).natural) (multiplied op a b)
-  multiplied_result mul.Times a b h k =
-      result_of (max (value u who a).natural (value u who b).natural) (multiplied mul.Times a b) (λ f levels. operands a b) (value_rolled (layer.Times a b)) (λ f levels. both_operands a b h k)
-      (subst IsTrue (sym (formed_rolled (layer.Times a b))) (both (is_formed u who a) (is_formed u who b) h.formed k.formed))
-  multiplied_result mul.Divide a b h k =
-      result_of (max (value u who a).natural (value u who b).natural) (multiplied mul.Divide a b) (λ f levels. operands a b) (value_rolled (layer.Over a b)) (λ f levels. both_operands a b h k)
-      (subst IsTrue (sym (formed_rolled (layer.Over a b))) (both (is_formed u who a) (is_formed u who b) h.formed k.formed))
+  pub bits_result : (t b f : ℕ) (a : Expr) → Ready (built_well u who) a → Result (built_well u who) 0 f (bits t b a)
+  bits_result t b f a h =
+      result_of 0 f (bits t b a) (λ f levels. whole (value u who a) (value u who a).operand) (value_rolled (layer.Bits t b a)) (λ levels. ready_whole u who a h)
+      (subst IsTrue (sym (formed_rolled (layer.Bits t b a))) h.at.formed)
+
+  pub multiplied_result : (op : MulOp) (f : ℕ) (a b : Expr) → Ready (built_well u who) a → Ready (built_well u who) b → Result (built_well u who) (max (value u who a).natural (value u who b).natural) f (multiplied op a b)
+  multiplied_result mul.Times f a b h k =
+      result_of (max (value u who a).natural (value u who b).natural) f (multiplied mul.Times a b) (λ f levels. operands a b) (value_rolled (layer.Times a b)) (λ levels. both_operands a b h k)
+      (subst IsTrue (sym (formed_rolled (layer.Times a b))) (both_formed a b h k))
+  multiplied_result mul.Divide f a b h k =
+      result_of (max (value u who a).natural (value u who b).natural) f (multiplied mul.Divide a b) (λ f levels. operands a b) (value_rolled (layer.Over a b)) (λ levels. both_operands a b h k)
+      (subst IsTrue (sym (formed_rolled (layer.Over a b))) (both_formed a b h k))
 
   -- ---- sums, whose terms are evaluated at the scale of the whole
 
-  pub addend_of : (f n l : ℕ) (e : Expr) (p : (f levels : ℕ) → Bool) → value u who e ≡ built_scaled n p → ((levels : ℕ) → IsTrue (p f levels)) → IsTrue (is_formed u who e) → Addend u who f n l e
+  addend_of : (f n l : ℕ) (e : Expr) (p : (f levels : ℕ) → Bool) → value u who e ≡ built_scaled n p → ((levels : ℕ) → IsTrue (p f levels)) → IsTrue (is_formed u who e) → Addend (built_well u who) f n l e
   addend_of f n l e p is h k = record {
     natural = ap (λ (v : BuiltValue). v.natural) is;
-    at = λ levels low high. subst (λ (v : BuiltValue). IsTrue (v.at f levels)) (sym is) (h levels);
-    formed = k;
+    at = record { built = λ levels low high. subst (λ (v : BuiltValue). IsTrue (v.at f levels)) (sym is) (h levels); formed = k };
   }
 
-  pub addend_whole : (f n l : ℕ) (e : Expr) → f ≤ 15 → l ≤ most_levels → Addend u who f n l e → IsTrue (whole (value u who e) f)
-  addend_whole f n l e small few a = both (nat_le f 15) ((value u who e).at f most_levels) (le_true f 15 small) (a.at most_levels few (omega arith))
+  sum_made : (f n m l : ℕ) (e a b : Expr) → value u who e ≡ built_scaled (max (value u who a).natural (value u who b).natural) (λ f levels. whole (value u who a) f && whole (value u who b) f) → is_formed u who e ≡ (is_formed u who a && is_formed u who b)
+      → f ≤ 15 → l ≤ most_levels → Addend (built_well u who) f n l a → Addend (built_well u who) f m l b → Addend (built_well u who) f (max n m) l e
+  sum_made f n m l e a b is fis small few h k =
+      subst (λ (i : ℕ). Addend (built_well u who) f i l e) (ap₂ max h.natural k.natural)
+      (addend_of f (max (value u who a).natural (value u who b).natural) l e (λ f levels. whole (value u who a) f && whole (value u who b) f) is
+      (λ levels. both (whole (value u who a) f) (whole (value u who b) f) (whole_at u who f l a small few h.at) (whole_at u who f l b small few k.at))
+      (subst IsTrue (sym fis) (both (is_formed u who a) (is_formed u who b) h.at.formed k.at.formed)))
 
-  abbrev terms : (f : ℕ) (a b : Expr) → Bool
-  terms f a b = whole (value u who a) f && whole (value u who b) f
+  pub added_addend : (op : AddOp) (f n m l : ℕ) (a b : Expr) → f ≤ 15 → l ≤ most_levels → Addend (built_well u who) f n l a → Addend (built_well u who) f m l b → Addend (built_well u who) f (max n m) l (added op a b)
+  added_addend add.Plus f n m l a b = sum_made f n m l (added add.Plus a b) a b (value_rolled (layer.Sum a b)) (formed_rolled (layer.Sum a b))
+  added_addend add.Minus f n m l a b = sum_made f n m l (added add.Minus a b) a b (value_rolled (layer.Less a b)) (formed_rolled (layer.Less a b))
 
-  sum_made : (f l : ℕ) (e a b : Expr) → value u who e ≡ built_scaled (max (value u who a).natural (value u who b).natural) (λ f levels. terms f a b) → is_formed u who e ≡ (is_formed u who a && is_formed u who b)
-      → IsTrue (whole (value u who a) f) → IsTrue (whole (value u who b) f) → IsTrue (is_formed u who a) → IsTrue (is_formed u who b) → Addend u who f (max (value u who a).natural (value u who b).natural) l e
-  sum_made f l e a b is fis x y p q =
-      addend_of f (max (value u who a).natural (value u who b).natural) l e (λ f levels. terms f a b) is (λ levels. both (whole (value u who a) f) (whole (value u who b) f) x y)
-      (subst IsTrue (sym fis) (both (is_formed u who a) (is_formed u who b) p q))
-
-  pub added_addend : (op : AddOp) (f n m l : ℕ) (a b : Expr) → f ≤ 15 → l ≤ most_levels → Addend u who f n l a → Addend u who f m l b → Addend u who f (max n m) l (added op a b)
-  added_addend add.Plus f n m l a b small few h k =
-      subst (λ (i : ℕ). Addend u who f i l (added add.Plus a b)) (ap₂ max h.natural k.natural)
-      (sum_made f l (added add.Plus a b) a b (value_rolled (layer.Sum a b)) (formed_rolled (layer.Sum a b)) (addend_whole f n l a small few h) (addend_whole f m l b small few k) h.formed k.formed)
-  added_addend add.Minus f n m l a b small few h k =
-      subst (λ (i : ℕ). Addend u who f i l (added add.Minus a b)) (ap₂ max h.natural k.natural)
-      (sum_made f l (added add.Minus a b) a b (value_rolled (layer.Less a b)) (formed_rolled (layer.Less a b)) (addend_whole f n l a small few h) (addend_whole f m l b small few k) h.formed k.formed)
-
-  pub minus_addend : (f n l : ℕ) (a : Expr) → f ≤ 15 → l ≤ most_levels → Addend u who f n l a → Addend u who f n l (minus a)
+  pub minus_addend : (f n l : ℕ) (a : Expr) → f ≤ 15 → l ≤ most_levels → Addend (built_well u who) f n l a → Addend (built_well u who) f n l (minus a)
   minus_addend f n l a small few h =
-      subst (λ (i : ℕ). Addend u who f i l (minus a)) h.natural
-      (addend_of f (value u who a).natural l (minus a) (λ f levels. whole (value u who a) f) (value_rolled (layer.Minus a)) (λ levels. addend_whole f n l a small few h)
-      (subst IsTrue (sym (formed_rolled (layer.Minus a))) h.formed))
+      subst (λ (i : ℕ). Addend (built_well u who) f i l (minus a)) h.natural
+      (addend_of f (value u who a).natural l (minus a) (λ f levels. whole (value u who a) f) (value_rolled (layer.Minus a)) (λ levels. whole_at u who f l a small few h.at)
+      (subst IsTrue (sym (formed_rolled (layer.Minus a))) h.at.formed))
 
   -- ---- the whole part of a number, where it is an operand
 
-  pub record WholePart (e w : Expr) : Type 0 where
-    pub natural : (value u who w).natural ≡ (value u who e).natural
-    pub operand : (value u who w).operand ≡ (value u who e).natural
-    pub at : IsTrue ((value u who e).at (value u who e).natural most_levels) → IsTrue ((value u who w).at (value u who e).natural most_levels)
-    pub formed : IsTrue (is_formed u who e) → IsTrue (is_formed u who w)
-
-  itself : (e : Expr) (v : BuiltValue) → value u who e ≡ v → v.operand ≡ v.natural → WholePart e e
+  itself : (e : Expr) (v : BuiltValue) → value u who e ≡ v → v.operand ≡ v.natural → WholePart (built_well u who) e e
   itself e v is same = record {
     natural = refl;
     operand = ap (λ (x : BuiltValue). x.operand) is ∙ same ∙ sym (ap (λ (x : BuiltValue). x.natural) is);
     at = λ h. h;
-    formed = λ h. h;
   }
 
   floor_above : (w d p : ℕ) → w ≤ decimal_floor w d p 0
@@ -134,7 +115,7 @@ module _ (u : SourceUnit) (who : Option ℕ) where
   floor_whole : (w : ℕ) → decimal_floor w 0 0 0 ≡ w
   floor_whole w = omega arith
 
-  part_of_number : (e : Expr) (n : Number) → value u who e ≡ built_value_layer u (has_words u who) (layer.Num n) → WholePart e (whole_number n.whole)
+  part_of_number : (e : Expr) (n : Number) → value u who e ≡ built_value_layer u (has_words u who) (layer.Num n) → WholePart (built_well u who) e (whole_number n.whole)
   part_of_number e n is =
       let w : Expr = whole_number n.whole in
       let rolled = value_rolled (layer.Num (record { whole = n.whole; digits = 0; places = 0 })) in
@@ -142,13 +123,15 @@ module _ (u : SourceUnit) (who : Option ℕ) where
         natural = ap (λ (v : BuiltValue). v.natural) rolled ∙ sym (ap (λ (v : BuiltValue). v.natural) is);
         operand = ap (λ (v : BuiltValue). v.operand) rolled ∙ sym (ap (λ (v : BuiltValue). v.natural) is);
         at = λ h.
-            let below : decimal_floor n.whole n.digits n.places 0 < 32768 = lt_of (decimal_floor n.whole n.digits n.places 0) 32768 (subst (λ (v : BuiltValue). IsTrue (v.at v.natural most_levels)) is h) in
+            let below : decimal_floor n.whole n.digits n.places 0 < 32768 = lt_of (decimal_floor n.whole n.digits n.places 0) 32768 (subst (λ (v : BuiltValue). IsTrue (v.at v.natural most_levels)) is (h.built most_levels (omega arith) (omega arith))) in
             let fits : IsTrue (nat_lt (decimal_floor n.whole 0 0 0) 32768) = lt_true (decimal_floor n.whole 0 0 0) 32768 (omega (arith, floor_whole n.whole, floor_above n.whole n.digits n.places, below)) in
-            subst (λ (v : BuiltValue). IsTrue ((value u who w).at v.natural most_levels)) (sym is) (subst (λ (v : BuiltValue). IsTrue (v.at 0 most_levels)) (sym rolled) fits);
-        formed = λ h. formed_rolled (layer.Num (record { whole = n.whole; digits = 0; places = 0 }));
+            record {
+              built = λ levels low high. subst (λ (v : BuiltValue). IsTrue ((value u who w).at v.natural levels)) (sym is) (subst (λ (v : BuiltValue). IsTrue (v.at 0 levels)) (sym rolled) fits);
+              formed = formed_rolled (layer.Num (record { whole = n.whole; digits = 0; places = 0 }));
+            };
       }
 
-  part_in : (e : Expr) (x : Expr-F Arg Cond Expr Spot Ref) → value u who e ≡ built_value_layer u (has_words u who) x → WholePart e (whole_part_in e x)
+  part_in : (e : Expr) (x : Expr-F Arg Cond Expr Spot Ref) → value u who e ≡ built_value_layer u (has_words u who) x → WholePart (built_well u who) e (whole_part_in e x)
   part_in e (layer.Num n) is = part_of_number e n is
   part_in e (layer.Const z) is = itself e (built_value_layer u (has_words u who) (layer.Const z)) is refl
   part_in e (layer.Text i) is = itself e (built_value_layer u (has_words u who) (layer.Text i)) is refl
@@ -165,5 +148,5 @@ module _ (u : SourceUnit) (who : Option ℕ) where
   part_in e (layer.Over a b) is = itself e (built_value_layer u (has_words u who) (layer.Over a b)) is refl
   part_in e (layer.Choice c a b) is = itself e (built_value_layer u (has_words u who) (layer.Choice c a b)) is refl
 
-  pub whole_part_is : (e : Expr) → WholePart e (whole_part e)
+  pub whole_part_is : (e : Expr) → WholePart (built_well u who) e (whole_part e)
   whole_part_is e = part_in e (out-Expr e) (value-built u (has_words u who) e)

@@ -1,5 +1,5 @@
 -- References of a unit, by how their addresses are found.
-use Rattle.std.proofs.Common.{◌≡◌, ℕ, Bool, true, false, IsTrue, ◌&&◌, ◌==◌, ◌⊎◌, inl, inr, Option, Some, None, refl, sym, ap, subst}
+use Rattle.std.proofs.Common.{◌≡◌, ℕ, Bool, true, false, IsTrue, ◌&&◌, ◌==◌, ◌⊎◌, inl, inr, Option, Some, None, refl, sym, ap, subst, arith}
 use Rattle.cw_table.specs.Rows.{item_at}
 use Rattle.cw_tree.specs.declared.leaf.RawName.{RawName}
 use Rattle.cw_tree.specs.declared.leaf.RawSize.{RawSize}
@@ -25,12 +25,13 @@ use Rattle.cw_safety.specs.Kinds.{Kind}
 use Rattle.cw_safety.specs.WellFormed as formed
 use Rattle.cw_gen_expr.specs.NamedItems.{has_words}
 use Rattle.cw_gen_expr.specs.BuiltExpressions as built
-use Rattle.cw_gen_expr.specs.BuiltExpressions.{BuiltValue, BuiltReference, whole, built_reference, is_spot}
+use Rattle.cw_gen_expr.specs.BuiltExpressions.{BuiltValue, BuiltReference, most_levels, whole, built_reference, is_spot}
 use Rattle.cw_gen_expr.proofs.Layers.{built_spot_layer, built_reference_layer}
 use Rattle.cw_built.specs.Built.{alone, at_work}
 use Rattle.cw_sound.specs.Uses.Stands.{IsItem, IsTable, StandsAs}
 use Rattle.cw_sound.proofs.Expressions.Truth.{no, both}
-use Rattle.cw_sound.proofs.Expressions.Parts.{value, is_formed, Result}
+use Rattle.cw_sound.proofs.Expressions.Parts.{Result}
+use Rattle.cw_sound.proofs.Expressions.Built.{value, is_formed, built_well, BuiltAt, BuiltPlace, whole_at}
 use Rattle.cw_sound.proofs.Expressions.Nodes.{value_rolled, formed_rolled, result_of}
 
 module _ (u : SourceUnit) (who : Option ℕ) where
@@ -67,31 +68,33 @@ module _ (u : SourceUnit) (who : Option ℕ) where
   place_of : (x : Spot-F Arg Cond Expr Spot Ref) → IsTrue (built_spot_layer u (has_words u who) x) → IsTrue (formed_spot_layer x) → Place (roll-Spot x)
   place_of x h k = record { built = subst IsTrue (sym (spot_rolled x)) h; formed = subst IsTrue (sym (formed_spot x)) k }
 
-  pub place_good : (s : Spot) (f : ℕ) (field : Option Field) → Place s → IsTrue (built_reference u (has_words u who) (reference s f field)).good
-  place_good s f field p = subst (λ (v : BuiltReference). IsTrue v.good) (sym (reference_rolled (record { «at» = s; f = f; field = field }))) p.built
-
-  pub place_formed : (s : Spot) (f : ℕ) (field : Option Field) → Place s → IsTrue (formed.is_reference (alone u) 0 (at_work who) (reference s f field))
-  place_formed s f field p = subst IsTrue (sym (formed_reference (record { «at» = s; f = f; field = field }))) p.formed
+  pub place_good : (s : Spot) (f : ℕ) (field : Option Field) → Place s → BuiltPlace u who (reference s f field)
+  place_good s f field p = record {
+    built = subst (λ (v : BuiltReference). IsTrue v.good) (sym (reference_rolled (record { «at» = s; f = f; field = field }))) p.built;
+    formed = subst IsTrue (sym (formed_reference (record { «at» = s; f = f; field = field }))) p.formed;
+  }
 
   pub place_scale : (s : Spot) (f : ℕ) (field : Option Field) → (built_reference u (has_words u who) (reference s f field)).scale ≡ f
   place_scale s f field = ap (λ (v : BuiltReference). v.scale) (reference_rolled (record { «at» = s; f = f; field = field }))
 
-  pub read_result : (r : Ref) → IsTrue (built_reference u (has_words u who) r).good → IsTrue (formed.is_reference (alone u) 0 (at_work who) r) → Result u who (built_reference u (has_words u who) r).scale (read r)
-  read_result r h k =
+  pub read_result : (f : ℕ) (r : Ref) → BuiltPlace u who r → Result (built_well u who) (built_reference u (has_words u who) r).scale f (read r)
+  read_result f r h =
       let b : BuiltReference = built_reference u (has_words u who) r in
-      result_of u who b.scale (read r) (λ f levels. b.good) (value_rolled u who (layer.Read r)) (λ f levels. h) (subst IsTrue (sym (formed_rolled u who (layer.Read r))) k)
+      result_of u who b.scale f (read r) (λ f levels. b.good) (value_rolled u who (layer.Read r)) (λ levels. h.built) (subst IsTrue (sym (formed_rolled u who (layer.Read r))) h.formed)
 
-  pub place_result : (s : Spot) (f : ℕ) (field : Option Field) → Place s → Result u who f (read (reference s f field))
-  place_result s f field p = subst (λ (n : ℕ). Result u who n (read (reference s f field))) (place_scale s f field) (read_result (reference s f field) (place_good s f field p) (place_formed s f field p))
+  pub place_result : (g : ℕ) (s : Spot) (f : ℕ) (field : Option Field) → Place s → Result (built_well u who) f g (read (reference s f field))
+  place_result g s f field p = subst (λ (n : ℕ). Result (built_well u who) n g (read (reference s f field))) (place_scale s f field) (read_result g (reference s f field) (place_good s f field p))
 
   -- ---- an index is evaluated at the scale 0
 
-  pub record Index (e : Expr) : Type 0 where
-    pub built : IsTrue (whole (value u who e) 0)
-    pub formed : IsTrue (is_formed u who e)
+  abbrev pub Index : Expr → Type 0
+  Index = BuiltAt u who most_levels 0
+
+  index_whole : (e : Expr) → Index e → IsTrue (whole (value u who e) 0)
+  index_whole e x = whole_at u who 0 most_levels e (omega arith) (omega arith) x
 
   pub bare_place : (e : Expr) → Index e → Place (roll-Spot (layer.Bare e))
-  bare_place e x = place_of (layer.Bare e) x.built x.formed
+  bare_place e x = place_of (layer.Bare e) (index_whole e x) x.formed
 
   pub named_place : (k : NameKind) (i : ℕ) → IsTrue (has_words u who i 1) → Place (named_spot (Some k) i)
   named_place (kind.Location t) i h = place_of (layer.Through i) h refl
@@ -101,16 +104,16 @@ module _ (u : SourceUnit) (who : Option ℕ) where
   double_place first None i e g h w x y = no h
   double_place first (Some s) i e g h w x y =
       place_of (layer.Two i (bound first.lower) (bound first.upper) (bound s.lower) (bound s.upper) (row_length s) e g)
-      (both (has_words u who i 1) (whole (value u who e) 0 && whole (value u who g) 0) w (both (whole (value u who e) 0) (whole (value u who g) 0) x.built y.built))
+      (both (has_words u who i 1) (whole (value u who e) 0 && whole (value u who g) 0) w (both (whole (value u who e) 0) (whole (value u who g) 0) (index_whole e x) (index_whole g y)))
       (both (is_formed u who e) (is_formed u who g) x.formed y.formed)
 
   element_place : (o : Option NameKind) (s : RawSize) (i p : ℕ) (e : Expr) → (o ≡ Some (kind.Table s)) ⊎ (o ≡ Some (kind.TableParam s)) → IsTrue (has_words u who i 1) → Index e → Place (element_spot o i p e)
   element_place o s i p e (inl is) w x =
       subst (λ (z : Option NameKind). Place (element_spot z i p e)) (sym is)
-      (place_of (layer.Elem i false (width_of s) (entries_of s) p e) (both (has_words u who i 1) (whole (value u who e) 0) w x.built) x.formed)
+      (place_of (layer.Elem i false (width_of s) (entries_of s) p e) (both (has_words u who i 1) (whole (value u who e) 0) w (index_whole e x)) x.formed)
   element_place o s i p e (inr is) w x =
       subst (λ (z : Option NameKind). Place (element_spot z i p e)) (sym is)
-      (place_of (layer.Elem i true (width_of s) (entries_of s) p e) (both (has_words u who i 1) (whole (value u who e) 0) w x.built) x.formed)
+      (place_of (layer.Elem i true (width_of s) (entries_of s) p e) (both (has_words u who i 1) (whole (value u who e) 0) w (index_whole e x)) x.formed)
 
   -- ---- names with indexes
 
@@ -134,16 +137,16 @@ module _ (u : SourceUnit) (who : Option ℕ) where
     pub one_place : (k : NameKind) (n : RawName) (e : Expr) → StandsAs named numbers u who k n → IsTrue (is_reference k 1) → Index e → Place (indexed_spot named numbers (Some k) (item_in (number_of named numbers n)) e)
     one_place (kind.Array t b) n e x h y =
         let i : ℕ = item_in (number_of named numbers n) in
-        place_of (layer.One i (bound b.first.lower) (bound b.first.upper) e) (both (has_words u who i 1) (whole (value u who e) 0) (has_item (number_of named numbers n) x) y.built) y.formed
+        place_of (layer.One i (bound b.first.lower) (bound b.first.upper) e) (both (has_words u who i 1) (whole (value u who e) 0) (has_item (number_of named numbers n) x) (index_whole e y)) y.formed
     one_place (kind.ArrayParam t) n e x h y =
         let i : ℕ = item_in (number_of named numbers n) in
-        place_of (layer.ParamArray i e) (both (has_words u who i 1) (whole (value u who e) 0) (has_item (number_of named numbers n) x) y.built) y.formed
+        place_of (layer.ParamArray i e) (both (has_words u who i 1) (whole (value u who e) 0) (has_item (number_of named numbers n) x) (index_whole e y)) y.formed
     one_place (kind.Table s) n e x h y =
         let i : ℕ = item_in (number_of named numbers n) in
-        place_of (layer.Word i false (words_of s) e) (both (has_words u who i 1) (whole (value u who e) 0) (has_item (number_of named numbers n) x) y.built) y.formed
+        place_of (layer.Word i false (words_of s) e) (both (has_words u who i 1) (whole (value u who e) 0) (has_item (number_of named numbers n) x) (index_whole e y)) y.formed
     one_place (kind.TableParam s) n e x h y =
         let i : ℕ = item_in (number_of named numbers n) in
-        place_of (layer.Word i true (words_of s) e) (both (has_words u who i 1) (whole (value u who e) 0) (has_item (number_of named numbers n) x) y.built) y.formed
+        place_of (layer.Word i true (words_of s) e) (both (has_words u who i 1) (whole (value u who e) 0) (has_item (number_of named numbers n) x) (index_whole e y)) y.formed
     one_place (kind.Element table z) n e x h y = table_place table.at.token (element_word z) e x y
     one_place _ n e x h y = no h
 

@@ -1,5 +1,5 @@
 -- Facts that stand, one after another.
-use Rattle.std.proofs.Common.{◌⊎◌, inl, inr, ℕ, List, [], ◌∷◌, ◌++◌, Option, refl, sym, ap, subst, ◌∙◌}
+use Rattle.std.proofs.Common.{inl, inr, ℕ, List, [], ◌∷◌, ◌++◌, Option, refl, sym, ap, subst, ◌∙◌}
 use Rattle.cw_tree.specs.declared.leaf.RawName.{RawName}
 use Rattle.cw_tree.specs.declared.leaf.Position.{Position}
 use Rattle.cw_facts.specs.declared.fact.Fact.{Fact}
@@ -16,20 +16,7 @@ use Rattle.cw_make_expr.specs.Parts.{Numbers}
 use Rattle.cw_unit.specs.declared.unit.Unit.{Unit as SourceUnit}
 use Rattle.cw_sound.specs.Uses.Mentions.{In, uses, stores, Here, here, Mentions, mentions_step, fact_mentions, facts_mentions}
 use Rattle.cw_sound.specs.Uses.Stands.{Stands, IsItem, FactsStand}
-
-pub in_left : {X : Type 0} (x : X) (xs ys : List X) → In x xs → In x (xs ++ ys)
-in_left x [] ys h = absurd h
-in_left x (z ∷ xs) ys (inl e) = inl e
-in_left x (z ∷ xs) ys (inr h) = inr (in_left x xs ys h)
-
-in_right : {X : Type 0} (x : X) (xs ys : List X) → In x ys → In x (xs ++ ys)
-in_right x [] ys h = h
-in_right x (z ∷ xs) ys h = inr (in_right x xs ys h)
-
-pub in_either : {X : Type 0} (x : X) (xs ys : List X) → In x (xs ++ ys) → In x xs ⊎ In x ys
-in_either x [] ys h = inr h
-in_either x (z ∷ xs) ys (inl e) = inl (inl e)
-in_either x (z ∷ xs) ys (inr h) = elim (in_either x xs ys h) [ inl k ↦ inl (inr k) | inr k ↦ inr k ]
+use Rattle.cw_sound.proofs.Names.Lists.{in_left, in_right, in_either}
 
 module _ (named : Named) (numbers : Numbers) (u : SourceUnit) (who : Option ℕ) where
   abbrev pub of_all : List Fact → List Here

@@ -12,7 +12,8 @@ use Rattle.cw_unit.specs.declared.unit.Unit.{Unit as SourceUnit}
 use Rattle.cw_unit.specs.declared.unit.Cond.{Cond}
 use Rattle.cw_sound.specs.Expressions.Levels.{then_levels}
 use Rattle.cw_sound.specs.Expressions.Regular.{all, is_regular}
-use Rattle.cw_sound.proofs.Expressions.Parts.{Right, RightTest, RightPlace}
+use Rattle.cw_sound.proofs.Expressions.Parts.{Sense, Right, RightTest, RightPlace}
+use Rattle.cw_sound.proofs.Expressions.Senses.{IsKept}
 use Rattle.cw_sound.proofs.Expressions.Rules.{logic_right, prim_right, term_right, sum_right}
 use Rattle.cw_sound.proofs.Expressions.Primaries.{number_right, octal_right, literal_right, string_right, location_right, forced_right, bracket_right, call_right, choice_right}
 use Rattle.cw_sound.proofs.Expressions.References.{name_right, one_right, two_right, bare_right}
@@ -21,39 +22,39 @@ use Rattle.cw_sound.proofs.Expressions.Lists.{Each}
 use Rattle.cw_sound.proofs.Expressions.Layers.{IsExpressionRight, IsReferenceRight, IsConditionRight}
 use Rattle.cw_sound.proofs.Expressions.Induction as induction
 
-module _ (named : Named) (numbers : Numbers) (u : SourceUnit) (who : Option ℕ) where
+module _ (named : Named) (numbers : Numbers) (u : SourceUnit) (who : Option ℕ) (sense : Sense) (kept : IsKept named numbers u who sense) where
   abbrev Value : Judged → Made → Uses → ℕ → Type 0
-  Value = Right named numbers u who
+  Value = Right named numbers u who sense
 
   abbrev Test : Judged → Cond → Uses → ℕ → Type 0
-  Test = RightTest named numbers u who
+  Test = RightTest named numbers u who sense
 
   abbrev Place : Judged → Placed → Uses → ℕ → Type 0
-  Place = RightPlace named numbers u who
+  Place = RightPlace named numbers u who sense
 
   rules : induction.RightRules named numbers Value Test Place
   rules = record {
     value_of_place = λ j p x l s. s.sound;
-    logic_right = logic_right named numbers u who;
-    prim_right = prim_right named numbers u who;
-    term_right = term_right named numbers u who;
-    sum_right = sum_right named numbers u who;
-    number_right = number_right named numbers u who;
-    octal_right = octal_right named numbers u who;
-    literal_right = literal_right named numbers u who;
-    string_right = string_right named numbers u who;
-    location_right = location_right named numbers u who;
-    forced_right = forced_right named numbers u who;
-    bracket_right = bracket_right named numbers u who;
-    call_right = call_right named numbers u who;
-    choice_right = choice_right named numbers u who;
-    name_right = name_right named numbers u who;
-    one_right = one_right named numbers u who;
-    two_right = two_right named numbers u who;
-    bare_right = bare_right named numbers u who;
-    conjunction_right = conjunction_right u who named numbers;
-    condition_right = condition_right u who named numbers;
-    comparison_right = comparison_right u who named numbers;
+    logic_right = logic_right named numbers u who sense kept;
+    prim_right = prim_right named numbers u who sense kept;
+    term_right = term_right named numbers u who sense kept;
+    sum_right = sum_right named numbers u who sense kept;
+    number_right = number_right named numbers u who sense kept;
+    octal_right = octal_right named numbers u who sense kept;
+    literal_right = literal_right named numbers u who sense kept;
+    string_right = string_right named numbers u who sense kept;
+    location_right = location_right named numbers u who sense kept;
+    forced_right = forced_right named numbers u who sense kept;
+    bracket_right = bracket_right named numbers u who sense kept;
+    call_right = call_right named numbers u who sense kept;
+    choice_right = choice_right named numbers u who sense kept;
+    name_right = name_right named numbers u who sense kept;
+    one_right = one_right named numbers u who sense kept;
+    two_right = two_right named numbers u who sense kept;
+    bare_right = bare_right named numbers u who sense kept;
+    conjunction_right = conjunction_right named numbers u who sense kept;
+    condition_right = condition_right named numbers u who sense kept;
+    comparison_right = comparison_right named numbers u who sense kept;
   }
 
   pub expression_is_right : (x : RawExpr) → IsExpressionRight named numbers Value Test Place x

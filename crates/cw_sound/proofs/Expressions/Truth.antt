@@ -1,21 +1,17 @@
 -- Tests that hold, and parts of them.
-use Rattle.std.proofs.Common.{◌≡◌, ℕ, ◌<◌, ◌≤◌, max, List, ◌∷◌, length, Bool, true, false, IsTrue, ◌&&◌, ◌||◌, nat_le, nat_lt, ◌==◌, Some, None, refl, sym, ap₂, arith}
+use Rattle.std.proofs.Common.{◌≡◌, ℕ, ◌<◌, ◌≤◌, max, List, ◌∷◌, length, Bool, true, false, IsTrue, ◌&&◌, ◌||◌, nat_le, nat_lt, ◌==◌, Some, None, refl, sym, arith}
 use Rattle.std.proofs.lemmas.Bool.Decides.{nat_tests}
 use Rattle.std.proofs.lemmas.Option.{none-some}
-
-pub no : {A : Type 0} → IsTrue false → A
-no h = absurd (cc)
+pub use Rattle.cw_writable.proofs.Coded.Fine.{no, both, parts}
 
 pub something : {A X : Type 0} (x : X) → Some x ≡ None → A
 something x e = absurd (none-some x (sym e))
 
-pub both : (a b : Bool) → IsTrue a → IsTrue b → IsTrue (a && b)
-both a b h k = ap₂ (λ x y. x && y) h k
+pub first_true : (a b : Bool) → IsTrue (a && b) → IsTrue a
+first_true a b h = (parts a b h).0
 
-pub parts : (a b : Bool) → IsTrue (a && b) → IsTrue a × IsTrue b
-parts true true h = (h, h)
-parts true false h = no h
-parts false b h = no h
+pub second_true : (a b : Bool) → IsTrue (a && b) → IsTrue b
+second_true a b h = (parts a b h).1
 
 pub either : {A : Type 0} (a b : Bool) → IsTrue (a || b) → (IsTrue a → A) → (IsTrue b → A) → A
 either true b h f g = f refl

@@ -57,7 +57,8 @@ use Rattle.cw_sound.specs.Names.Placed.{tokens}
 use Rattle.cw_sound.proofs.Names.ListedRows.{declared_row}
 use Rattle.cw_sound.proofs.Names.ListedNumbers.{declarations_append, tokens_append}
 use Rattle.cw_sound.proofs.Written.Titles.{block_rows}
-use Rattle.cw_sound.proofs.Front.Shapes.{decl_said, form_said, simple_said, decl_says, form_says, simple_says, block_says, proc_says, stmt_says, decl_stored, form_stored, simple_stored, decl_stores, form_stores, simple_stores, block_stores, proc_stores, stmt_stores}
+use Rattle.cw_sound.proofs.Statements.Folds.{facts_pass, things_pass}
+use Rattle.cw_sound.proofs.Statements.Passes.{layered, rolls}
 use Rattle.cw_macro.specs.Premises.{Each}
 
 abbrev declared : List Fact → List ℕ
@@ -164,14 +165,14 @@ module _ (named : Named) where
   Told a_stmt x = Of (statement_facts x) (statement_things named x)
   Told _ x = Unit {0}
 
-  decl : (y : RawDecl-F RawDecl RawForm RawSimple RawBlock RawProc RawStmt) (x : RawDecl) → roll-RawDecl y ≡ x → Of (decl_said y) (decl_stored named y) → Of (declaration_facts x) (declaration_things named x)
-  decl y x e h = subst₂ Of (decl_says y ∙ ap declaration_facts e) (decl_stores named y ∙ ap (declaration_things named) e) h
+  decl : (y : RawDecl-F RawDecl RawForm RawSimple RawBlock RawProc RawStmt) (x : RawDecl) → roll-RawDecl y ≡ x → Of ((layered facts_pass).decl y) ((layered (things_pass named)).decl y) → Of (declaration_facts x) (declaration_things named x)
+  decl y x e h = subst₂ Of (sym ((rolls facts_pass).decl y) ∙ ap declaration_facts e) (sym ((rolls (things_pass named)).decl y) ∙ ap (declaration_things named) e) h
 
-  formed : (y : RawForm-F RawDecl RawForm RawSimple RawBlock RawProc RawStmt) (x : RawForm) → roll-RawForm y ≡ x → Of (form_said y) (form_stored named y) → Of (form_facts x) (form_things named x)
-  formed y x e h = subst₂ Of (form_says y ∙ ap form_facts e) (form_stores named y ∙ ap (form_things named) e) h
+  formed : (y : RawForm-F RawDecl RawForm RawSimple RawBlock RawProc RawStmt) (x : RawForm) → roll-RawForm y ≡ x → Of ((layered facts_pass).form y) ((layered (things_pass named)).form y) → Of (form_facts x) (form_things named x)
+  formed y x e h = subst₂ Of (sym ((rolls facts_pass).form y) ∙ ap form_facts e) (sym ((rolls (things_pass named)).form y) ∙ ap (form_things named) e) h
 
-  simple : (y : RawSimple-F RawDecl RawForm RawSimple RawBlock RawProc RawStmt) (x : RawSimple) → roll-RawSimple y ≡ x → Of (simple_said y) (simple_stored named y) → Of (simple_facts x) (simple_things named x)
-  simple y x e h = subst₂ Of (simple_says y ∙ ap simple_facts e) (simple_stores named y ∙ ap (simple_things named) e) h
+  simple : (y : RawSimple-F RawDecl RawForm RawSimple RawBlock RawProc RawStmt) (x : RawSimple) → roll-RawSimple y ≡ x → Of ((layered facts_pass).simple y) ((layered (things_pass named)).simple y) → Of (simple_facts x) (simple_things named x)
+  simple y x e h = subst₂ Of (sym ((rolls facts_pass).simple y) ∙ ap simple_facts e) (sym ((rolls (things_pass named)).simple y) ∙ ap (simple_things named) e) h
 
   each_joined : {A : Type 0} (f : A → List Fact) (g : A → Things) (xs : List A) → Each (λ x. Of (f x) (g x)) xs → Of (joined (map f xs)) (joined_things (map g xs))
   each_joined f g [] h o = nothing []
@@ -190,12 +191,12 @@ module _ (named : Named) where
   told (normal.is_answer at {x = x} h) = simple (layer.Answer at x) (simple_tree.Answer at x) (simple_tree.rolls-Answer at x) (λ o. texts_unnamed _ o _)
   told (normal.inner_block {x = x} h) = simple (layer.Block x) (simple_tree.Block x) (simple_tree.rolls-Block x) (told h false)
   told (normal.is_block at {ds = ds} {x = x} {xs = xs} h k) =
-      λ b. subst₂ (λ f. Of (f b)) (block_says (record { at = at; decls = ds; stmts = x ∷ xs })) (block_stores named (record { at = at; decls = ds; stmts = x ∷ xs }))
+      λ b. subst₂ (λ f. Of (f b)) (sym ((rolls facts_pass).block (record { at = at; decls = ds; stmts = x ∷ xs }))) (sym ((rolls (things_pass named)).block (record { at = at; decls = ds; stmts = x ∷ xs })))
       (λ o. enclosed_declared _ _ _
       (together (joined (map declaration_facts ds)) (joined (map statement_facts (x ∷ xs))) (joined_things (map (declaration_things named) ds) o) (joined_things (map (statement_things named) (x ∷ xs)) o)
       (each_joined declaration_facts (declaration_things named) ds (told h) o) (each_joined statement_facts (statement_things named) (x ∷ xs) (told k) o)))
   told (normal.is_stmt {ls = ls} {x = x} h k) =
-      subst₂ Of (stmt_says (record { labels = ls; form = x })) (stmt_stores named (record { labels = ls; form = x })) (λ o. together (each_declares kind.Label ls) (form_facts x) [] (form_things named x o) (nothing _) (told k o))
+      subst₂ Of (sym ((rolls facts_pass).stmt (record { labels = ls; form = x }))) (sym ((rolls (things_pass named)).stmt (record { labels = ls; form = x }))) (λ o. together (each_declares kind.Label ls) (form_facts x) [] (form_things named x o) (nothing _) (told k o))
   told (normal.simple_form {x = x} h) = formed (layer.Simple x) (form_tree.Simple x) (form_tree.rolls-Simple x) (told h)
   told (normal.if_form at {t = t} {ls = ls} {x = x} h l k) =
       formed (layer.If at t ls x None) (form_tree.If at t ls x None) (form_tree.rolls-If at t ls x None)
@@ -223,7 +224,7 @@ module _ (named : Named) where
   told (normal.switch_decl at {f = f} {x = x} {xs = xs} h k) = decl (layer.Switch at f (x ∷ xs)) (decl_tree.Switch at f (x ∷ xs)) (decl_tree.rolls-Switch at f (x ∷ xs)) (λ o. nothing _)
   told (normal.proc_decl {o = answer} {t = t} {f = f} {xs = xs} {x = x} h g l k m) =
       decl (layer.Proc (proc_tree answer t f xs x)) (decl_tree.Proc (proc_tree answer t f xs x)) (decl_tree.rolls-Proc (proc_tree answer t f xs x))
-      (subst₂ Of (proc_says (record { answer = answer; tag = t; name = f; params = xs; body = x })) (proc_stores named (record { answer = answer; tag = t; name = f; params = xs; body = x }))
+      (subst₂ Of (sym ((rolls facts_pass).proc (record { answer = answer; tag = t; name = f; params = xs; body = x }))) (sym ((rolls (things_pass named)).proc (record { answer = answer; tag = t; name = f; params = xs; body = x })))
       (λ o.
       let own : Option Owner = Some (record { token = f.at.token; recursive = is_recursive t }) in
       let inside : List Fact = parameters_facts xs ++ statement_facts x in

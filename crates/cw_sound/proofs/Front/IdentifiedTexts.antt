@@ -41,7 +41,8 @@ use Rattle.cw_sound.proofs.Names.Rows.{rows_of, rows_in, facts_rows}
 use Rattle.cw_sound.proofs.Names.ExpressionUses.{expression_plain, condition_plain, reference_plain, arguments_plain}
 use Rattle.cw_sound.specs.Written.Counts as counts
 use Rattle.cw_sound.specs.Written.Identified.{IsIdentified, HasIdentifiers}
-use Rattle.cw_sound.proofs.Front.Shapes.{decl_said, form_said, simple_said, decl_says, form_says, simple_says, block_says, proc_says, stmt_says}
+use Rattle.cw_sound.proofs.Statements.Folds.{facts_pass}
+use Rattle.cw_sound.proofs.Statements.Passes.{layered, rolls}
 use Rattle.cw_sound.proofs.Front.Identified.{Identified, nothing, together, name_identified, answer_identified, use_identified, loop_identified, block_identified, names_identified, uses_identified, specification_identified, data_identified, base_identified, parameters_identified, communicators_identified}
 use Rattle.cw_macro.specs.Premises.{Each}
 
@@ -91,14 +92,14 @@ Told a_block x = (outermost : Bool) → Identified (block_facts x outermost)
 Told a_stmt x = Identified (statement_facts x)
 Told _ x = Unit {0}
 
-decl : (y : RawDecl-F RawDecl RawForm RawSimple RawBlock RawProc RawStmt) (x : RawDecl) → roll-RawDecl y ≡ x → Identified (decl_said y) → Identified (declaration_facts x)
-decl y x e h = subst Identified (decl_says y ∙ ap declaration_facts e) h
+decl : (y : RawDecl-F RawDecl RawForm RawSimple RawBlock RawProc RawStmt) (x : RawDecl) → roll-RawDecl y ≡ x → Identified ((layered facts_pass).decl y) → Identified (declaration_facts x)
+decl y x e h = subst Identified (sym ((rolls facts_pass).decl y) ∙ ap declaration_facts e) h
 
-formed : (y : RawForm-F RawDecl RawForm RawSimple RawBlock RawProc RawStmt) (x : RawForm) → roll-RawForm y ≡ x → Identified (form_said y) → Identified (form_facts x)
-formed y x e h = subst Identified (form_says y ∙ ap form_facts e) h
+formed : (y : RawForm-F RawDecl RawForm RawSimple RawBlock RawProc RawStmt) (x : RawForm) → roll-RawForm y ≡ x → Identified ((layered facts_pass).form y) → Identified (form_facts x)
+formed y x e h = subst Identified (sym ((rolls facts_pass).form y) ∙ ap form_facts e) h
 
-simple : (y : RawSimple-F RawDecl RawForm RawSimple RawBlock RawProc RawStmt) (x : RawSimple) → roll-RawSimple y ≡ x → Identified (simple_said y) → Identified (simple_facts x)
-simple y x e h = subst Identified (simple_says y ∙ ap simple_facts e) h
+simple : (y : RawSimple-F RawDecl RawForm RawSimple RawBlock RawProc RawStmt) (x : RawSimple) → roll-RawSimple y ≡ x → Identified ((layered facts_pass).simple y) → Identified (simple_facts x)
+simple y x e h = subst Identified (sym ((rolls facts_pass).simple y) ∙ ap simple_facts e) h
 
 each_joined : {A : Type 0} (f : A → List Fact) (xs : List A) → Each (λ x. Identified (f x)) xs → Identified (joined (map f xs))
 each_joined f [] h = nothing
@@ -121,8 +122,8 @@ told (normal.called_with {f = f} {x = x} {xs = xs} h k) = simple (layer.Call f (
 told (normal.is_answer at {x = x} h) = simple (layer.Answer at x) (simple_tree.Answer at x) (simple_tree.rolls-Answer at x) (together (use_identified (answer_name at) form.Answer) (expression x reading.Value))
 told (normal.inner_block {x = x} h) = simple (layer.Block x) (simple_tree.Block x) (simple_tree.rolls-Block x) (told h false)
 told (normal.is_block at {ds = ds} {x = x} {xs = xs} h k) =
-    λ o. subst (λ f. Identified (f o)) (block_says (record { at = at; decls = ds; stmts = x ∷ xs })) (enclosed_identified _ (together (each_joined declaration_facts ds (told h)) (each_joined statement_facts (x ∷ xs) (told k))))
-told (normal.is_stmt {ls = ls} {x = x} h k) = subst Identified (stmt_says (record { labels = ls; form = x })) (together (names_identified kind.Label h) (told k))
+    λ o. subst (λ f. Identified (f o)) (sym ((rolls facts_pass).block (record { at = at; decls = ds; stmts = x ∷ xs }))) (enclosed_identified _ (together (each_joined declaration_facts ds (told h)) (each_joined statement_facts (x ∷ xs) (told k))))
+told (normal.is_stmt {ls = ls} {x = x} h k) = subst Identified (sym ((rolls facts_pass).stmt (record { labels = ls; form = x }))) (together (names_identified kind.Label h) (told k))
 told (normal.simple_form {x = x} h) = formed (layer.Simple x) (form_tree.Simple x) (form_tree.rolls-Simple x) (told h)
 told (normal.if_form at {t = t} {ls = ls} {x = x} h l k) =
     formed (layer.If at t ls x None) (form_tree.If at t ls x None) (form_tree.rolls-If at t ls x None) (together (condition t reading.Value) (together (names_identified kind.Label l) (together (told k) nothing)))
@@ -135,7 +136,7 @@ told (normal.overlay_decl at {x = x} {y = y} h k) = decl (layer.Overlay at x y) 
 told (normal.switch_decl at {f = f} {x = x} {xs = xs} h k) = decl (layer.Switch at f (x ∷ xs)) (decl_tree.Switch at f (x ∷ xs)) (decl_tree.rolls-Switch at f (x ∷ xs)) (together (name_identified kind.Switch h) (uses_identified (x ∷ xs)))
 told (normal.proc_decl {o = o} {t = t} {f = f} {xs = xs} {x = x} h g l k m) =
     decl (layer.Proc (proc_tree o t f xs x)) (decl_tree.Proc (proc_tree o t f xs x)) (decl_tree.rolls-Proc (proc_tree o t f xs x))
-    (subst Identified (proc_says (record { answer = o; tag = t; name = f; params = xs; body = x }))
+    (subst Identified (sym ((rolls facts_pass).proc (record { answer = o; tag = t; name = f; params = xs; body = x })))
     (together (specification_identified (kind.Proc o) o (flattened xs) l) (block_identified (Some f.at.token) (together (answer_identified o) (together (parameters_identified k) (told m))))))
 told _ = tt
 

@@ -34,7 +34,8 @@ use Rattle.cw_sound.proofs.Items.Trees.{inner-stores, statement_stores}
 use Rattle.cw_sound.proofs.Statements.Keeping.{all_keep, elements_keep, declaration_keeps, simple_keeps, statement_keeps}
 use Rattle.cw_sound.proofs.Expressions.Judging.{Keeps, keeps_fine, keeps_both, both_free}
 use Rattle.cw_sound.proofs.Statements.Layers.{Known, WithDecl, WithStmt, DeclParts, FormParts, SimpleParts, BlockParts, ProcParts, StmtParts, decl_layer, form_layer, simple_layer, block_layer, proc_layer, stmt_layer, Rules, each_block}
-use Rattle.cw_sound.proofs.Statements.Folds.{decl_layer_facts, form_layer_facts, simple_layer_facts, block_layer_facts, proc_layer_facts, stmt_layer_facts, decl_layer_things, form_layer_things, simple_layer_things, block_layer_things, proc_layer_things, stmt_layer_things, decl_layer_judged, form_layer_judged, simple_layer_judged, block_layer_judged, proc_layer_judged, stmt_layer_judged, facts_decl, facts_form, facts_simple, facts_block, facts_proc, facts_stmt, things_decl, things_form, things_simple, things_block, things_proc, things_stmt, judged_decl, judged_form, judged_simple, judged_block, judged_proc, judged_stmt}
+use Rattle.cw_sound.proofs.Statements.Passes.{layered, rolls}
+use Rattle.cw_sound.proofs.Statements.Folds.{facts_pass, things_pass, judged_pass}
 
 outside : (o : Option Owner) → is_some o ≡ false → o ≡ None
 outside None e = refl
@@ -105,13 +106,13 @@ module _ (named : Named) (sites : List (Row Site)) (all : List Thing) where
       h (within env (map said facts)) o (sound-inside named env (is_some o) None facts s) (env-inside all env o o facts (ts o) (inr refl) (stores o) all_in seen) free all_in
   enclosed-based false facts ts j stores h env o s seen free all_in = h env o s seen free all_in
 
-  declaration-based : (y : DeclParts known) → Parts (decl_layer_facts (decl_layer known y)) (decl_layer_things named (decl_layer known y)) (decl_layer_judged named sites (decl_layer known y))
+  declaration-based : (y : DeclParts known) → Parts ((layered facts_pass).decl (decl_layer known y)) ((layered (things_pass named)).decl (decl_layer known y)) ((layered (judged_pass named sites)).decl (decl_layer known y))
   declaration-based (layer.Data d) env o s seen free all_in = data-baseless all o d
   declaration-based (layer.Overlay at b d) env o s seen free all_in = overlay-based all named sites env o b d s seen free
   declaration-based (layer.Switch at n labels) env o s seen free all_in = tt
   declaration-based (layer.Proc p) env o s seen free all_in = p.1 env o s seen free all_in
 
-  form-based : (y : FormParts known) → Parts (form_layer_facts (form_layer known y)) (form_layer_things named (form_layer known y)) (form_layer_judged named sites (form_layer known y))
+  form-based : (y : FormParts known) → Parts ((layered facts_pass).form (form_layer known y)) ((layered (things_pass named)).form (form_layer known y)) ((layered (judged_pass named sites)).form (form_layer known y))
   form-based (layer.Simple x) env o s seen free all_in = x.1 env o s seen free all_in
   form-based (layer.If at test labels first None) env o s seen free all_in =
       two (condition_uses test reading.Value) (each_declares kind.Label labels ++ (simple_facts first.0 ++ [])) (λ o. texts o (condition_uses test reading.Value)) (λ o. simple_things named first.0 o ++ nothing o)
@@ -140,7 +141,7 @@ module _ (named : Named) (sites : List (Row Site)) (all : List Thing) where
             (λ env o s seen free all_in. felems-baseless all o elems) body.1 env o parts.1 seen frees.1 rest),
       )
 
-  simple-based : (y : SimpleParts known) → Parts (simple_layer_facts (simple_layer known y)) (simple_layer_things named (simple_layer known y)) (simple_layer_judged named sites (simple_layer known y))
+  simple-based : (y : SimpleParts known) → Parts ((layered facts_pass).simple (simple_layer known y)) ((layered (things_pass named)).simple (simple_layer known y)) ((layered (judged_pass named sites)).simple (simple_layer known y))
   simple-based layer.Empty env o s seen free all_in = tt
   simple-based (layer.Assign r e) env o s seen free all_in = texts-baseless all o (reference_uses r reading.Target ++ expression_uses e reading.Value)
   simple-based (layer.AssignBits bits r e) env o s seen free all_in = texts-baseless all o (reference_uses r reading.Whole ++ expression_uses e reading.Value)
@@ -150,7 +151,7 @@ module _ (named : Named) (sites : List (Row Site)) (all : List Thing) where
   simple-based (layer.Answer at e) env o s seen free all_in = texts-baseless all o (expression_uses e reading.Value)
   simple-based (layer.Block b) env o s seen free all_in = b.1 false env o s seen free all_in
 
-  block-based : (y : BlockParts known) (outermost : Bool) → Parts (block_layer_facts (block_layer known y) outermost) (block_layer_things named (block_layer known y)) (block_layer_judged named sites (block_layer known y))
+  block-based : (y : BlockParts known) (outermost : Bool) → Parts ((layered facts_pass).block (block_layer known y) outermost) ((layered (things_pass named)).block (block_layer known y)) ((layered (judged_pass named sites)).block (block_layer known y))
   block-based b outermost =
       let ds = map (λ e. e.0) b.decls in
       let ss = map (λ e. e.0) b.stmts in
@@ -163,7 +164,7 @@ module _ (named : Named) (sites : List (Row Site)) (all : List Thing) where
       (all_judged (map (declaration_judged named sites) ds)) (all_judged (map (statement_judged named sites) ss))
       (all_keep (statement_judged named sites) (statement_keeps named sites) ss) (declarations-based b.decls) (statements-based b.stmts))
 
-  procedure-based : (y : ProcParts known) → Parts (proc_layer_facts (proc_layer known y)) (proc_layer_things named (proc_layer known y)) (proc_layer_judged named sites (proc_layer known y))
+  procedure-based : (y : ProcParts known) → Parts ((layered facts_pass).proc (proc_layer known y)) ((layered (things_pass named)).proc (proc_layer known y)) ((layered (judged_pass named sites)).proc (proc_layer known y))
   procedure-based p env o s seen free all_in =
       let v : Owner = record { token = p.name.at.token; recursive = is_recursive p.tag } in
       let rest = parameters_facts p.params ++ statement_facts p.body.0 in
@@ -182,17 +183,17 @@ module _ (named : Named) (sites : List (Row Site)) (all : List Thing) where
       each-append (HasBase all) (parameters_things (Some v) p.params) (statement_things named p.body.0 (Some v)) (parameters-baseless all (Some v) p.params)
       (p.body.1 deep (Some v) body known frees.1 (λ t i. all_in t (in-right t (parameters_things (Some v) p.params) (statement_things named p.body.0 (Some v)) i)))
 
-  statement-based : (y : StmtParts known) → Parts (stmt_layer_facts (stmt_layer known y)) (stmt_layer_things named (stmt_layer known y)) (stmt_layer_judged named sites (stmt_layer known y))
+  statement-based : (y : StmtParts known) → Parts ((layered facts_pass).stmt (stmt_layer known y)) ((layered (things_pass named)).stmt (stmt_layer known y)) ((layered (judged_pass named sites)).stmt (stmt_layer known y))
   statement-based x env o s seen free all_in = behind (each_declares kind.Label x.labels) (form_facts x.form.0) (form_things named x.form.0) (form_judged named sites x.form.0) x.form.1 env o s seen free all_in
 
   rules : Rules known
   rules = record {
-    decl = λ y. moved_three Parts (facts_decl (decl_layer known y)) (things_decl named (decl_layer known y)) (judged_decl named sites (decl_layer known y)) (declaration-based y);
-    form = λ y. moved_three Parts (facts_form (form_layer known y)) (things_form named (form_layer known y)) (judged_form named sites (form_layer known y)) (form-based y);
-    simple = λ y. moved_three Parts (facts_simple (simple_layer known y)) (things_simple named (simple_layer known y)) (judged_simple named sites (simple_layer known y)) (simple-based y);
-    block = λ y outermost. moved_three Parts (ap (λ f. f outermost) (facts_block (block_layer known y))) (things_block named (block_layer known y)) (judged_block named sites (block_layer known y)) (block-based y outermost);
-    proc = λ y. moved_three Parts (facts_proc (proc_layer known y)) (things_proc named (proc_layer known y)) (judged_proc named sites (proc_layer known y)) (procedure-based y);
-    stmt = λ y. moved_three Parts (facts_stmt (stmt_layer known y)) (things_stmt named (stmt_layer known y)) (judged_stmt named sites (stmt_layer known y)) (statement-based y);
+    decl = λ y. moved_three Parts ((rolls facts_pass).decl (decl_layer known y)) ((rolls (things_pass named)).decl (decl_layer known y)) ((rolls (judged_pass named sites)).decl (decl_layer known y)) (declaration-based y);
+    form = λ y. moved_three Parts ((rolls facts_pass).form (form_layer known y)) ((rolls (things_pass named)).form (form_layer known y)) ((rolls (judged_pass named sites)).form (form_layer known y)) (form-based y);
+    simple = λ y. moved_three Parts ((rolls facts_pass).simple (simple_layer known y)) ((rolls (things_pass named)).simple (simple_layer known y)) ((rolls (judged_pass named sites)).simple (simple_layer known y)) (simple-based y);
+    block = λ y outermost. moved_three Parts (ap (λ f. f outermost) ((rolls facts_pass).block (block_layer known y))) ((rolls (things_pass named)).block (block_layer known y)) ((rolls (judged_pass named sites)).block (block_layer known y)) (block-based y outermost);
+    proc = λ y. moved_three Parts ((rolls facts_pass).proc (proc_layer known y)) ((rolls (things_pass named)).proc (proc_layer known y)) ((rolls (judged_pass named sites)).proc (proc_layer known y)) (procedure-based y);
+    stmt = λ y. moved_three Parts ((rolls facts_pass).stmt (stmt_layer known y)) ((rolls (things_pass named)).stmt (stmt_layer known y)) ((rolls (judged_pass named sites)).stmt (stmt_layer known y)) (statement-based y);
   }
 
   pub block_based : (x : RawBlock) → RawBlockBased x

@@ -19,18 +19,11 @@ use Rattle.cw_scope.specs.Faults.{unless}
 use Rattle.cw_scope.specs.Scope.{Environment, declared_in, or_else, declaration_of}
 use Rattle.cw_scope.specs.NameRules.{Said, said, said_step, all_faults, all_resolved, within, use_faults, resolutions, is_data}
 use Rattle.cw_sound.specs.Items.Derived.{IsRising, fact_tokens, facts_tokens, tokens_step, Plain, all_plain, plain_within, plain_step, is_plain}
+use Rattle.cw_sound.proofs.Expressions.Truth.{first_true, second_true}
 use Rattle.cw_sound.proofs.Items.Lists.{each-left, each-right, rising-left, rising-right}
-use Rattle.cw_sound.proofs.Items.NameFaults.{facts_last, nothing-before}
+use Rattle.cw_sound.proofs.Names.NoFaults.{facts_keep}
 use Rattle.cw_sound.proofs.Items.Says.{tokens-append}
 use Rattle.cw_macro.specs.Premises.{Each}
-
-first-true : (a b : Bool) → (a && b) ≡ true → a ≡ true
-first-true true b e = refl
-first-true false b e = absurd cc
-
-second-true : (a b : Bool) → (a && b) ≡ true → b ≡ true
-second-true true b e = e
-second-true false b e = absurd cc
 
 pub is-false : (b : Bool) → not b ≡ true → b ≡ false
 is-false true e = absurd cc
@@ -66,14 +59,14 @@ module _ (named : Named) where
   plain-parts : (a b : List Fact) (inside : Bool) → all_plain (map is_plain (a ++ b)) inside ≡ true → (all_plain (map is_plain a) inside ≡ true) × (all_plain (map is_plain b) inside ≡ true)
   plain-parts [] b inside e = (refl, e)
   plain-parts (f ∷ a) b inside e =
-      let one = first-true (is_plain f inside) (all_plain (map is_plain (a ++ b)) inside) e in
-      let rest = plain-parts a b inside (second-true (is_plain f inside) (all_plain (map is_plain (a ++ b)) inside) e) in
+      let one = first_true (is_plain f inside) (all_plain (map is_plain (a ++ b)) inside) e in
+      let rest = plain-parts a b inside (second_true (is_plain f inside) (all_plain (map is_plain (a ++ b)) inside) e) in
       (ap (λ x. x && all_plain (map is_plain a) inside) one ∙ rest.0, rest.1)
 
   pub sound-parts : (env : Environment) (inside : Bool) (a b : List Fact) → Sound env inside (a ++ b) → Sound env inside a × Sound env inside b
   sound-parts env inside a b s =
       let e : all_faults env (map said b) (all_faults env (map said a) None) ≡ None = sym (faults-append env a b None) ∙ s.faults in
-      let z : all_faults env (map said a) None ≡ None = nothing-before (all_faults env (map said b)) (all_faults env (map said a) None) (facts_last b env) e in
+      let z : all_faults env (map said a) None ≡ None = facts_keep b env (all_faults env (map said a) None) e in
       let r : Each IsResolved (all_resolved env (map said a) ++ all_resolved env (map said b)) = subst (Each IsResolved) (resolved-append env a b) s.resolved in
       let t : IsRising s.first (facts_tokens a ++ facts_tokens b) = subst (IsRising s.first) (tokens-append a b) s.rising in
       let p = plain-parts a b inside s.plain in (
@@ -94,10 +87,10 @@ module _ (named : Named) where
 
   plain-inside : (owner : Option ℕ) (xs : List Fact) (inside : Bool) → plain_within owner (all_plain (map is_plain xs)) inside ≡ true → all_plain (map is_plain xs) (inside_of owner inside) ≡ true
   plain-inside None xs inside e = e
-  plain-inside (Some token) xs inside e = second-true (not inside) (all_plain (map is_plain xs) true) e
+  plain-inside (Some token) xs inside e = second_true (not inside) (all_plain (map is_plain xs) true) e
 
   block-plain : (env : Environment) (inside : Bool) (owner : Option ℕ) (xs : List Fact) → Sound env inside (fact.Block owner xs ∷ []) → plain_within owner (all_plain (map is_plain xs)) inside ≡ true
-  block-plain env inside owner xs s = sym (ap (λ (p : Plain). p inside) (plain-block owner xs)) ∙ first-true (is_plain (fact.Block owner xs) inside) true s.plain
+  block-plain env inside owner xs s = sym (ap (λ (p : Plain). p inside) (plain-block owner xs)) ∙ first_true (is_plain (fact.Block owner xs) inside) true s.plain
 
   pub sound-inside : (env : Environment) (inside : Bool) (owner : Option ℕ) (xs : List Fact) → Sound env inside (fact.Block owner xs ∷ []) → Sound (within env (map said xs)) (inside_of owner inside) xs
   sound-inside env inside owner xs s =
@@ -112,7 +105,7 @@ module _ (named : Named) where
 
   -- a procedure is in no other
   pub not-nested : (env : Environment) (inside : Bool) (token : ℕ) (xs : List Fact) → Sound env inside (fact.Block (Some token) xs ∷ []) → inside ≡ false
-  not-nested env inside token xs s = is-false inside (first-true (not inside) (all_plain (map is_plain xs) true) (block-plain env inside (Some token) xs s))
+  not-nested env inside token xs s = is-false inside (first_true (not inside) (all_plain (map is_plain xs) true) (block-plain env inside (Some token) xs s))
 
   -- ---- a base
 

@@ -43,6 +43,7 @@ use Rattle.cw_make_items.specs.Lookup.{Numbers}
 use Rattle.cw_make_items.specs.Items.{proc_of_owner}
 use Rattle.cw_sound.specs.Items.Derived.{fact_tokens, facts_tokens, tokens_step}
 use Rattle.cw_sound.specs.Items.Bodies.{Stored, stored_at, AllStored, is_other, declared_stored, stored_step, fact_stored, facts_stored}
+use Rattle.cw_sound.proofs.Expressions.Truth.{first_true, second_true}
 use Rattle.cw_sound.proofs.Items.Lists.{In, in-left, in-right, in-either, each-append, each-left, each-right, Within, nothing, with, none-within, within-append, Merged, neither, left, right}
 use Rattle.cw_sound.proofs.Items.Apart.{Apart, apart-both, apart-none, apart-item, apart-fact, apart-one, apart-other, apart-block}
 use Rattle.cw_sound.proofs.Items.Leaf.{IsLeaf, IsLeafLayer}
@@ -59,25 +60,17 @@ one-span : (b : Bool) (n : ℕ) → (b ≡ true → 1 ≤ n) → 1 ≤ cond b n 
 one-span true n h = h refl
 one-span false n h = omega arith
 
-first-true : (a b : Bool) → (a && b) ≡ true → a ≡ true
-first-true true b e = refl
-first-true false b e = absurd cc
-
-second-true : (a b : Bool) → (a && b) ≡ true → b ≡ true
-second-true true b e = e
-second-true false b e = absurd cc
-
 at-least : (m n : ℕ) → nat_le m n ≡ true → m ≤ n
 at-least m n e = grind (arith, nat_tests)
 
 pub array-has-word : (r : RawRange) (s : Option RawRange) → 1 ≤ array_words r s
-array-has-word r None = one-span (good_bounds r None) (range_span r) (λ e. at-least 1 (range_span r) (first-true (nat_le 1 (range_span r)) (fits_area (range_span r)) e))
+array-has-word r None = one-span (good_bounds r None) (range_span r) (λ e. at-least 1 (range_span r) (first_true (nat_le 1 (range_span r)) (fits_area (range_span r)) e))
 array-has-word r (Some s) =
     one-span (good_bounds r (Some s)) (range_span r * range_span s)
     (λ e.
-    let rest : (nat_le 1 (range_span s) && fits_area (range_span r * range_span s)) ≡ true = second-true (nat_le 1 (range_span r)) (nat_le 1 (range_span s) && fits_area (range_span r * range_span s)) e in
-    product (range_span r) (range_span s) (at-least 1 (range_span r) (first-true (nat_le 1 (range_span r)) (nat_le 1 (range_span s) && fits_area (range_span r * range_span s)) e))
-    (at-least 1 (range_span s) (first-true (nat_le 1 (range_span s)) (fits_area (range_span r * range_span s)) rest)))
+    let rest : (nat_le 1 (range_span s) && fits_area (range_span r * range_span s)) ≡ true = second_true (nat_le 1 (range_span r)) (nat_le 1 (range_span s) && fits_area (range_span r * range_span s)) e in
+    product (range_span r) (range_span s) (at-least 1 (range_span r) (first_true (nat_le 1 (range_span r)) (nat_le 1 (range_span s) && fits_area (range_span r * range_span s)) e))
+    (at-least 1 (range_span s) (first_true (nat_le 1 (range_span s)) (fits_area (range_span r * range_span s)) rest)))
 
 pub table-has-word : (w n : Option ℕ) → 1 ≤ table_words w n
 table-has-word None n = omega arith
@@ -85,8 +78,8 @@ table-has-word (Some w) None = omega arith
 table-has-word (Some w) (Some n) =
     one-span (good_size (Some w) (Some n)) (w * n)
     (λ e.
-    let rest : (nat_le 1 n && fits_area (w * n)) ≡ true = second-true (nat_le 1 w) (nat_le 1 n && fits_area (w * n)) e in
-    product w n (at-least 1 w (first-true (nat_le 1 w) (nat_le 1 n && fits_area (w * n)) e)) (at-least 1 n (first-true (nat_le 1 n) (fits_area (w * n)) rest)))
+    let rest : (nat_le 1 n && fits_area (w * n)) ≡ true = second_true (nat_le 1 w) (nat_le 1 n && fits_area (w * n)) e in
+    product w n (at-least 1 w (first_true (nat_le 1 w) (nat_le 1 n && fits_area (w * n)) e)) (at-least 1 n (first_true (nat_le 1 n) (fits_area (w * n)) rest)))
 
 text-has-word : (n : ℕ) → 1 ≤ capped (n + 1)
 text-has-word n = of-test (nat_le (n + 1) 32768)

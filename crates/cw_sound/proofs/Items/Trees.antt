@@ -29,7 +29,8 @@ use Rattle.cw_sound.proofs.Items.Leaves.{expression_leaves, condition_leaves, re
 use Rattle.cw_sound.proofs.Items.Stores.{Stores, stores-both, stores-none, stores-other, stores-others, stores-use, stores-uses, stores-specification, stores-loop, stores-block, stores-procedure, stores-data, stores-overlay, stores-parameters, stores-answer, stores-texts}
 use Rattle.cw_macro.specs.Premises.{Each}
 use Rattle.cw_sound.proofs.Statements.Layers.{Known, WithDecl, WithStmt, DeclParts, FormParts, SimpleParts, BlockParts, ProcParts, StmtParts, decl_layer, form_layer, simple_layer, block_layer, proc_layer, stmt_layer, Rules, each_decl, each_block, each_stmt}
-use Rattle.cw_sound.proofs.Statements.Folds.{decl_layer_facts, form_layer_facts, simple_layer_facts, block_layer_facts, proc_layer_facts, stmt_layer_facts, decl_layer_things, form_layer_things, simple_layer_things, block_layer_things, proc_layer_things, stmt_layer_things, facts_decl, facts_form, facts_simple, facts_block, facts_proc, facts_stmt, things_decl, things_form, things_simple, things_block, things_proc, things_stmt}
+use Rattle.cw_sound.proofs.Statements.Passes.{layered, rolls}
+use Rattle.cw_sound.proofs.Statements.Folds.{facts_pass, things_pass}
 
 module _ (H : Stored → Type 0) (numbers : Numbers) (named : Named) where
   abbrev pub Parts : List Fact → Things → Type 0
@@ -84,13 +85,13 @@ module _ (H : Stored → Type 0) (numbers : Numbers) (named : Named) where
   enclosed-store true facts ts h o = stores-block H numbers o facts (ts o) (h o)
   enclosed-store false facts ts h o = h o
 
-  declaration-stores : (y : DeclParts known) → Parts (decl_layer_facts (decl_layer known y)) (decl_layer_things named (decl_layer known y))
+  declaration-stores : (y : DeclParts known) → Parts ((layered facts_pass).decl (decl_layer known y)) ((layered (things_pass named)).decl (decl_layer known y))
   declaration-stores (layer.Data d) o = stores-data H numbers o None d
   declaration-stores (layer.Overlay at b d) o = stores-overlay H numbers o b (Some (base_at named b)) d
   declaration-stores (layer.Switch at n labels) o = stores-both H numbers o (declares n kind.Switch ∷ []) (each_uses labels) [] [] (stores-other H numbers o kind.Switch n ((λ who token. tt), refl)) (stores-uses H numbers o labels)
   declaration-stores (layer.Proc p) o = p.1 o
 
-  form-stores : (y : FormParts known) → Parts (form_layer_facts (form_layer known y)) (form_layer_things named (form_layer known y))
+  form-stores : (y : FormParts known) → Parts ((layered facts_pass).form (form_layer known y)) ((layered (things_pass named)).form (form_layer known y))
   form-stores (layer.Simple s) o = s.1 o
   form-stores (layer.If at test labels first None) o =
       stores-both H numbers o (condition_uses test reading.Value) (each_declares kind.Label labels ++ (simple_facts first.0 ++ [])) (texts o (condition_uses test reading.Value)) (simple_things named first.0 o ++ [])
@@ -109,7 +110,7 @@ module _ (H : Stored → Type 0) (numbers : Numbers) (named : Named) where
       (stores-texts H numbers o (reference_uses variable reading.Whole) (reference_leaves variable reading.Whole))
       (stores-both H numbers o (felems_facts elems) (statement_facts body.0) (felems_things elems o) (statement_things named body.0 o) (felems-store elems o) (body.1 o)))
 
-  simple-stores : (y : SimpleParts known) → Parts (simple_layer_facts (simple_layer known y)) (simple_layer_things named (simple_layer known y))
+  simple-stores : (y : SimpleParts known) → Parts ((layered facts_pass).simple (simple_layer known y)) ((layered (things_pass named)).simple (simple_layer known y))
   simple-stores layer.Empty o = stores-none H numbers o
   simple-stores (layer.Assign r e) o = two-texts (reference_uses r reading.Target) (expression_uses e reading.Value) (reference_leaves r reading.Target) (expression_leaves e reading.Value) o
   simple-stores (layer.AssignBits bits r e) o = two-texts (reference_uses r reading.Whole) (expression_uses e reading.Value) (reference_leaves r reading.Whole) (expression_leaves e reading.Value) o
@@ -122,7 +123,7 @@ module _ (H : Stored → Type 0) (numbers : Numbers) (named : Named) where
       (stores-texts H numbers o (expression_uses e reading.Value) (expression_leaves e reading.Value))
   simple-stores (layer.Block b) o = b.1 false o
 
-  block-stores : (y : BlockParts known) (outermost : Bool) → Parts (block_layer_facts (block_layer known y) outermost) (block_layer_things named (block_layer known y))
+  block-stores : (y : BlockParts known) (outermost : Bool) → Parts ((layered facts_pass).block (block_layer known y) outermost) ((layered (things_pass named)).block (block_layer known y))
   block-stores b outermost =
       let ds = map (λ e. e.0) b.decls in
       let ss = map (λ e. e.0) b.stmts in
@@ -131,7 +132,7 @@ module _ (H : Stored → Type 0) (numbers : Numbers) (named : Named) where
       (λ o.
       stores-both H numbers o (joined (map declaration_facts ds)) (joined (map statement_facts ss)) (joined_things (map (declaration_things named) ds) o) (joined_things (map (statement_things named) ss) o) (declarations-store b.decls o) (statements-store b.stmts o))
 
-  procedure-stores : (y : ProcParts known) → Parts (proc_layer_facts (proc_layer known y)) (proc_layer_things named (proc_layer known y))
+  procedure-stores : (y : ProcParts known) → Parts ((layered facts_pass).proc (proc_layer known y)) ((layered (things_pass named)).proc (proc_layer known y))
   procedure-stores p o =
       let w : Owner = record { token = p.name.at.token; recursive = is_recursive p.tag } in
       let inside = answer_facts p.answer ++ (parameters_facts p.params ++ statement_facts p.body.0) in
@@ -142,18 +143,18 @@ module _ (H : Stored → Type 0) (numbers : Numbers) (named : Named) where
       (stores-both H numbers (Some w) (answer_facts p.answer) (parameters_facts p.params ++ statement_facts p.body.0) [] things (stores-answer H numbers (Some w) p.answer)
       (stores-both H numbers (Some w) (parameters_facts p.params) (statement_facts p.body.0) (parameters_things (Some w) p.params) (statement_things named p.body.0 (Some w)) (stores-parameters H numbers (Some w) p.params) (p.body.1 (Some w))))))
 
-  statement-stores : (y : StmtParts known) → Parts (stmt_layer_facts (stmt_layer known y)) (stmt_layer_things named (stmt_layer known y))
+  statement-stores : (y : StmtParts known) → Parts ((layered facts_pass).stmt (stmt_layer known y)) ((layered (things_pass named)).stmt (stmt_layer known y))
   statement-stores s o =
       stores-both H numbers o (each_declares kind.Label s.labels) (form_facts s.form.0) [] (form_things named s.form.0 o) (stores-others H numbers o kind.Label s.labels ((λ who token. tt), refl)) (s.form.1 o)
 
   rules : Rules known
   rules = record {
-    decl = λ y. moved_two Parts (facts_decl (decl_layer known y)) (things_decl named (decl_layer known y)) (declaration-stores y);
-    form = λ y. moved_two Parts (facts_form (form_layer known y)) (things_form named (form_layer known y)) (form-stores y);
-    simple = λ y. moved_two Parts (facts_simple (simple_layer known y)) (things_simple named (simple_layer known y)) (simple-stores y);
-    block = λ y outermost. moved_two Parts (ap (λ f. f outermost) (facts_block (block_layer known y))) (things_block named (block_layer known y)) (block-stores y outermost);
-    proc = λ y. moved_two Parts (facts_proc (proc_layer known y)) (things_proc named (proc_layer known y)) (procedure-stores y);
-    stmt = λ y. moved_two Parts (facts_stmt (stmt_layer known y)) (things_stmt named (stmt_layer known y)) (statement-stores y);
+    decl = λ y. moved_two Parts ((rolls facts_pass).decl (decl_layer known y)) ((rolls (things_pass named)).decl (decl_layer known y)) (declaration-stores y);
+    form = λ y. moved_two Parts ((rolls facts_pass).form (form_layer known y)) ((rolls (things_pass named)).form (form_layer known y)) (form-stores y);
+    simple = λ y. moved_two Parts ((rolls facts_pass).simple (simple_layer known y)) ((rolls (things_pass named)).simple (simple_layer known y)) (simple-stores y);
+    block = λ y outermost. moved_two Parts (ap (λ f. f outermost) ((rolls facts_pass).block (block_layer known y))) ((rolls (things_pass named)).block (block_layer known y)) (block-stores y outermost);
+    proc = λ y. moved_two Parts ((rolls facts_pass).proc (proc_layer known y)) ((rolls (things_pass named)).proc (proc_layer known y)) (procedure-stores y);
+    stmt = λ y. moved_two Parts ((rolls facts_pass).stmt (stmt_layer known y)) ((rolls (things_pass named)).stmt (stmt_layer known y)) (statement-stores y);
   }
 
   pub block_stores : (x : RawBlock) → RawBlockStores x

@@ -6,7 +6,8 @@ use Rattle.cw_sound.specs.Statements.Bodies.{Body, Bodies}
 use Rattle.cw_sound.specs.Statements.Bodies as bodies
 use Rattle.cw_macro.specs.Premises.{Each}
 use Rattle.cw_sound.proofs.Statements.Layers.{Known}
-use Rattle.cw_sound.proofs.Statements.Passes.{Pass, layered, rolls, bodies_walk, walked_layer, walk_rolls, LayersKnown, Rolled}
+use Rattle.cw_sound.proofs.Statements.Folds.{lined_pass}
+use Rattle.cw_sound.proofs.Statements.Passes.{layered, rolls, bodies_walk, walked_layer, walk_rolls, LayersKnown, Rolled}
 use Rattle.cw_sound.specs.Ready.Lined as lined
 
 abbrev pub BodyLined : Body → Type 0
@@ -18,9 +19,6 @@ pub record HasLines (is : Bool) (bs : Bodies) : Type 0 where
 
 same : {is js : Bool} {bs cs : Bodies} → is ≡ js → bs ≡ cs → HasLines is bs → HasLines js cs
 same e g h = record { right = subst IsTrue e h.right; inner = subst (λ (z : Bodies). Each BodyLined z) g h.inner }
-
-abbrev lined_pass : Pass Bool
-lined_pass = record { decl = lined.declaration_step; form = lined.form_step; simple = lined.simple_step; block = lined.block_step; proc = lined.procedure_step; stmt = lined.statement_step }
 
 abbrev pub has_lines : Known
 has_lines = record {

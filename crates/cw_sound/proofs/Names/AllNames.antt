@@ -18,11 +18,11 @@ use Rattle.cw_unit.specs.declared.unit.Unit.{Unit as SourceUnit}
 use Rattle.cw_sound.specs.Uses.Mentions.{In, Mention, here, declares, uses, stores, listed_mentions, block_mentions, text_mentions}
 use Rattle.cw_sound.specs.Uses.Stands.{StandsAs, Stands, MentionStands, FactsStand}
 use Rattle.cw_sound.specs.Names.Found.{Found, UsesFound}
-use Rattle.cw_sound.specs.Names.Standing.{is_item, is_element, is_own_procedure, is_control, is_built_in, is_common, StandsIn, StandsFrom, Stand, ItemsStand, AnswersAreCalled}
+use Rattle.cw_sound.specs.Names.Standing.{is_item, is_element, is_own_procedure, is_control, is_built_in, is_common, StandsFrom, Stand, ItemsStand, AnswersAreCalled}
 use Rattle.cw_sound.proofs.Names.Lists.{in_either, in_right}
 use Rattle.cw_sound.proofs.Names.Rows.{mentions_append}
 use Rattle.cw_sound.proofs.Names.ListedKinds.{is_listed, communicators_say}
-use Rattle.cw_sound.proofs.Names.StandingNames.{item_from}
+use Rattle.cw_sound.proofs.Names.StandingNames.{near_stands, item_from}
 
 module _ (named : Named) (numbers : Numbers) (u : SourceUnit) where
   -- kinds that ask for nothing
@@ -39,14 +39,6 @@ module _ (named : Named) (numbers : Numbers) (u : SourceUnit) where
   free_from : (owner : Option ℕ) (d : Declaration) → IsTrue (is_free d.kind) → StandsFrom named numbers u owner d
   free_from None d h = λ who n r. free_kind who n d.kind h
   free_from (Some p) d h = λ n r. free_kind (Some p) n d.kind h
-
-  near_stands : (owner who : Option ℕ) (d : Declaration) → (owner ≡ who) ⊎ (owner ≡ None) → StandsFrom named numbers u owner d → StandsIn named numbers u who d
-  near_stands owner who d (inr e) s = subst (λ o. StandsFrom named numbers u o d) e s who
-  near_stands owner who d (inl e) s = own who (subst (λ o. StandsFrom named numbers u o d) e s)
-    where
-      own : (o : Option ℕ) → StandsFrom named numbers u o d → StandsIn named numbers u o d
-      own None t = t None
-      own (Some p) t = t
 
   -- ---- each declaration
 
@@ -132,7 +124,7 @@ module _ (named : Named) (numbers : Numbers) (u : SourceUnit) where
             is_kind = ap (λ o. option_map kind_in (option_and_then (item_at named.declarations) o)) f.refers.0 ∙ ap (option_map kind_in) f.refers.1;
             fits_use = f.fits_use;
             called = λ h. called f.owner f.declaration f.is_declared (subst (λ o. IsTrue (answers_alone (option_and_then (item_at named.signatures) o))) f.refers.0 h);
-            stands_as = near_stands f.owner who f.declaration f.is_near (declared_stands f.owner f.declaration f.is_declared) x.name f.refers;
+            stands_as = near_stands named numbers u f.owner who f.declaration f.is_near (declared_stands f.owner f.declaration f.is_declared) x.name f.refers;
           }
 
       mention_stands : (who : Option ℕ) (m : Mention) → In (here who m) (text_mentions numbers named.raw.now) → MentionStands named numbers u who m

@@ -54,7 +54,8 @@ use Rattle.cw_sound.proofs.Items.Keeping.{keeps_params, keeps_plains, keeps_head
 use Rattle.cw_sound.proofs.Statements.Keeping.{whole_keeps, test_keeps, place_keeps, counted_keeps, elements_keep}
 use Rattle.cw_sound.proofs.Expressions.Keeping.{call_keeps}
 use Rattle.cw_sound.proofs.Statements.Layers.{Known, WithDecl, WithStmt, DeclParts, FormParts, SimpleParts, BlockParts, ProcParts, StmtParts, decl_layer, form_layer, simple_layer, block_layer, proc_layer, stmt_layer, each_block}
-use Rattle.cw_sound.proofs.Statements.Folds.{facts_decl, facts_form, facts_simple, facts_block, facts_proc, facts_stmt, judged_decl, judged_form, judged_simple, judged_block, judged_proc, judged_stmt}
+use Rattle.cw_sound.proofs.Statements.Passes.{rolls}
+use Rattle.cw_sound.proofs.Statements.Folds.{facts_pass, judged_pass}
 
 pub at_most : (n : ℕ) → IsTrue (few n) → n ≤ 32
 at_most n h = grind (arith, nat_tests, h)
@@ -179,31 +180,31 @@ module _ (named : Named) (sites : List (Row Site)) (numbers : Numbers) (differ :
   known = record { Decl = Is_decl; Form = Is_form; Simple = Is_simple; Block = Is_block; Proc = Is_proc; Stmt = Is_stmt }
 
   decl_so : (y : DeclParts known) → Is_decl (roll-RawDecl (decl_layer known y))
-  decl_so (layer.Data d) = like (judged_decl named sites (layer.Data d)) (facts_decl (layer.Data d)) (none_within (declared_judged sites d) (data_facts d) (keeps_declared sites d) (data_none d))
+  decl_so (layer.Data d) = like ((rolls (judged_pass named sites)).decl (layer.Data d)) ((rolls facts_pass).decl (layer.Data d)) (none_within (declared_judged sites d) (data_facts d) (keeps_declared sites d) (data_none d))
   decl_so (layer.Overlay at b d) =
-      like (judged_decl named sites (layer.Overlay at b d)) (facts_decl (layer.Overlay at b d))
+      like ((rolls (judged_pass named sites)).decl (layer.Overlay at b d)) ((rolls facts_pass).decl (layer.Overlay at b d))
       (none_within (overlaid_judged named sites b d) (base_facts b ++ data_facts d) (keeps_overlaid named sites b d) (two_none (base_facts b) (data_facts d) (use_none (record { name = base_name b; form = use_form.Base }) [] refl) (data_none d)))
   decl_so (layer.Switch at n labels) =
-      like (judged_decl named sites (layer.Switch at n labels)) (facts_decl (layer.Switch at n labels))
+      like ((rolls (judged_pass named sites)).decl (layer.Switch at n labels)) ((rolls facts_pass).decl (layer.Switch at n labels))
       (none_within (switch_judged n labels) (declares n kind.Switch ∷ each_uses labels) (keeps_unless (nat_le (length labels) 255) rule.TooMany n.at) (declared_before n kind.Switch (each_uses labels) ∙ uses_none labels))
-  decl_so (layer.Proc p) = like (judged_decl named sites (layer.Proc p.0)) (facts_decl (layer.Proc p.0)) p.1
+  decl_so (layer.Proc p) = like ((rolls (judged_pass named sites)).decl (layer.Proc p.0)) ((rolls facts_pass).decl (layer.Proc p.0)) p.1
 
   form_so : (y : FormParts known) → Is_form (roll-RawForm (form_layer known y))
-  form_so (layer.Simple s) = like (judged_form named sites (layer.Simple s.0)) (facts_form (layer.Simple s.0)) s.1
+  form_so (layer.Simple s) = like ((rolls (judged_pass named sites)).form (layer.Simple s.0)) ((rolls facts_pass).form (layer.Simple s.0)) s.1
   form_so (layer.If at test labels first None) =
-      like (judged_form named sites (layer.If at test labels first.0 None)) (facts_form (layer.If at test labels first.0 None))
+      like ((rolls (judged_pass named sites)).form (layer.If at test labels first.0 None)) ((rolls facts_pass).form (layer.If at test labels first.0 None))
       (judges_both (condition_judged named test) (both (simple_judged named sites first.0) fine) (condition_uses test reading.Value) (each_declares kind.Label labels ++ (simple_facts first.0 ++ []))
       (none_within (condition_judged named test) (condition_uses test reading.Value) (test_keeps named test) (condition_plain numbers test reading.Value).signatures)
       (judges_before (both (simple_judged named sites first.0) fine) (each_declares kind.Label labels) (simple_facts first.0 ++ []) (each_none kind.Label labels)
       (judges_both (simple_judged named sites first.0) fine (simple_facts first.0) [] first.1 (none_within fine [] keeps_fine refl))))
   form_so (layer.If at test labels first (Some second)) =
-      like (judged_form named sites (layer.If at test labels first.0 (Some second.0))) (facts_form (layer.If at test labels first.0 (Some second.0)))
+      like ((rolls (judged_pass named sites)).form (layer.If at test labels first.0 (Some second.0))) ((rolls facts_pass).form (layer.If at test labels first.0 (Some second.0)))
       (judges_both (condition_judged named test) (both (simple_judged named sites first.0) (statement_judged named sites second.0)) (condition_uses test reading.Value) (each_declares kind.Label labels ++ (simple_facts first.0 ++ statement_facts second.0))
       (none_within (condition_judged named test) (condition_uses test reading.Value) (test_keeps named test) (condition_plain numbers test reading.Value).signatures)
       (judges_before (both (simple_judged named sites first.0) (statement_judged named sites second.0)) (each_declares kind.Label labels) (simple_facts first.0 ++ statement_facts second.0) (each_none kind.Label labels)
       (judges_both (simple_judged named sites first.0) (statement_judged named sites second.0) (simple_facts first.0) (statement_facts second.0) first.1 second.1)))
   form_so (layer.For at variable elems body) =
-      like (judged_form named sites (layer.For at variable elems body.0)) (facts_form (layer.For at variable elems body.0))
+      like ((rolls (judged_pass named sites)).form (layer.For at variable elems body.0)) ((rolls facts_pass).form (layer.For at variable elems body.0))
       (judges_both (reference_judged named variable) (both (felems_judged named (scale_of named variable) elems) (statement_judged named sites body.0)) (fact.Loop at ∷ reference_uses variable reading.Whole) (felems_facts elems ++ statement_facts body.0)
       (none_within (reference_judged named variable) (fact.Loop at ∷ reference_uses variable reading.Whole) (place_keeps named variable)
       (ap (λ rs. rs ++ text_signatures (reference_uses variable reading.Whole)) (signatures_loop at) ∙ (reference_plain numbers variable reading.Whole).signatures))
@@ -211,34 +212,34 @@ module _ (named : Named) (sites : List (Row Site)) (numbers : Numbers) (differ :
       (none_within (felems_judged named (scale_of named variable) elems) (felems_facts elems) (elements_keep named (scale_of named variable) elems) (felems_none elems)) body.1))
 
   simple_so : (y : SimpleParts known) → Is_simple (roll-RawSimple (simple_layer known y))
-  simple_so layer.Empty = like (judged_simple named sites layer.Empty) (facts_simple layer.Empty) (none_within fine [] keeps_fine refl)
+  simple_so layer.Empty = like ((rolls (judged_pass named sites)).simple layer.Empty) ((rolls facts_pass).simple layer.Empty) (none_within fine [] keeps_fine refl)
   simple_so (layer.Assign r e) =
-      like (judged_simple named sites (layer.Assign r e)) (facts_simple (layer.Assign r e))
+      like ((rolls (judged_pass named sites)).simple (layer.Assign r e)) ((rolls facts_pass).simple (layer.Assign r e))
       (none_within (both (reference_judged named r) (expression_judged named (scale_of named r) e)) (reference_uses r reading.Target ++ expression_uses e reading.Value)
       (keeps_both (place_keeps named r) (whole_keeps named (scale_of named r) e))
       (two_none (reference_uses r reading.Target) (expression_uses e reading.Value) (reference_plain numbers r reading.Target).signatures (expression_plain numbers e reading.Value).signatures))
   simple_so (layer.AssignBits bits r e) =
-      like (judged_simple named sites (layer.AssignBits bits r e)) (facts_simple (layer.AssignBits bits r e))
+      like ((rolls (judged_pass named sites)).simple (layer.AssignBits bits r e)) ((rolls facts_pass).simple (layer.AssignBits bits r e))
       (none_within (both (bits_judged bits) (both (reference_judged named r) (expression_judged named 0 e))) (reference_uses r reading.Whole ++ expression_uses e reading.Value)
       (keeps_both (keeps_bits bits) (keeps_both (place_keeps named r) (whole_keeps named 0 e)))
       (two_none (reference_uses r reading.Whole) (expression_uses e reading.Value) (reference_plain numbers r reading.Whole).signatures (expression_plain numbers e reading.Value).signatures))
   simple_so (layer.Goto at n) =
-      like (judged_simple named sites (layer.Goto at n)) (facts_simple (layer.Goto at n)) (none_within fine (fact.Uses (record { name = n; form = use_form.Goto }) ∷ []) keeps_fine (use_none (record { name = n; form = use_form.Goto }) [] refl))
+      like ((rolls (judged_pass named sites)).simple (layer.Goto at n)) ((rolls facts_pass).simple (layer.Goto at n)) (none_within fine (fact.Uses (record { name = n; form = use_form.Goto }) ∷ []) keeps_fine (use_none (record { name = n; form = use_form.Goto }) [] refl))
   simple_so (layer.GotoSwitch at n e) =
-      like (judged_simple named sites (layer.GotoSwitch at n e)) (facts_simple (layer.GotoSwitch at n e))
+      like ((rolls (judged_pass named sites)).simple (layer.GotoSwitch at n e)) ((rolls facts_pass).simple (layer.GotoSwitch at n e))
       (none_within (expression_judged named 0 e) (fact.Uses (record { name = n; form = use_form.GotoSwitch }) ∷ expression_uses e reading.Value) (whole_keeps named 0 e)
       (use_none (record { name = n; form = use_form.GotoSwitch }) (expression_uses e reading.Value) (expression_plain numbers e reading.Value).signatures))
   simple_so (layer.Call n es) =
-      like (judged_simple named sites (layer.Call n es)) (facts_simple (layer.Call n es))
+      like ((rolls (judged_pass named sites)).simple (layer.Call n es)) ((rolls facts_pass).simple (layer.Call n es))
       (none_within (both (call_faults named (signature_of named n) n (map (expression named) es)) (arguments_counted es)) (fact.Uses (record { name = n; form = use_form.Call }) ∷ argument_uses es)
       (keeps_both (call_keeps named n es) (counted_keeps es))
       (use_none (record { name = n; form = use_form.Call }) (argument_uses es) (arguments_plain numbers es).signatures))
   simple_so (layer.Answer at e) =
-      like (judged_simple named sites (layer.Answer at e)) (facts_simple (layer.Answer at e))
+      like ((rolls (judged_pass named sites)).simple (layer.Answer at e)) ((rolls facts_pass).simple (layer.Answer at e))
       (none_within (expression_judged named (fraction_of_kind (kind_of named (answer_name at))) e) (fact.Uses (record { name = answer_name at; form = use_form.Answer }) ∷ expression_uses e reading.Value)
       (whole_keeps named (fraction_of_kind (kind_of named (answer_name at))) e)
       (use_none (record { name = answer_name at; form = use_form.Answer }) (expression_uses e reading.Value) (expression_plain numbers e reading.Value).signatures))
-  simple_so (layer.Block b) = like (judged_simple named sites (layer.Block b.0)) (facts_simple (layer.Block b.0)) (b.1 false)
+  simple_so (layer.Block b) = like ((rolls (judged_pass named sites)).simple (layer.Block b.0)) ((rolls facts_pass).simple (layer.Block b.0)) (b.1 false)
 
   decls_so : (ds : List (WithDecl known)) → Judges (all_judged (map (declaration_judged named sites) (map (λ e. e.0) ds))) (said.joined (map declaration_facts (map (λ e. e.0) ds)))
   decls_so [] = none_within fine [] keeps_fine refl
@@ -258,7 +259,7 @@ module _ (named : Named) (sites : List (Row Site)) (numbers : Numbers) (differ :
       let ds : List RawDecl = map (λ e. e.0) y.decls in
       let ss : List RawStmt = map (λ e. e.0) y.stmts in
       let fs : List Fact = said.joined (map declaration_facts ds) ++ said.joined (map statement_facts ss) in
-      like (judged_block named sites (block_layer known y)) (ap (λ f. f outermost) (facts_block (block_layer known y)))
+      like ((rolls (judged_pass named sites)).block (block_layer known y)) (ap (λ f. f outermost) ((rolls facts_pass).block (block_layer known y)))
       (enclosed_so (outermost || not (length (map declaration_facts ds) == 0)) (both (all_judged (map (declaration_judged named sites) ds)) (all_judged (map (statement_judged named sites) ss))) fs
       (judges_both (all_judged (map (declaration_judged named sites) ds)) (all_judged (map (statement_judged named sites) ss)) (said.joined (map declaration_facts ds)) (said.joined (map statement_facts ss)) (decls_so y.decls) (stmts_so y.stmts)))
 
@@ -311,10 +312,10 @@ module _ (named : Named) (sites : List (Row Site)) (numbers : Numbers) (differ :
     )
 
   proc_so : (y : ProcParts known) → Is_proc (roll-RawProc (proc_layer known y))
-  proc_so y = like (judged_proc named sites (proc_layer known y)) (facts_proc (proc_layer known y)) (procedure_so y.answer y.name y.params (statement_judged named sites y.body.0) (statement_facts y.body.0) y.body.1)
+  proc_so y = like ((rolls (judged_pass named sites)).proc (proc_layer known y)) ((rolls facts_pass).proc (proc_layer known y)) (procedure_so y.answer y.name y.params (statement_judged named sites y.body.0) (statement_facts y.body.0) y.body.1)
 
   stmt_so : (y : StmtParts known) → Is_stmt (roll-RawStmt (stmt_layer known y))
-  stmt_so y = like (judged_stmt named sites (stmt_layer known y)) (facts_stmt (stmt_layer known y)) (judges_before (form_judged named sites y.form.0) (each_declares kind.Label y.labels) (form_facts y.form.0) (each_none kind.Label y.labels) y.form.1)
+  stmt_so y = like ((rolls (judged_pass named sites)).stmt (stmt_layer known y)) ((rolls facts_pass).stmt (stmt_layer known y)) (judges_before (form_judged named sites y.form.0) (each_declares kind.Label y.labels) (form_facts y.form.0) (each_none kind.Label y.labels) y.form.1)
 
   pub block_few : (b : RawBlock) → Is_block b
   block_few = each_block known (record { decl = decl_so; form = form_so; simple = simple_so; block = block_so; proc = proc_so; stmt = stmt_so })

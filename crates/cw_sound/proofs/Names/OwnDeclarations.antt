@@ -22,7 +22,6 @@ use Rattle.cw_make.specs.Labels.{facts_labels}
 use Rattle.cw_make.specs.Procedures.{block_procs}
 use Rattle.cw_make.specs.Switches.{block_switches}
 use Rattle.cw_unit.specs.declared.unit.Unit.{Unit as SourceUnit}
-use Rattle.cw_unit.specs.declared.unit.Label.{Label}
 use Rattle.cw_safety.specs.WellFormed.{sets}
 use Rattle.cw_sound.specs.Uses.Mentions.{In, Here, here, declares, block_mentions}
 use Rattle.cw_sound.specs.Names.Placed.{Placed, tokens, Differ}
@@ -59,9 +58,13 @@ module _ (named : Named) (numbers : Numbers) (u : SourceUnit) (resolves : Resolv
   pub goals : (m : Here) → In m (block_mentions numbers named.raw.now) → HereGoal named numbers u m
   goals =
       in_part named numbers u placed counts (block_parts named numbers named.raw.now.block true) None [] [] [] []
-      (sym (append-nil (block_mentions numbers named.raw.now))) (made.procs ∙ sym (append-nil (block_procs named numbers named.raw.now.block))) refl
+      (record {
+        parted = sym (append-nil (block_mentions numbers named.raw.now));
+        made = made.procs ∙ sym (append-nil (block_procs named numbers named.raw.now.block));
+        count = refl;
+        sub = λ r i. subst (In r) (sym all_signatures) (in_right r (text_signatures (communicators_facts named.raw.now.comms)) (text_signatures (block_facts named.raw.now.block true)) i);
+      })
       (λ l h. subst (λ s. IsTrue (sets l s)) (sym made.body) h)
-      (λ r i. subst (In r) (sym all_signatures) (in_right r (text_signatures (communicators_facts named.raw.now.comms)) (text_signatures (block_facts named.raw.now.block true)) i))
 
   pub procedures_stand : Stand named numbers u is_own_procedure (block_mentions numbers named.raw.now)
   procedures_stand owner d h i = procedure_from named numbers u owner d h signatures_differ (goals (here owner (declares d)) i)

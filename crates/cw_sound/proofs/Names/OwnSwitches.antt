@@ -32,6 +32,7 @@ use Rattle.cw_sound.proofs.Names.Lists.{in_either, in_right, split}
 use Rattle.cw_sound.proofs.Names.Rows.{mentions_append}
 use Rattle.cw_sound.proofs.Names.Picking.{picked_at, Zip, zip_at}
 use Rattle.cw_sound.proofs.Names.Sorts.{of_kind, few_before, switches_before}
+use Rattle.cw_sound.proofs.Names.StandingNames.{near_stands}
 use Rattle.cw_sound.proofs.Names.OwnDeclarations.{Made}
 use Rattle.cw_sound.proofs.Names.SwitchNumbers.{number_reached, AllReached, all_everywhere, LabelReached, FormReached, MentionReached, AllMentionsReached, SwitchOf, switches_in, in_switches}
 use Rattle.cw_sound.proofs.Names.TreeParts.{block_parts}
@@ -55,14 +56,6 @@ module _ (named : Named) (numbers : Numbers) (u : SourceUnit) (placed : Placed n
   label_side owner d h (inl i) = listed owner d (label_common d.kind h) i
   label_side owner d h (inr i) = labels owner d h i
 
-  near_stands : (owner who : Option ℕ) (d : Declaration) → (owner ≡ who) ⊎ (owner ≡ None) → StandsFrom named numbers u owner d → StandsIn named numbers u who d
-  near_stands owner who d (inr e) s = subst (λ o. StandsFrom named numbers u o d) e s who
-  near_stands owner who d (inl e) s = own who (subst (λ o. StandsFrom named numbers u o d) e s)
-    where
-      own : (o : Option ℕ) → StandsFrom named numbers u o d → StandsIn named numbers u o d
-      own None t = t None
-      own (Some p) t = t
-
   of_kinds : (who : Option ℕ) (n : RawName) (k : NameKind) → IsTrue (is_own_label k) → StandsAs named numbers u who k n → LabelReached named numbers u who n
   of_kinds who n kind.Label h s = number_reached named numbers u who (number_of named numbers n) s
   of_kinds who n _ h s = absurd (cc)
@@ -70,7 +63,7 @@ module _ (named : Named) (numbers : Numbers) (u : SourceUnit) (placed : Placed n
   listed_use : (who : Option ℕ) (n : RawName) → Found named numbers who (record { name = n; form = form.Listed }) → LabelReached named numbers u who n
   listed_use who n f =
       of_kinds who n f.declaration.kind f.fits_use
-      (near_stands f.owner who f.declaration f.is_near
+      (near_stands named numbers u f.owner who f.declaration f.is_near
       (label_side f.owner f.declaration f.fits_use (in_either (here f.owner (declares f.declaration)) (listed_mentions numbers named.raw.now) (block_mentions numbers named.raw.now) (subst (In (here f.owner (declares f.declaration))) parted f.is_declared))) n f.refers)
 
   use_reached : (who : Option ℕ) (n : RawName) (g : Form) → In (here who (uses (record { name = n; form = g }))) (text_mentions numbers named.raw.now) → FormReached named numbers u who n g

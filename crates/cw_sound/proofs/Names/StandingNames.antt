@@ -1,5 +1,5 @@
 -- From what a declaration stands for to the names that refer to it.
-use Rattle.std.proofs.Common.{◌≡◌, ℕ, map, IsTrue, ◌&&◌, Option, Some, None, slice_get, refl, sym, ap, subst, ◌∙◌}
+use Rattle.std.proofs.Common.{◌≡◌, ◌⊎◌, inl, inr, ℕ, map, IsTrue, ◌&&◌, Option, Some, None, slice_get, refl, sym, ap, subst, ◌∙◌}
 use Rattle.std.specs.Prelude.{option_map, option_and_then}
 use Rattle.cw_table.specs.Rows.{item_at}
 use Rattle.cw_tree.specs.declared.leaf.RawName.{RawName}
@@ -45,6 +45,15 @@ control_answer_same (Some (type.Integer at)) = refl
 control_answer_same (Some (type.Fixed at t f)) = refl
 
 module _ (named : Named) (numbers : Numbers) (u : SourceUnit) where
+  -- what is declared in a body or outside of procedures stands in that body
+  pub near_stands : (owner who : Option ℕ) (d : Declaration) → (owner ≡ who) ⊎ (owner ≡ None) → StandsFrom named numbers u owner d → StandsIn named numbers u who d
+  near_stands owner who d (inr e) s = subst (λ o. StandsFrom named numbers u o d) e s who
+  near_stands owner who d (inl e) s = own who (subst (λ o. StandsFrom named numbers u o d) e s)
+    where
+      own : (o : Option ℕ) → StandsFrom named numbers u o d → StandsIn named numbers u o d
+      own None t = t None
+      own (Some p) t = t
+
   pub number_here : (n : RawName) (d : Declaration) → Refers named n d → number_of named numbers n ≡ item_at numbers d.name.at.token
   number_here n d r = ap (option_and_then (item_at numbers)) r.0
 

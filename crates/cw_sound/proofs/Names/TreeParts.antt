@@ -6,17 +6,14 @@ use Rattle.cw_table.specs.Rows.{item_at}
 use Rattle.cw_tree.specs.declared.leaf.RawName.{RawName}
 use Rattle.cw_tree.specs.declared.statement.RawFelem.{RawFelem}
 use Rattle.cw_tree.specs.declared.statement.RawFelem.TheVariants as felem
-use Rattle.cw_tree.specs.declared.statement.RawDecl.{RawDecl, RawDecl-F, roll-RawDecl, map-RawDecl, fold-RawDecl}
-use Rattle.cw_tree.specs.declared.statement.RawForm.{RawForm, roll-RawForm, map-RawForm}
-use Rattle.cw_tree.specs.declared.statement.RawSimple.{RawSimple, roll-RawSimple, map-RawSimple}
-use Rattle.cw_tree.specs.declared.statement.RawBlock.{RawBlock, roll-RawBlock, map-RawBlock}
-use Rattle.cw_tree.specs.declared.statement.RawProc.{RawProc, roll-RawProc, out-RawProc, map-RawProc, fold-RawProc}
-use Rattle.cw_tree.specs.declared.statement.RawStmt.{RawStmt, roll-RawStmt, map-RawStmt}
+use Rattle.cw_tree.specs.declared.statement.RawDecl.{RawDecl, roll-RawDecl}
+use Rattle.cw_tree.specs.declared.statement.RawForm.{RawForm, roll-RawForm}
+use Rattle.cw_tree.specs.declared.statement.RawSimple.{RawSimple, roll-RawSimple}
+use Rattle.cw_tree.specs.declared.statement.RawBlock.{RawBlock, roll-RawBlock}
+use Rattle.cw_tree.specs.declared.statement.RawProc.{RawProc, roll-RawProc, out-RawProc}
+use Rattle.cw_tree.specs.declared.statement.RawStmt.{RawStmt, roll-RawStmt}
 use Rattle.cw_tree.specs.declared.statement.RawDecl.TheOpen as layer
-use Rattle.cw_tree.specs.declared.statement.RawDecl.TheOpen.{RawForm-F, RawSimple-F, RawBlock-F, RawProc-F, RawStmt-F}
 use Rattle.cw_tree.specs.declared.statement.RawDecl.TheViews.{roll-out-RawProc, out-roll-RawProc}
-use Rattle.cw_tree.specs.declared.statement.RawDecl.TheFolds.{fold-roll-RawDecl, fold-roll-RawForm, fold-roll-RawSimple, fold-roll-RawBlock, fold-roll-RawProc, fold-roll-RawStmt, para-roll-RawDecl}
-use Rattle.cw_tree.specs.declared.statement.RawDecl.TheFolds.{para-roll-RawForm, para-roll-RawSimple, para-roll-RawBlock, para-roll-RawProc, para-roll-RawStmt}
 use Rattle.cw_facts.specs.declared.fact.Fact.{Fact}
 use Rattle.cw_facts.specs.declared.fact.Form.TheVariants as use_form
 use Rattle.cw_facts.specs.declared.fact.Kind.TheVariants as kind
@@ -34,7 +31,7 @@ use Rattle.cw_make_stmt.specs.Made.{labels_of, marked, row, form_of, simple_of, 
 use Rattle.cw_make.specs.Switches as switched
 use Rattle.cw_make.specs.Switches.{declaration_switches, form_switches, simple_switches, block_switches, procedure_switches, statement_switches}
 use Rattle.cw_make.specs.Procedures as made
-use Rattle.cw_make.specs.Procedures.{Procs, proc_of, declaration_procs, form_procs, simple_procs, block_procs, procedure_procs, statement_procs}
+use Rattle.cw_make.specs.Procedures.{proc_of, declaration_procs, form_procs, simple_procs, block_procs, procedure_procs, statement_procs}
 use Rattle.cw_unit.specs.declared.unit.Proc.{Proc}
 use Rattle.cw_unit.specs.declared.unit.Cond.{Cond}
 use Rattle.cw_unit.specs.declared.unit.Ref.{Ref}
@@ -44,26 +41,17 @@ use Rattle.cw_unit.specs.declared.unit.Stmt.TheFolds.{fold-roll-Stmt}
 use Rattle.cw_unit.specs.declared.unit.Stmt.TheOpen as statement
 use Rattle.cw_unit.specs.LabelContinuation.{has_label}
 use Rattle.cw_safety.specs.WellFormed.{any, sets, sets_step}
+use Rattle.cw_sound.proofs.Expressions.Truth.{either, or_left, or_right}
 use Rattle.cw_sound.proofs.Names.Parts.{Switches, no_switches, never, Plain, Part, empty, both, plain, items, label, switch, block, procedure, more}
 use Rattle.cw_sound.proofs.Names.PlainFacts.{plain_nothing, plain_both, plain_use, plain_loop}
 use Rattle.cw_sound.proofs.Names.ExpressionUses.{expression_plain, condition_plain, reference_plain, arguments_plain}
 use Rattle.cw_sound.proofs.Statements.Layers.{Known, WithDecl, WithStmt, DeclParts, FormParts, SimpleParts, BlockParts, ProcParts, StmtParts}
 use Rattle.cw_sound.proofs.Statements.Layers.{decl_layer, form_layer, simple_layer, block_layer, proc_layer, stmt_layer, each_block}
-use Rattle.cw_sound.proofs.Statements.Folds.{facts_decl, facts_form, facts_simple, facts_block, facts_proc, facts_stmt}
+use Rattle.cw_sound.proofs.Statements.Passes.{rolls}
+use Rattle.cw_sound.proofs.Statements.Folds.{facts_pass, made_pass, switches_pass}
+use Rattle.cw_sound.proofs.Statements.Procedures.{procedures_roll}
 
 -- ---- labels that statements set
-
-or_first : (a b : Bool) → IsTrue a → IsTrue (a || b)
-or_first true b h = refl
-or_first false b h = absurd (cc)
-
-or_second : (a b : Bool) → IsTrue b → IsTrue (a || b)
-or_second true b h = refl
-or_second false b h = h
-
-either : {A : Type 0} → (a b : Bool) → IsTrue (a || b) → (IsTrue a → A) → (IsTrue b → A) → A
-either true b h f g = f refl
-either false b h f g = g h
 
 -- an equality of numbers before others
 label_first : (b c : Bool) → IsTrue (b || c) → IsTrue (if b then true else c)
@@ -111,69 +99,6 @@ module _ (named : Named) (numbers : Numbers) where
   abbrev StmtPart : RawStmt → Type 0
   StmtPart s = P (statement_facts s) (statement_switches named numbers s) (statement_procs named numbers s) (λ l. sets l (statement_of named numbers s))
 
-  -- ---- what each tree comes to, by its layer
-
-  abbrev pub switches_decl : (x : RawDecl-F RawDecl RawForm RawSimple RawBlock RawProc RawStmt) → declaration_switches named numbers (roll-RawDecl x) ≡ switched.declaration_step named numbers (map-RawDecl RawDecl RawForm RawSimple RawBlock RawProc RawStmt Switches Switches Switches Switches Switches Switches (declaration_switches named numbers) (form_switches named numbers) (simple_switches named numbers) (block_switches named numbers) (procedure_switches named numbers) (statement_switches named numbers) x)
-  switches_decl x = fold-roll-RawDecl Switches Switches Switches Switches Switches Switches (switched.declaration_step named numbers) (switched.form_step named numbers) (switched.simple_step named numbers) (switched.block_step named numbers) (switched.procedure_step named numbers) (switched.statement_step named numbers) x
-
-  abbrev pub switches_form : (x : RawForm-F RawDecl RawForm RawSimple RawBlock RawProc RawStmt) → form_switches named numbers (roll-RawForm x) ≡ switched.form_step named numbers (map-RawForm RawDecl RawForm RawSimple RawBlock RawProc RawStmt Switches Switches Switches Switches Switches Switches (declaration_switches named numbers) (form_switches named numbers) (simple_switches named numbers) (block_switches named numbers) (procedure_switches named numbers) (statement_switches named numbers) x)
-  switches_form x = fold-roll-RawForm Switches Switches Switches Switches Switches Switches (switched.declaration_step named numbers) (switched.form_step named numbers) (switched.simple_step named numbers) (switched.block_step named numbers) (switched.procedure_step named numbers) (switched.statement_step named numbers) x
-
-  abbrev pub switches_simple : (x : RawSimple-F RawDecl RawForm RawSimple RawBlock RawProc RawStmt) → simple_switches named numbers (roll-RawSimple x) ≡ switched.simple_step named numbers (map-RawSimple RawDecl RawForm RawSimple RawBlock RawProc RawStmt Switches Switches Switches Switches Switches Switches (declaration_switches named numbers) (form_switches named numbers) (simple_switches named numbers) (block_switches named numbers) (procedure_switches named numbers) (statement_switches named numbers) x)
-  switches_simple x = fold-roll-RawSimple Switches Switches Switches Switches Switches Switches (switched.declaration_step named numbers) (switched.form_step named numbers) (switched.simple_step named numbers) (switched.block_step named numbers) (switched.procedure_step named numbers) (switched.statement_step named numbers) x
-
-  abbrev pub switches_block : (x : RawBlock-F RawDecl RawForm RawSimple RawBlock RawProc RawStmt) → block_switches named numbers (roll-RawBlock x) ≡ switched.block_step named numbers (map-RawBlock RawDecl RawForm RawSimple RawBlock RawProc RawStmt Switches Switches Switches Switches Switches Switches (declaration_switches named numbers) (form_switches named numbers) (simple_switches named numbers) (block_switches named numbers) (procedure_switches named numbers) (statement_switches named numbers) x)
-  switches_block x = fold-roll-RawBlock Switches Switches Switches Switches Switches Switches (switched.declaration_step named numbers) (switched.form_step named numbers) (switched.simple_step named numbers) (switched.block_step named numbers) (switched.procedure_step named numbers) (switched.statement_step named numbers) x
-
-  abbrev pub switches_proc : (x : RawProc-F RawDecl RawForm RawSimple RawBlock RawProc RawStmt) → procedure_switches named numbers (roll-RawProc x) ≡ switched.procedure_step named numbers (map-RawProc RawDecl RawForm RawSimple RawBlock RawProc RawStmt Switches Switches Switches Switches Switches Switches (declaration_switches named numbers) (form_switches named numbers) (simple_switches named numbers) (block_switches named numbers) (procedure_switches named numbers) (statement_switches named numbers) x)
-  switches_proc x = fold-roll-RawProc Switches Switches Switches Switches Switches Switches (switched.declaration_step named numbers) (switched.form_step named numbers) (switched.simple_step named numbers) (switched.block_step named numbers) (switched.procedure_step named numbers) (switched.statement_step named numbers) x
-
-  abbrev pub switches_stmt : (x : RawStmt-F RawDecl RawForm RawSimple RawBlock RawProc RawStmt) → statement_switches named numbers (roll-RawStmt x) ≡ switched.statement_step named numbers (map-RawStmt RawDecl RawForm RawSimple RawBlock RawProc RawStmt Switches Switches Switches Switches Switches Switches (declaration_switches named numbers) (form_switches named numbers) (simple_switches named numbers) (block_switches named numbers) (procedure_switches named numbers) (statement_switches named numbers) x)
-  switches_stmt x = fold-roll-RawStmt Switches Switches Switches Switches Switches Switches (switched.declaration_step named numbers) (switched.form_step named numbers) (switched.simple_step named numbers) (switched.block_step named numbers) (switched.procedure_step named numbers) (switched.statement_step named numbers) x
-
-  -- declarations give no statement
-  abbrev pub decl_tree : RawDecl → Stmt
-  decl_tree = fold-RawDecl Stmt Stmt Stmt Stmt Stmt Stmt (tree.declaration_step named numbers) (tree.form_step named numbers) (tree.simple_step named numbers) (tree.block_step named numbers) (tree.procedure_step named numbers) (tree.statement_step named numbers)
-
-  abbrev pub proc_tree : RawProc → Stmt
-  proc_tree = fold-RawProc Stmt Stmt Stmt Stmt Stmt Stmt (tree.declaration_step named numbers) (tree.form_step named numbers) (tree.simple_step named numbers) (tree.block_step named numbers) (tree.procedure_step named numbers) (tree.statement_step named numbers)
-
-  abbrev pub tree_form : (x : RawForm-F RawDecl RawForm RawSimple RawBlock RawProc RawStmt) → form_of named numbers (roll-RawForm x) ≡ tree.form_step named numbers (map-RawForm RawDecl RawForm RawSimple RawBlock RawProc RawStmt Stmt Stmt Stmt Stmt Stmt Stmt decl_tree (form_of named numbers) (simple_of named numbers) (block_of named numbers) proc_tree (statement_of named numbers) x)
-  tree_form x = fold-roll-RawForm Stmt Stmt Stmt Stmt Stmt Stmt (tree.declaration_step named numbers) (tree.form_step named numbers) (tree.simple_step named numbers) (tree.block_step named numbers) (tree.procedure_step named numbers) (tree.statement_step named numbers) x
-
-  abbrev pub tree_simple : (x : RawSimple-F RawDecl RawForm RawSimple RawBlock RawProc RawStmt) → simple_of named numbers (roll-RawSimple x) ≡ tree.simple_step named numbers (map-RawSimple RawDecl RawForm RawSimple RawBlock RawProc RawStmt Stmt Stmt Stmt Stmt Stmt Stmt decl_tree (form_of named numbers) (simple_of named numbers) (block_of named numbers) proc_tree (statement_of named numbers) x)
-  tree_simple x = fold-roll-RawSimple Stmt Stmt Stmt Stmt Stmt Stmt (tree.declaration_step named numbers) (tree.form_step named numbers) (tree.simple_step named numbers) (tree.block_step named numbers) (tree.procedure_step named numbers) (tree.statement_step named numbers) x
-
-  abbrev pub tree_block : (x : RawBlock-F RawDecl RawForm RawSimple RawBlock RawProc RawStmt) → block_of named numbers (roll-RawBlock x) ≡ tree.block_step named numbers (map-RawBlock RawDecl RawForm RawSimple RawBlock RawProc RawStmt Stmt Stmt Stmt Stmt Stmt Stmt decl_tree (form_of named numbers) (simple_of named numbers) (block_of named numbers) proc_tree (statement_of named numbers) x)
-  tree_block x = fold-roll-RawBlock Stmt Stmt Stmt Stmt Stmt Stmt (tree.declaration_step named numbers) (tree.form_step named numbers) (tree.simple_step named numbers) (tree.block_step named numbers) (tree.procedure_step named numbers) (tree.statement_step named numbers) x
-
-  abbrev pub tree_stmt : (x : RawStmt-F RawDecl RawForm RawSimple RawBlock RawProc RawStmt) → statement_of named numbers (roll-RawStmt x) ≡ tree.statement_step named numbers (map-RawStmt RawDecl RawForm RawSimple RawBlock RawProc RawStmt Stmt Stmt Stmt Stmt Stmt Stmt decl_tree (form_of named numbers) (simple_of named numbers) (block_of named numbers) proc_tree (statement_of named numbers) x)
-  tree_stmt x = fold-roll-RawStmt Stmt Stmt Stmt Stmt Stmt Stmt (tree.declaration_step named numbers) (tree.form_step named numbers) (tree.simple_step named numbers) (tree.block_step named numbers) (tree.procedure_step named numbers) (tree.statement_step named numbers) x
-
-  pub procs_decl : (x : RawDecl-F RawDecl RawForm RawSimple RawBlock RawProc RawStmt) → declaration_procs named numbers (roll-RawDecl x) ≡ made.declaration_step named numbers (map-RawDecl RawDecl RawForm RawSimple RawBlock RawProc RawStmt (RawDecl × Procs) (RawForm × Procs) (RawSimple × Procs) (RawBlock × Procs) (RawProc × Procs) (RawStmt × Procs) (λ x. (x, declaration_procs named numbers x)) (λ x. (x, form_procs named numbers x)) (λ x. (x, simple_procs named numbers x)) (λ x. (x, block_procs named numbers x)) (λ x. (x, procedure_procs named numbers x)) (λ x. (x, statement_procs named numbers x)) x)
-  unfolding declaration_procs form_procs simple_procs block_procs procedure_procs statement_procs
-  procs_decl x = para-roll-RawDecl Procs Procs Procs Procs Procs Procs (made.declaration_step named numbers) (made.form_step named numbers) (made.simple_step named numbers) (made.block_step named numbers) (made.procedure_step named numbers) (made.statement_step named numbers) x
-
-  pub procs_form : (x : RawForm-F RawDecl RawForm RawSimple RawBlock RawProc RawStmt) → form_procs named numbers (roll-RawForm x) ≡ made.form_step named numbers (map-RawForm RawDecl RawForm RawSimple RawBlock RawProc RawStmt (RawDecl × Procs) (RawForm × Procs) (RawSimple × Procs) (RawBlock × Procs) (RawProc × Procs) (RawStmt × Procs) (λ x. (x, declaration_procs named numbers x)) (λ x. (x, form_procs named numbers x)) (λ x. (x, simple_procs named numbers x)) (λ x. (x, block_procs named numbers x)) (λ x. (x, procedure_procs named numbers x)) (λ x. (x, statement_procs named numbers x)) x)
-  unfolding declaration_procs form_procs simple_procs block_procs procedure_procs statement_procs
-  procs_form x = para-roll-RawForm Procs Procs Procs Procs Procs Procs (made.declaration_step named numbers) (made.form_step named numbers) (made.simple_step named numbers) (made.block_step named numbers) (made.procedure_step named numbers) (made.statement_step named numbers) x
-
-  pub procs_simple : (x : RawSimple-F RawDecl RawForm RawSimple RawBlock RawProc RawStmt) → simple_procs named numbers (roll-RawSimple x) ≡ made.simple_step named numbers (map-RawSimple RawDecl RawForm RawSimple RawBlock RawProc RawStmt (RawDecl × Procs) (RawForm × Procs) (RawSimple × Procs) (RawBlock × Procs) (RawProc × Procs) (RawStmt × Procs) (λ x. (x, declaration_procs named numbers x)) (λ x. (x, form_procs named numbers x)) (λ x. (x, simple_procs named numbers x)) (λ x. (x, block_procs named numbers x)) (λ x. (x, procedure_procs named numbers x)) (λ x. (x, statement_procs named numbers x)) x)
-  unfolding declaration_procs form_procs simple_procs block_procs procedure_procs statement_procs
-  procs_simple x = para-roll-RawSimple Procs Procs Procs Procs Procs Procs (made.declaration_step named numbers) (made.form_step named numbers) (made.simple_step named numbers) (made.block_step named numbers) (made.procedure_step named numbers) (made.statement_step named numbers) x
-
-  pub procs_block : (x : RawBlock-F RawDecl RawForm RawSimple RawBlock RawProc RawStmt) → block_procs named numbers (roll-RawBlock x) ≡ made.block_step named numbers (map-RawBlock RawDecl RawForm RawSimple RawBlock RawProc RawStmt (RawDecl × Procs) (RawForm × Procs) (RawSimple × Procs) (RawBlock × Procs) (RawProc × Procs) (RawStmt × Procs) (λ x. (x, declaration_procs named numbers x)) (λ x. (x, form_procs named numbers x)) (λ x. (x, simple_procs named numbers x)) (λ x. (x, block_procs named numbers x)) (λ x. (x, procedure_procs named numbers x)) (λ x. (x, statement_procs named numbers x)) x)
-  unfolding declaration_procs form_procs simple_procs block_procs procedure_procs statement_procs
-  procs_block x = para-roll-RawBlock Procs Procs Procs Procs Procs Procs (made.declaration_step named numbers) (made.form_step named numbers) (made.simple_step named numbers) (made.block_step named numbers) (made.procedure_step named numbers) (made.statement_step named numbers) x
-
-  pub procs_proc : (x : RawProc-F RawDecl RawForm RawSimple RawBlock RawProc RawStmt) → procedure_procs named numbers (roll-RawProc x) ≡ made.procedure_step named numbers (map-RawProc RawDecl RawForm RawSimple RawBlock RawProc RawStmt (RawDecl × Procs) (RawForm × Procs) (RawSimple × Procs) (RawBlock × Procs) (RawProc × Procs) (RawStmt × Procs) (λ x. (x, declaration_procs named numbers x)) (λ x. (x, form_procs named numbers x)) (λ x. (x, simple_procs named numbers x)) (λ x. (x, block_procs named numbers x)) (λ x. (x, procedure_procs named numbers x)) (λ x. (x, statement_procs named numbers x)) x)
-  unfolding declaration_procs form_procs simple_procs block_procs procedure_procs statement_procs
-  procs_proc x = para-roll-RawProc Procs Procs Procs Procs Procs Procs (made.declaration_step named numbers) (made.form_step named numbers) (made.simple_step named numbers) (made.block_step named numbers) (made.procedure_step named numbers) (made.statement_step named numbers) x
-
-  pub procs_stmt : (x : RawStmt-F RawDecl RawForm RawSimple RawBlock RawProc RawStmt) → statement_procs named numbers (roll-RawStmt x) ≡ made.statement_step named numbers (map-RawStmt RawDecl RawForm RawSimple RawBlock RawProc RawStmt (RawDecl × Procs) (RawForm × Procs) (RawSimple × Procs) (RawBlock × Procs) (RawProc × Procs) (RawStmt × Procs) (λ x. (x, declaration_procs named numbers x)) (λ x. (x, form_procs named numbers x)) (λ x. (x, simple_procs named numbers x)) (λ x. (x, block_procs named numbers x)) (λ x. (x, procedure_procs named numbers x)) (λ x. (x, statement_procs named numbers x)) x)
-  unfolding declaration_procs form_procs simple_procs block_procs procedure_procs statement_procs
-  procs_stmt x = para-roll-RawStmt Procs Procs Procs Procs Procs Procs (made.declaration_step named numbers) (made.form_step named numbers) (made.simple_step named numbers) (made.block_step named numbers) (made.procedure_step named numbers) (made.statement_step named numbers) x
-
   -- ---- trees with what is made of them
 
   abbrev known : Known
@@ -182,13 +107,13 @@ module _ (named : Named) (numbers : Numbers) where
   -- ---- rules of the grammar
 
   decl_part : (y : DeclParts known) → DeclPart (roll-RawDecl (decl_layer known y))
-  decl_part (layer.Data d) = like (facts_decl (layer.Data d)) (switches_decl (layer.Data d)) (procs_decl (layer.Data d)) (λ l h. h) (items d)
+  decl_part (layer.Data d) = like ((rolls facts_pass).decl (layer.Data d)) ((rolls (switches_pass named numbers)).decl (layer.Data d)) ((procedures_roll named numbers).decl (layer.Data d)) (λ l h. h) (items d)
   decl_part (layer.Overlay at b d) =
-      like (facts_decl (layer.Overlay at b d)) (switches_decl (layer.Overlay at b d)) (procs_decl (layer.Overlay at b d)) (λ l h. h)
+      like ((rolls facts_pass).decl (layer.Overlay at b d)) ((rolls (switches_pass named numbers)).decl (layer.Overlay at b d)) ((procedures_roll named numbers).decl (layer.Overlay at b d)) (λ l h. h)
       (both (plain (plain_use numbers (record { name = base_name b; form = use_form.Base }) [] (plain_nothing numbers))) (items d))
   decl_part (layer.Switch at n labels) =
-      like (facts_decl (layer.Switch at n labels)) (switches_decl (layer.Switch at n labels)) (procs_decl (layer.Switch at n labels)) (λ l h. h) (switch n labels)
-  decl_part (layer.Proc p) = like (facts_decl (layer.Proc p.0)) (switches_decl (layer.Proc p.0)) (procs_decl (layer.Proc p.0)) (λ l h. h) p.1
+      like ((rolls facts_pass).decl (layer.Switch at n labels)) ((rolls (switches_pass named numbers)).decl (layer.Switch at n labels)) ((procedures_roll named numbers).decl (layer.Switch at n labels)) (λ l h. h) (switch n labels)
+  decl_part (layer.Proc p) = like ((rolls facts_pass).decl (layer.Proc p.0)) ((rolls (switches_pass named numbers)).decl (layer.Proc p.0)) ((procedures_roll named numbers).decl (layer.Proc p.0)) (λ l h. h) p.1
 
   set_if : (line : ℕ) (c : Cond) (a b : Stmt) (l : ℕ) → IsTrue (sets l a || sets l b) → IsTrue (sets l (tree.conditional line c a b))
   set_if line c a b l h = subst IsTrue (sym (fold-roll-Stmt Bool (sets_step l) (statement.If line c a b))) h
@@ -213,17 +138,17 @@ module _ (named : Named) (numbers : Numbers) where
   either_set : (ns : List RawName) (a b : Stmt) (l : ℕ) → IsTrue (has_label l (labels_of numbers ns) || (sets l a || sets l b)) → IsTrue (sets l (marked numbers ns a) || sets l b)
   either_set ns a b l h =
       either (has_label l (labels_of numbers ns)) (sets l a || sets l b) h
-      (λ k. or_first (sets l (marked numbers ns a)) (sets l b) (set_behind numbers ns a l (or_first (has_label l (labels_of numbers ns)) (sets l a) k)))
+      (λ k. or_left (sets l (marked numbers ns a)) (sets l b) (set_behind numbers ns a l (or_left (has_label l (labels_of numbers ns)) (sets l a) k)))
       (λ k. either (sets l a) (sets l b) k
-      (λ j. or_first (sets l (marked numbers ns a)) (sets l b) (set_behind numbers ns a l (or_second (has_label l (labels_of numbers ns)) (sets l a) j)))
-      (λ j. or_second (sets l (marked numbers ns a)) (sets l b) j))
+      (λ j. or_left (sets l (marked numbers ns a)) (sets l b) (set_behind numbers ns a l (or_right (has_label l (labels_of numbers ns)) (sets l a) j)))
+      (λ j. or_right (sets l (marked numbers ns a)) (sets l b) j))
 
   form_part : (y : FormParts known) → FormPart (roll-RawForm (form_layer known y))
   form_part (layer.Simple s) =
-      like (facts_form (layer.Simple s.0)) (switches_form (layer.Simple s.0)) (procs_form (layer.Simple s.0)) (λ l h. subst (λ z. IsTrue (sets l z)) (sym (tree_form (layer.Simple s.0))) h) s.1
+      like ((rolls facts_pass).form (layer.Simple s.0)) ((rolls (switches_pass named numbers)).form (layer.Simple s.0)) ((procedures_roll named numbers).form (layer.Simple s.0)) (λ l h. subst (λ z. IsTrue (sets l z)) (sym ((rolls (made_pass named numbers)).form (layer.Simple s.0))) h) s.1
   form_part (layer.If at test labels first None) =
-      like (facts_form (layer.If at test labels first.0 None)) (switches_form (layer.If at test labels first.0 None)) (procs_form (layer.If at test labels first.0 None))
-      (λ l h. subst (λ z. IsTrue (sets l z)) (sym (tree_form (layer.If at test labels first.0 None)))
+      like ((rolls facts_pass).form (layer.If at test labels first.0 None)) ((rolls (switches_pass named numbers)).form (layer.If at test labels first.0 None)) ((procedures_roll named numbers).form (layer.If at test labels first.0 None))
+      (λ l h. subst (λ z. IsTrue (sets l z)) (sym ((rolls (made_pass named numbers)).form (layer.If at test labels first.0 None)))
       (set_if (tree.line_of at) (condition_of named numbers test) (marked numbers labels (simple_of named numbers first.0)) (row []) l
       (either_set labels (simple_of named numbers first.0) (row []) l (missing l (has_label l (labels_of numbers labels)) (sets l (simple_of named numbers first.0)) h))))
       (both (plain (condition_plain numbers test reading.Value)) (both (labels_part labels) (both first.1 empty)))
@@ -233,39 +158,39 @@ module _ (named : Named) (numbers : Numbers) where
       missing l false true h = refl
       missing l false false h = absurd (cc)
   form_part (layer.If at test labels first (Some second)) =
-      like (facts_form (layer.If at test labels first.0 (Some second.0))) (switches_form (layer.If at test labels first.0 (Some second.0))) (procs_form (layer.If at test labels first.0 (Some second.0)))
-      (λ l h. subst (λ z. IsTrue (sets l z)) (sym (tree_form (layer.If at test labels first.0 (Some second.0))))
+      like ((rolls facts_pass).form (layer.If at test labels first.0 (Some second.0))) ((rolls (switches_pass named numbers)).form (layer.If at test labels first.0 (Some second.0))) ((procedures_roll named numbers).form (layer.If at test labels first.0 (Some second.0)))
+      (λ l h. subst (λ z. IsTrue (sets l z)) (sym ((rolls (made_pass named numbers)).form (layer.If at test labels first.0 (Some second.0))))
       (set_if (tree.line_of at) (condition_of named numbers test) (marked numbers labels (simple_of named numbers first.0)) (statement_of named numbers second.0) l
       (either_set labels (simple_of named numbers first.0) (statement_of named numbers second.0) l h)))
       (both (plain (condition_plain numbers test reading.Value)) (both (labels_part labels) (both first.1 second.1)))
   form_part (layer.For at variable elems body) =
-      like (facts_form (layer.For at variable elems body.0)) (switches_form (layer.For at variable elems body.0)) (procs_form (layer.For at variable elems body.0))
-      (λ l h. subst (λ z. IsTrue (sets l z)) (sym (tree_form (layer.For at variable elems body.0)))
+      like ((rolls facts_pass).form (layer.For at variable elems body.0)) ((rolls (switches_pass named numbers)).form (layer.For at variable elems body.0)) ((procedures_roll named numbers).form (layer.For at variable elems body.0))
+      (λ l h. subst (λ z. IsTrue (sets l z)) (sym ((rolls (made_pass named numbers)).form (layer.For at variable elems body.0)))
       (set_for (tree.line_of at) (item_here numbers at.token) (reference_of named numbers variable) (map (tree.felem_of named numbers) elems) (statement_of named numbers body.0) l h))
       (both (plain (plain_loop numbers at (reference_uses variable reading.Whole) (reference_plain numbers variable reading.Whole))) (both (plain (felems_plain elems)) body.1))
 
   simple_part : (y : SimpleParts known) → SimplePart (roll-RawSimple (simple_layer known y))
-  simple_part layer.Empty = like (facts_simple layer.Empty) (switches_simple layer.Empty) (procs_simple layer.Empty) (λ l h. absurd (cc)) empty
+  simple_part layer.Empty = like ((rolls facts_pass).simple layer.Empty) ((rolls (switches_pass named numbers)).simple layer.Empty) ((procedures_roll named numbers).simple layer.Empty) (λ l h. absurd (cc)) empty
   simple_part (layer.Assign r e) =
-      like (facts_simple (layer.Assign r e)) (switches_simple (layer.Assign r e)) (procs_simple (layer.Assign r e)) (λ l h. absurd (cc))
+      like ((rolls facts_pass).simple (layer.Assign r e)) ((rolls (switches_pass named numbers)).simple (layer.Assign r e)) ((procedures_roll named numbers).simple (layer.Assign r e)) (λ l h. absurd (cc))
       (plain (plain_both numbers (reference_uses r reading.Target) (expression_uses e reading.Value) (reference_plain numbers r reading.Target) (expression_plain numbers e reading.Value)))
   simple_part (layer.AssignBits bits r e) =
-      like (facts_simple (layer.AssignBits bits r e)) (switches_simple (layer.AssignBits bits r e)) (procs_simple (layer.AssignBits bits r e)) (λ l h. absurd (cc))
+      like ((rolls facts_pass).simple (layer.AssignBits bits r e)) ((rolls (switches_pass named numbers)).simple (layer.AssignBits bits r e)) ((procedures_roll named numbers).simple (layer.AssignBits bits r e)) (λ l h. absurd (cc))
       (plain (plain_both numbers (reference_uses r reading.Whole) (expression_uses e reading.Value) (reference_plain numbers r reading.Whole) (expression_plain numbers e reading.Value)))
   simple_part (layer.Goto at n) =
-      like (facts_simple (layer.Goto at n)) (switches_simple (layer.Goto at n)) (procs_simple (layer.Goto at n)) (λ l h. absurd (cc))
+      like ((rolls facts_pass).simple (layer.Goto at n)) ((rolls (switches_pass named numbers)).simple (layer.Goto at n)) ((procedures_roll named numbers).simple (layer.Goto at n)) (λ l h. absurd (cc))
       (plain (plain_use numbers (record { name = n; form = use_form.Goto }) [] (plain_nothing numbers)))
   simple_part (layer.GotoSwitch at n e) =
-      like (facts_simple (layer.GotoSwitch at n e)) (switches_simple (layer.GotoSwitch at n e)) (procs_simple (layer.GotoSwitch at n e)) (λ l h. absurd (cc))
+      like ((rolls facts_pass).simple (layer.GotoSwitch at n e)) ((rolls (switches_pass named numbers)).simple (layer.GotoSwitch at n e)) ((procedures_roll named numbers).simple (layer.GotoSwitch at n e)) (λ l h. absurd (cc))
       (plain (plain_use numbers (record { name = n; form = use_form.GotoSwitch }) (expression_uses e reading.Value) (expression_plain numbers e reading.Value)))
   simple_part (layer.Call n es) =
-      like (facts_simple (layer.Call n es)) (switches_simple (layer.Call n es)) (procs_simple (layer.Call n es)) (λ l h. absurd (cc))
+      like ((rolls facts_pass).simple (layer.Call n es)) ((rolls (switches_pass named numbers)).simple (layer.Call n es)) ((procedures_roll named numbers).simple (layer.Call n es)) (λ l h. absurd (cc))
       (plain (plain_use numbers (record { name = n; form = use_form.Call }) (argument_uses es) (arguments_plain numbers es)))
   simple_part (layer.Answer at e) =
-      like (facts_simple (layer.Answer at e)) (switches_simple (layer.Answer at e)) (procs_simple (layer.Answer at e)) (λ l h. absurd (cc))
+      like ((rolls facts_pass).simple (layer.Answer at e)) ((rolls (switches_pass named numbers)).simple (layer.Answer at e)) ((procedures_roll named numbers).simple (layer.Answer at e)) (λ l h. absurd (cc))
       (plain (plain_use numbers (record { name = answer_name at; form = use_form.Answer }) (expression_uses e reading.Value) (expression_plain numbers e reading.Value)))
   simple_part (layer.Block b) =
-      like (facts_simple (layer.Block b.0)) (switches_simple (layer.Block b.0)) (procs_simple (layer.Block b.0)) (λ l h. subst (λ z. IsTrue (sets l z)) (sym (tree_simple (layer.Block b.0))) h) (b.1 false)
+      like ((rolls facts_pass).simple (layer.Block b.0)) ((rolls (switches_pass named numbers)).simple (layer.Block b.0)) ((procedures_roll named numbers).simple (layer.Block b.0)) (λ l h. subst (λ z. IsTrue (sets l z)) (sym ((rolls (made_pass named numbers)).simple (layer.Block b.0))) h) (b.1 false)
 
   decls_part : (ds : List (WithDecl known)) → P (said.joined (map declaration_facts (map (λ e. e.0) ds))) (switched.joined (map (declaration_switches named numbers) (map (λ e. e.0) ds))) (made.joined (map (λ d. (d, declaration_procs named numbers d)) (map (λ e. e.0) ds))) never
   decls_part [] = empty
@@ -281,21 +206,21 @@ module _ (named : Named) (numbers : Numbers) where
 
   block_part : (y : BlockParts known) → BlockPart (roll-RawBlock (block_layer known y))
   block_part y outermost =
-      like (ap (λ f. f outermost) (facts_block (block_layer known y))) (switches_block (block_layer known y)) (procs_block (block_layer known y))
-      (λ l h. subst (λ z. IsTrue (sets l z)) (sym (tree_block (block_layer known y))) (set_row (map (statement_of named numbers) (map (λ e. e.0) y.stmts)) l h))
+      like (ap (λ f. f outermost) ((rolls facts_pass).block (block_layer known y))) ((rolls (switches_pass named numbers)).block (block_layer known y)) ((procedures_roll named numbers).block (block_layer known y))
+      (λ l h. subst (λ z. IsTrue (sets l z)) (sym ((rolls (made_pass named numbers)).block (block_layer known y))) (set_row (map (statement_of named numbers) (map (λ e. e.0) y.stmts)) l h))
       (enclosed_part (outermost || not (length (map declaration_facts (map (λ e. e.0) y.decls)) == 0)) (both (decls_part y.decls) (stmts_part y.stmts)))
 
   proc_part : (y : ProcParts known) → ProcPart (roll-RawProc (proc_layer known y))
   proc_part y =
       let p : RawProc = roll-RawProc (proc_layer known y) in
-      like (ap procedure_facts (sym (roll-out-RawProc p)) ∙ facts_proc (out-RawProc p)) (ap (procedure_switches named numbers) (sym (roll-out-RawProc p)) ∙ switches_proc (out-RawProc p))
-      (ap (λ ps. proc_of named numbers p ∷ ps) (ap (procedure_procs named numbers) (sym (roll-out-RawProc p)) ∙ procs_proc (out-RawProc p))) (λ l h. h)
+      like (ap procedure_facts (sym (roll-out-RawProc p)) ∙ (rolls facts_pass).proc (out-RawProc p)) (ap (procedure_switches named numbers) (sym (roll-out-RawProc p)) ∙ (rolls (switches_pass named numbers)).proc (out-RawProc p))
+      (ap (λ ps. proc_of named numbers p ∷ ps) (ap (procedure_procs named numbers) (sym (roll-out-RawProc p)) ∙ (procedures_roll named numbers).proc (out-RawProc p))) (λ l h. h)
       (procedure p (subst (λ z. StmtPart z.body) (sym (out-roll-RawProc (proc_layer known y))) y.body.1))
 
   stmt_part : (y : StmtParts known) → StmtPart (roll-RawStmt (stmt_layer known y))
   stmt_part y =
-      like (facts_stmt (stmt_layer known y)) (switches_stmt (stmt_layer known y)) (procs_stmt (stmt_layer known y))
-      (λ l h. subst (λ z. IsTrue (sets l z)) (sym (tree_stmt (stmt_layer known y))) (set_behind numbers y.labels (form_of named numbers y.form.0) l h))
+      like ((rolls facts_pass).stmt (stmt_layer known y)) ((rolls (switches_pass named numbers)).stmt (stmt_layer known y)) ((procedures_roll named numbers).stmt (stmt_layer known y))
+      (λ l h. subst (λ z. IsTrue (sets l z)) (sym ((rolls (made_pass named numbers)).stmt (stmt_layer known y))) (set_behind numbers y.labels (form_of named numbers y.form.0) l h))
       (both (labels_part y.labels) y.form.1)
 
   pub block_parts : (b : RawBlock) → BlockPart b

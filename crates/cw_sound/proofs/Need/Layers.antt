@@ -14,14 +14,12 @@ use Rattle.cw_tree.specs.declared.expression.RawTerm.{RawTerm}
 use Rattle.cw_tree.specs.declared.expression.RawUnion.{RawUnion}
 use Rattle.cw_tree.specs.declared.expression.RawExpr.TheOpen.{RawPrimary-F, RawRef-F}
 use Rattle.cw_tree.specs.declared.expression.RawExpr.TheFolds.{fold-roll-RawExpr, fold-roll-RawPrimary, fold-roll-RawRef}
-use Rattle.cw_tree.specs.declared.statement.RawDecl.{RawDecl, RawDecl-F, roll-RawDecl, map-RawDecl, fold-RawDecl}
-use Rattle.cw_tree.specs.declared.statement.RawForm.{RawForm, roll-RawForm, map-RawForm}
-use Rattle.cw_tree.specs.declared.statement.RawSimple.{RawSimple, roll-RawSimple, map-RawSimple}
-use Rattle.cw_tree.specs.declared.statement.RawBlock.{RawBlock, roll-RawBlock, map-RawBlock}
-use Rattle.cw_tree.specs.declared.statement.RawProc.{RawProc, roll-RawProc, fold-RawProc}
-use Rattle.cw_tree.specs.declared.statement.RawStmt.{RawStmt, roll-RawStmt, map-RawStmt}
-use Rattle.cw_tree.specs.declared.statement.RawDecl.TheOpen.{RawForm-F, RawSimple-F, RawBlock-F, RawProc-F, RawStmt-F}
-use Rattle.cw_tree.specs.declared.statement.RawDecl.TheFolds.{fold-roll-RawForm, fold-roll-RawSimple, fold-roll-RawBlock, fold-roll-RawStmt, para-roll-RawDecl, para-roll-RawForm, para-roll-RawSimple, para-roll-RawBlock, para-roll-RawProc, para-roll-RawStmt}
+use Rattle.cw_tree.specs.declared.statement.RawDecl.{RawDecl, roll-RawDecl}
+use Rattle.cw_tree.specs.declared.statement.RawForm.{RawForm, roll-RawForm}
+use Rattle.cw_tree.specs.declared.statement.RawSimple.{RawSimple, roll-RawSimple}
+use Rattle.cw_tree.specs.declared.statement.RawBlock.{roll-RawBlock}
+use Rattle.cw_tree.specs.declared.statement.RawProc.{roll-RawProc}
+use Rattle.cw_tree.specs.declared.statement.RawStmt.{roll-RawStmt}
 use Rattle.cw_scope.specs.declared.resolve.Named.{Named}
 use Rattle.cw_make_expr.specs.Parts.{Numbers}
 use Rattle.cw_make_expr.specs.Made as made
@@ -32,6 +30,9 @@ use Rattle.cw_unit.specs.declared.unit.Stmt.{Stmt}
 use Rattle.cw_unit.specs.StackBound.{body_depth}
 use Rattle.cw_sound.specs.Statements.Bodies.{Body, Bodies}
 use Rattle.cw_sound.specs.Statements.Bodies as bodies
+use Rattle.cw_sound.proofs.Statements.Layers.{DeclLayer, FormLayer, SimpleLayer, BlockLayer, ProcLayer, StmtLayer}
+use Rattle.cw_sound.proofs.Statements.Folds.{made_pass}
+use Rattle.cw_sound.proofs.Statements.Passes.{layered, rolls, bodies_walk, walked_layer, walk_rolls}
 use Rattle.cw_sound.proofs.Need.Rules.{Shallow, ShallowPlace, Each}
 
 module _ (named : Named) (numbers : Numbers) where
@@ -65,54 +66,20 @@ module _ (named : Named) (numbers : Numbers) where
     pub depth : body_depth s ≤ k
     pub bodies : BodiesWithin k bs
 
-  abbrev declaration_made : RawDecl → Stmt
-  declaration_made = fold-RawDecl Stmt Stmt Stmt Stmt Stmt Stmt (statements.declaration_step named numbers) (statements.form_step named numbers) (statements.simple_step named numbers) (statements.block_step named numbers) (statements.procedure_step named numbers) (statements.statement_step named numbers)
+  pub form_is : (k : ℕ) (y : RawForm) (x : FormLayer) → roll-RawForm x ≡ y → Kept k ((layered (made_pass named numbers)).form x) ((walked_layer bodies_walk).form x) → Kept k (statements.form_of named numbers y) (bodies.form_bodies y)
+  form_is k y x e h = subst (λ (z : RawForm). Kept k (statements.form_of named numbers z) (bodies.form_bodies z)) e (subst₂ (Kept k) (sym ((rolls (made_pass named numbers)).form x)) (sym ((walk_rolls bodies_walk).form x)) h)
 
-  abbrev procedure_made : RawProc → Stmt
-  procedure_made = fold-RawProc Stmt Stmt Stmt Stmt Stmt Stmt (statements.declaration_step named numbers) (statements.form_step named numbers) (statements.simple_step named numbers) (statements.block_step named numbers) (statements.procedure_step named numbers) (statements.statement_step named numbers)
+  pub simple_is : (k : ℕ) (y : RawSimple) (x : SimpleLayer) → roll-RawSimple x ≡ y → Kept k ((layered (made_pass named numbers)).simple x) ((walked_layer bodies_walk).simple x) → Kept k (statements.simple_of named numbers y) (bodies.simple_bodies y)
+  simple_is k y x e h = subst (λ (z : RawSimple). Kept k (statements.simple_of named numbers z) (bodies.simple_bodies z)) e (subst₂ (Kept k) (sym ((rolls (made_pass named numbers)).simple x)) (sym ((walk_rolls bodies_walk).simple x)) h)
 
-  pub form_is : (k : ℕ) (y : RawForm) (x : RawForm-F RawDecl RawForm RawSimple RawBlock RawProc RawStmt) → roll-RawForm x ≡ y
-      → Kept k (statements.form_step named numbers (map-RawForm RawDecl RawForm RawSimple RawBlock RawProc RawStmt Stmt Stmt Stmt Stmt Stmt Stmt declaration_made (statements.form_of named numbers) (statements.simple_of named numbers) (statements.block_of named numbers) procedure_made (statements.statement_of named numbers) x))
-      (bodies.form_step (map-RawForm RawDecl RawForm RawSimple RawBlock RawProc RawStmt (RawDecl × Bodies) (RawForm × Bodies) (RawSimple × Bodies) (RawBlock × Bodies) (RawProc × Bodies) (RawStmt × Bodies) (λ z. (z, bodies.declaration_bodies z)) (λ z. (z, bodies.form_bodies z)) (λ z. (z, bodies.simple_bodies z)) (λ z. (z, bodies.block_bodies z)) (λ z. (z, bodies.procedure_bodies z)) (λ z. (z, bodies.statement_bodies z)) x))
-      → Kept k (statements.form_of named numbers y) (bodies.form_bodies y)
-  form_is k y x e h =
-      subst₂ (Kept k)
-      (sym (ap (statements.form_of named numbers) (sym e) ∙ fold-roll-RawForm Stmt Stmt Stmt Stmt Stmt Stmt (statements.declaration_step named numbers) (statements.form_step named numbers) (statements.simple_step named numbers) (statements.block_step named numbers) (statements.procedure_step named numbers) (statements.statement_step named numbers) x))
-      (sym (ap bodies.form_bodies (sym e) ∙ para-roll-RawForm Bodies Bodies Bodies Bodies Bodies Bodies bodies.declaration_step bodies.form_step bodies.simple_step bodies.block_step bodies.procedure_step bodies.statement_step x)) h
+  pub block_is : (k : ℕ) (x : BlockLayer) → Kept k ((layered (made_pass named numbers)).block x) ((walked_layer bodies_walk).block x) → Kept k (statements.block_of named numbers (roll-RawBlock x)) (bodies.block_bodies (roll-RawBlock x))
+  block_is k x h = subst₂ (Kept k) (sym ((rolls (made_pass named numbers)).block x)) (sym ((walk_rolls bodies_walk).block x)) h
 
-  pub simple_is : (k : ℕ) (y : RawSimple) (x : RawSimple-F RawDecl RawForm RawSimple RawBlock RawProc RawStmt) → roll-RawSimple x ≡ y
-      → Kept k (statements.simple_step named numbers (map-RawSimple RawDecl RawForm RawSimple RawBlock RawProc RawStmt Stmt Stmt Stmt Stmt Stmt Stmt declaration_made (statements.form_of named numbers) (statements.simple_of named numbers) (statements.block_of named numbers) procedure_made (statements.statement_of named numbers) x))
-      (bodies.simple_step (map-RawSimple RawDecl RawForm RawSimple RawBlock RawProc RawStmt (RawDecl × Bodies) (RawForm × Bodies) (RawSimple × Bodies) (RawBlock × Bodies) (RawProc × Bodies) (RawStmt × Bodies) (λ z. (z, bodies.declaration_bodies z)) (λ z. (z, bodies.form_bodies z)) (λ z. (z, bodies.simple_bodies z)) (λ z. (z, bodies.block_bodies z)) (λ z. (z, bodies.procedure_bodies z)) (λ z. (z, bodies.statement_bodies z)) x))
-      → Kept k (statements.simple_of named numbers y) (bodies.simple_bodies y)
-  simple_is k y x e h =
-      subst₂ (Kept k)
-      (sym (ap (statements.simple_of named numbers) (sym e) ∙ fold-roll-RawSimple Stmt Stmt Stmt Stmt Stmt Stmt (statements.declaration_step named numbers) (statements.form_step named numbers) (statements.simple_step named numbers) (statements.block_step named numbers) (statements.procedure_step named numbers) (statements.statement_step named numbers) x))
-      (sym (ap bodies.simple_bodies (sym e) ∙ para-roll-RawSimple Bodies Bodies Bodies Bodies Bodies Bodies bodies.declaration_step bodies.form_step bodies.simple_step bodies.block_step bodies.procedure_step bodies.statement_step x)) h
+  pub statement_is : (k : ℕ) (x : StmtLayer) → Kept k ((layered (made_pass named numbers)).stmt x) (bodies.form_bodies x.form) → Kept k (statements.statement_of named numbers (roll-RawStmt x)) (bodies.statement_bodies (roll-RawStmt x))
+  statement_is k x h = subst₂ (Kept k) (sym ((rolls (made_pass named numbers)).stmt x)) (sym ((walk_rolls bodies_walk).stmt x)) h
 
-  pub block_is : (k : ℕ) (x : RawBlock-F RawDecl RawForm RawSimple RawBlock RawProc RawStmt)
-      → Kept k (statements.block_step named numbers (map-RawBlock RawDecl RawForm RawSimple RawBlock RawProc RawStmt Stmt Stmt Stmt Stmt Stmt Stmt declaration_made (statements.form_of named numbers) (statements.simple_of named numbers) (statements.block_of named numbers) procedure_made (statements.statement_of named numbers) x))
-      (bodies.block_step (map-RawBlock RawDecl RawForm RawSimple RawBlock RawProc RawStmt (RawDecl × Bodies) (RawForm × Bodies) (RawSimple × Bodies) (RawBlock × Bodies) (RawProc × Bodies) (RawStmt × Bodies) (λ z. (z, bodies.declaration_bodies z)) (λ z. (z, bodies.form_bodies z)) (λ z. (z, bodies.simple_bodies z)) (λ z. (z, bodies.block_bodies z)) (λ z. (z, bodies.procedure_bodies z)) (λ z. (z, bodies.statement_bodies z)) x))
-      → Kept k (statements.block_of named numbers (roll-RawBlock x)) (bodies.block_bodies (roll-RawBlock x))
-  block_is k x h =
-      subst₂ (Kept k)
-      (sym (fold-roll-RawBlock Stmt Stmt Stmt Stmt Stmt Stmt (statements.declaration_step named numbers) (statements.form_step named numbers) (statements.simple_step named numbers) (statements.block_step named numbers) (statements.procedure_step named numbers) (statements.statement_step named numbers) x))
-      (sym (para-roll-RawBlock Bodies Bodies Bodies Bodies Bodies Bodies bodies.declaration_step bodies.form_step bodies.simple_step bodies.block_step bodies.procedure_step bodies.statement_step x)) h
+  pub declaration_is : (k : ℕ) (y : RawDecl) (x : DeclLayer) → roll-RawDecl x ≡ y → BodiesWithin k ((walked_layer bodies_walk).decl x) → BodiesWithin k (bodies.declaration_bodies y)
+  declaration_is k y x e h = subst (λ (z : RawDecl). BodiesWithin k (bodies.declaration_bodies z)) e (subst (BodiesWithin k) (sym ((walk_rolls bodies_walk).decl x)) h)
 
-  pub statement_is : (k : ℕ) (x : RawStmt-F RawDecl RawForm RawSimple RawBlock RawProc RawStmt)
-      → Kept k (statements.statement_step named numbers (map-RawStmt RawDecl RawForm RawSimple RawBlock RawProc RawStmt Stmt Stmt Stmt Stmt Stmt Stmt declaration_made (statements.form_of named numbers) (statements.simple_of named numbers) (statements.block_of named numbers) procedure_made (statements.statement_of named numbers) x))
-      (bodies.form_bodies x.form)
-      → Kept k (statements.statement_of named numbers (roll-RawStmt x)) (bodies.statement_bodies (roll-RawStmt x))
-  statement_is k x h =
-      subst₂ (Kept k)
-      (sym (fold-roll-RawStmt Stmt Stmt Stmt Stmt Stmt Stmt (statements.declaration_step named numbers) (statements.form_step named numbers) (statements.simple_step named numbers) (statements.block_step named numbers) (statements.procedure_step named numbers) (statements.statement_step named numbers) x))
-      (sym (para-roll-RawStmt Bodies Bodies Bodies Bodies Bodies Bodies bodies.declaration_step bodies.form_step bodies.simple_step bodies.block_step bodies.procedure_step bodies.statement_step x)) h
-
-  pub declaration_is : (k : ℕ) (y : RawDecl) (x : RawDecl-F RawDecl RawForm RawSimple RawBlock RawProc RawStmt) → roll-RawDecl x ≡ y
-      → BodiesWithin k (bodies.declaration_step (map-RawDecl RawDecl RawForm RawSimple RawBlock RawProc RawStmt (RawDecl × Bodies) (RawForm × Bodies) (RawSimple × Bodies) (RawBlock × Bodies) (RawProc × Bodies) (RawStmt × Bodies) (λ z. (z, bodies.declaration_bodies z)) (λ z. (z, bodies.form_bodies z)) (λ z. (z, bodies.simple_bodies z)) (λ z. (z, bodies.block_bodies z)) (λ z. (z, bodies.procedure_bodies z)) (λ z. (z, bodies.statement_bodies z)) x))
-      → BodiesWithin k (bodies.declaration_bodies y)
-  declaration_is k y x e h =
-      subst (BodiesWithin k) (sym (ap bodies.declaration_bodies (sym e) ∙ para-roll-RawDecl Bodies Bodies Bodies Bodies Bodies Bodies bodies.declaration_step bodies.form_step bodies.simple_step bodies.block_step bodies.procedure_step bodies.statement_step x)) h
-
-  pub procedure_is : (k : ℕ) (x : RawProc-F RawDecl RawForm RawSimple RawBlock RawProc RawStmt) → Kept k (statements.statement_of named numbers x.body) (bodies.statement_bodies x.body) → BodiesWithin k (bodies.procedure_bodies (roll-RawProc x))
-  procedure_is k x h =
-      subst (BodiesWithin k) (sym (para-roll-RawProc Bodies Bodies Bodies Bodies Bodies Bodies bodies.declaration_step bodies.form_step bodies.simple_step bodies.block_step bodies.procedure_step bodies.statement_step x)) (h.depth, h.bodies)
+  pub procedure_is : (k : ℕ) (x : ProcLayer) → Kept k (statements.statement_of named numbers x.body) (bodies.statement_bodies x.body) → BodiesWithin k (bodies.procedure_bodies (roll-RawProc x))
+  procedure_is k x h = subst (BodiesWithin k) (sym ((walk_rolls bodies_walk).proc x)) (h.depth, h.bodies)

@@ -297,11 +297,14 @@ module _ (named : Named) (numbers : Numbers) (few : FewParameters named) where
 
   -- ---- operands of one rule
 
+  operands_made : {X O M : Type 0} (P : M → Type 0) (made_of : X → M) (x : X) (rest : List (O × X)) → P (made_of x) → Each (λ z. Unit {0} × P (made_of z.1)) rest → Each P (map made_of (extended (x ∷ [], []) rest).0)
+  operands_made P made_of x rest h k = each_map made_of P (extended (x ∷ [], []) rest).0 (each_operand (λ y. P (made_of y)) (x ∷ []) [] rest (h, tt) k)
+
   masks : (n : ℕ) (x : RawPrim) (rest : List (Position × RawPrim)) → Holds n a_prim x → Holds n (a_list (a_pair a_position a_prim)) rest → Holds n a_mask (mask_tree (extended (x ∷ [], []) rest))
   masks n x rest h k =
       let xs : List RawPrim = (extended (x ∷ [], []) rest).0 in
       let os : List Position = (extended (x ∷ [], []) rest).1 in
-      let parts = each_map (made.prim_made named numbers) (Shallow (primary_words n)) xs (each_operand (λ y. Shallow (primary_words n) (made.prim_made named numbers y)) (x ∷ []) [] rest (h, tt) k) in
+      let parts = operands_made (Shallow (primary_words n)) (made.prim_made named numbers) x rest h k in
       subst (Shallow (mask_words n)) (sym (fold-roll-RawMask Made Made Placed Cond Cond Cond Made Made Made Made Made Made (made.expression_step named numbers) (made.primary_step named numbers) (made.reference_step named numbers) (made.conjunction_step named numbers) (made.comparison_step named numbers) (made.condition_step named numbers) (made.differ_step named numbers) (made.mask_step named numbers) (made.prim_step named numbers) (made.sum_step named numbers) (made.term_step named numbers) (made.union_step named numbers) (record { operands = xs; operators = os })))
       (logic_shallow logic_op.Mask (primary_words n) (map (made.prim_made named numbers) xs) parts)
 
@@ -309,7 +312,7 @@ module _ (named : Named) (numbers : Numbers) (few : FewParameters named) where
   unions n x rest h k =
       let xs : List RawMask = (extended (x ∷ [], []) rest).0 in
       let os : List Position = (extended (x ∷ [], []) rest).1 in
-      let parts = each_map (made.mask_made named numbers) (Shallow (mask_words n)) xs (each_operand (λ y. Shallow (mask_words n) (made.mask_made named numbers y)) (x ∷ []) [] rest (h, tt) k) in
+      let parts = operands_made (Shallow (mask_words n)) (made.mask_made named numbers) x rest h k in
       subst (Shallow (union_words n)) (sym (fold-roll-RawUnion Made Made Placed Cond Cond Cond Made Made Made Made Made Made (made.expression_step named numbers) (made.primary_step named numbers) (made.reference_step named numbers) (made.conjunction_step named numbers) (made.comparison_step named numbers) (made.condition_step named numbers) (made.differ_step named numbers) (made.mask_step named numbers) (made.prim_step named numbers) (made.sum_step named numbers) (made.term_step named numbers) (made.union_step named numbers) (record { operands = xs; operators = os })))
       (logic_shallow logic_op.Union (mask_words n) (map (made.mask_made named numbers) xs) parts)
 
@@ -317,7 +320,7 @@ module _ (named : Named) (numbers : Numbers) (few : FewParameters named) where
   differs n x rest h k =
       let xs : List RawUnion = (extended (x ∷ [], []) rest).0 in
       let os : List Position = (extended (x ∷ [], []) rest).1 in
-      let parts = each_map (made.union_made named numbers) (Shallow (union_words n)) xs (each_operand (λ y. Shallow (union_words n) (made.union_made named numbers y)) (x ∷ []) [] rest (h, tt) k) in
+      let parts = operands_made (Shallow (union_words n)) (made.union_made named numbers) x rest h k in
       subst (Shallow (differ_words n)) (sym (fold-roll-RawDiffer Made Made Placed Cond Cond Cond Made Made Made Made Made Made (made.expression_step named numbers) (made.primary_step named numbers) (made.reference_step named numbers) (made.conjunction_step named numbers) (made.comparison_step named numbers) (made.condition_step named numbers) (made.differ_step named numbers) (made.mask_step named numbers) (made.prim_step named numbers) (made.sum_step named numbers) (made.term_step named numbers) (made.union_step named numbers) (record { operands = xs; operators = os })))
       (logic_shallow logic_op.Differ (union_words n) (map (made.union_made named numbers) xs) parts)
 
@@ -325,7 +328,7 @@ module _ (named : Named) (numbers : Numbers) (few : FewParameters named) where
   terms n x rest h k =
       let xs : List RawDiffer = (extended (x ∷ [], []) rest).0 in
       let os : List RawFactorSign = (extended (x ∷ [], []) rest).1 in
-      let parts = each_map (made.differ_made named numbers) (Shallow (differ_words n)) xs (each_operand (λ y. Shallow (differ_words n) (made.differ_made named numbers y)) (x ∷ []) [] rest (h, tt) k) in
+      let parts = operands_made (Shallow (differ_words n)) (made.differ_made named numbers) x rest h k in
       subst (Shallow (term_words n)) (sym (fold-roll-RawTerm Made Made Placed Cond Cond Cond Made Made Made Made Made Made (made.expression_step named numbers) (made.primary_step named numbers) (made.reference_step named numbers) (made.conjunction_step named numbers) (made.comparison_step named numbers) (made.condition_step named numbers) (made.differ_step named numbers) (made.mask_step named numbers) (made.prim_step named numbers) (made.sum_step named numbers) (made.term_step named numbers) (made.union_step named numbers) (record { operands = xs; operators = os })))
       (term_shallow (differ_words n) (map (made.differ_made named numbers) xs) os parts)
 
@@ -333,7 +336,7 @@ module _ (named : Named) (numbers : Numbers) (few : FewParameters named) where
   cands n x rest h k =
       let xs : List RawCmp = (extended (x ∷ [], []) rest).0 in
       let os : List Position = (extended (x ∷ [], []) rest).1 in
-      let parts = each_map (made.comparison_made named numbers) (ShallowTest (test_words n)) xs (each_operand (λ y. ShallowTest (test_words n) (made.comparison_made named numbers y)) (x ∷ []) [] rest (h, tt) k) in
+      let parts = operands_made (ShallowTest (test_words n)) (made.comparison_made named numbers) x rest h k in
       subst (ShallowTest (test_words n)) (sym (fold-roll-RawCand Made Made Placed Cond Cond Cond Made Made Made Made Made Made (made.expression_step named numbers) (made.primary_step named numbers) (made.reference_step named numbers) (made.conjunction_step named numbers) (made.comparison_step named numbers) (made.condition_step named numbers) (made.differ_step named numbers) (made.mask_step named numbers) (made.prim_step named numbers) (made.sum_step named numbers) (made.term_step named numbers) (made.union_step named numbers) (record { operands = xs; operators = os })))
       (all_shallow (test_words n) (map (made.comparison_made named numbers) xs) (omega arith) parts)
 
@@ -341,7 +344,7 @@ module _ (named : Named) (numbers : Numbers) (few : FewParameters named) where
   conds n x rest h k =
       let xs : List RawCand = (extended (x ∷ [], []) rest).0 in
       let os : List Position = (extended (x ∷ [], []) rest).1 in
-      let parts = each_map (made.conjunction_made named numbers) (ShallowTest (test_words n)) xs (each_operand (λ y. ShallowTest (test_words n) (made.conjunction_made named numbers y)) (x ∷ []) [] rest (h, tt) k) in
+      let parts = operands_made (ShallowTest (test_words n)) (made.conjunction_made named numbers) x rest h k in
       subst (ShallowTest (test_words n)) (sym (fold-roll-RawCond Made Made Placed Cond Cond Cond Made Made Made Made Made Made (made.expression_step named numbers) (made.primary_step named numbers) (made.reference_step named numbers) (made.conjunction_step named numbers) (made.comparison_step named numbers) (made.condition_step named numbers) (made.differ_step named numbers) (made.mask_step named numbers) (made.prim_step named numbers) (made.sum_step named numbers) (made.term_step named numbers) (made.union_step named numbers) (record { operands = xs; operators = os })))
       (any_shallow (test_words n) (map (made.conjunction_made named numbers) xs) (omega arith) parts)
 
@@ -349,7 +352,7 @@ module _ (named : Named) (numbers : Numbers) (few : FewParameters named) where
   sums n sign x rest h k =
       let xs : List RawTerm = (extended (x ∷ [], []) rest).0 in
       let os : List RawSign = (extended (x ∷ [], []) rest).1 in
-      let parts = each_map (made.term_made named numbers) (Shallow (term_words n)) xs (each_operand (λ y. Shallow (term_words n) (made.term_made named numbers y)) (x ∷ []) [] rest (h, tt) k) in
+      let parts = operands_made (Shallow (term_words n)) (made.term_made named numbers) x rest h k in
       subst (Shallow (sum_words n)) (sym (fold-roll-RawSum Made Made Placed Cond Cond Cond Made Made Made Made Made Made (made.expression_step named numbers) (made.primary_step named numbers) (made.reference_step named numbers) (made.conjunction_step named numbers) (made.comparison_step named numbers) (made.condition_step named numbers) (made.differ_step named numbers) (made.mask_step named numbers) (made.prim_step named numbers) (made.sum_step named numbers) (made.term_step named numbers) (made.union_step named numbers) (record { sign = sign; operands = xs; operators = os })))
       (sum_shallow (term_words n) sign (map (made.term_made named numbers) xs) os parts)
 

@@ -142,47 +142,33 @@ term_held x e q = then_keeps (term_rows x) differ_rows expression_rows (sole (ou
 sum_held : Keeps sum_rows expression_rows bracket_sum
 sum_held s e q = then_keeps (sum_rows s) term_rows expression_rows (sole_term s) bracket_term e (sole_term_keeps s) term_held q
 
--- ---- operands: the first, and more behind their operators
+-- ---- operands: the first, or those in its bracket, and more behind their operators
 
-mask_begun : (x : RawPrim) → joined (map prim_rows (mask_start x).0) ≡ prim_rows x
-mask_begun x =
-    first_keeps prim_rows mask_rows (λ m. ((out-RawMask m).operands, (out-RawMask m).operators)) (bracket_prim x >>- as_mask) x
-    (λ m e. then_keeps (prim_rows x) expression_rows mask_rows (bracket_prim x) as_mask m (prim_held x) as_mask_keeps e) mask_layer
+behind_kept : {X T O : Type 0} (of : X → Rows) (whole : T → Rows) (parts : T → Operands X O) (narrow : X → Option RawExpr) (taken : RawExpr → Option T) → Keeps of expression_rows narrow → Keeps expression_rows whole taken → ((t : T) → whole t ≡ joined (map of (parts t).0)) → (x : X) (more : List (O × X)) → joined (map of (extended (first_of parts (narrow x >>- taken) x) more).0) ≡ of x ++ joined (map (λ z. of z.1) more)
+behind_kept of whole parts narrow taken h k is x more =
+    joined_extended of (first_of parts (narrow x >>- taken) x) more
+    ∙ ap (λ (rs : Rows). rs ++ joined (map (λ z. of z.1) more))
+    (first_keeps of whole parts (narrow x >>- taken) x (λ t e. then_keeps (of x) expression_rows whole (narrow x) taken t (h x) k e) is)
 
 pub mask_kept : (x : RawPrim) (more : List (Position × RawPrim)) → mask_rows (mask_tree (extended (mask_start x) more)) ≡ prim_rows x ++ joined (map (λ z. prim_rows z.1) more)
 mask_kept x more =
-    let ops : Operands RawPrim Position = extended (mask_start x) more in
-    mask_made ops.0 ops.1 ∙ joined_extended prim_rows (mask_start x) more ∙ ap (λ (rs : Rows). rs ++ joined (map (λ z. prim_rows z.1) more)) (mask_begun x)
-
-union_begun : (x : RawMask) → joined (map mask_rows (union_start x).0) ≡ mask_rows x
-union_begun x =
-    first_keeps mask_rows union_rows (λ m. ((out-RawUnion m).operands, (out-RawUnion m).operators)) (bracket_mask x >>- as_union) x
-    (λ m e. then_keeps (mask_rows x) expression_rows union_rows (bracket_mask x) as_union m (mask_held x) as_union_keeps e) union_layer
+    mask_made (extended (mask_start x) more).0 (extended (mask_start x) more).1
+    ∙ behind_kept prim_rows mask_rows (λ y. ((out-RawMask y).operands, (out-RawMask y).operators)) bracket_prim as_mask prim_held as_mask_keeps mask_layer x more
 
 pub union_kept : (x : RawMask) (more : List (Position × RawMask)) → union_rows (union_tree (extended (union_start x) more)) ≡ mask_rows x ++ joined (map (λ z. mask_rows z.1) more)
 union_kept x more =
-    let ops : Operands RawMask Position = extended (union_start x) more in
-    union_made ops.0 ops.1 ∙ joined_extended mask_rows (union_start x) more ∙ ap (λ (rs : Rows). rs ++ joined (map (λ z. mask_rows z.1) more)) (union_begun x)
-
-differ_begun : (x : RawUnion) → joined (map union_rows (differ_start x).0) ≡ union_rows x
-differ_begun x =
-    first_keeps union_rows differ_rows (λ m. ((out-RawDiffer m).operands, (out-RawDiffer m).operators)) (bracket_union x >>- as_differ) x
-    (λ m e. then_keeps (union_rows x) expression_rows differ_rows (bracket_union x) as_differ m (union_held x) as_differ_keeps e) differ_layer
+    union_made (extended (union_start x) more).0 (extended (union_start x) more).1
+    ∙ behind_kept mask_rows union_rows (λ y. ((out-RawUnion y).operands, (out-RawUnion y).operators)) bracket_mask as_union mask_held as_union_keeps union_layer x more
 
 pub differ_kept : (x : RawUnion) (more : List (Position × RawUnion)) → differ_rows (differ_tree (extended (differ_start x) more)) ≡ union_rows x ++ joined (map (λ z. union_rows z.1) more)
 differ_kept x more =
-    let ops : Operands RawUnion Position = extended (differ_start x) more in
-    differ_made ops.0 ops.1 ∙ joined_extended union_rows (differ_start x) more ∙ ap (λ (rs : Rows). rs ++ joined (map (λ z. union_rows z.1) more)) (differ_begun x)
-
-term_begun : (x : RawDiffer) → joined (map differ_rows (term_start x).0) ≡ differ_rows x
-term_begun x =
-    first_keeps differ_rows term_rows (λ m. ((out-RawTerm m).operands, (out-RawTerm m).operators)) (bracket_differ x >>- as_term) x
-    (λ m e. then_keeps (differ_rows x) expression_rows term_rows (bracket_differ x) as_term m (differ_held x) as_term_keeps e) term_layer
+    differ_made (extended (differ_start x) more).0 (extended (differ_start x) more).1
+    ∙ behind_kept union_rows differ_rows (λ y. ((out-RawDiffer y).operands, (out-RawDiffer y).operators)) bracket_union as_differ union_held as_differ_keeps differ_layer x more
 
 pub term_kept : (x : RawDiffer) (more : List (RawFactorSign × RawDiffer)) → term_rows (term_tree (extended (term_start x) more)) ≡ differ_rows x ++ joined (map (λ z. differ_rows z.1) more)
 term_kept x more =
-    let ops : Operands RawDiffer RawFactorSign = extended (term_start x) more in
-    term_made ops.0 ops.1 ∙ joined_extended differ_rows (term_start x) more ∙ ap (λ (rs : Rows). rs ++ joined (map (λ z. differ_rows z.1) more)) (term_begun x)
+    term_made (extended (term_start x) more).0 (extended (term_start x) more).1
+    ∙ behind_kept differ_rows term_rows (λ y. ((out-RawTerm y).operands, (out-RawTerm y).operators)) bracket_differ as_term differ_held as_term_keeps term_layer x more
 
 -- ---- sums
 

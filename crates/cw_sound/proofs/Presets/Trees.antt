@@ -14,14 +14,13 @@ use Rattle.cw_tree.specs.declared.statement.RawFelem.{RawFelem}
 use Rattle.cw_tree.specs.declared.statement.RawFelem.TheVariants as felem
 use Rattle.cw_tree.specs.declared.statement.RawParam.{RawParam}
 use Rattle.cw_tree.specs.declared.statement.RawPtag.{RawPtag}
-use Rattle.cw_tree.specs.declared.statement.RawDecl.{RawDecl, RawDecl-F, roll-RawDecl, map-RawDecl, fold-roll-RawDecl}
-use Rattle.cw_tree.specs.declared.statement.RawForm.{RawForm, roll-RawForm, map-RawForm, fold-roll-RawForm}
-use Rattle.cw_tree.specs.declared.statement.RawSimple.{RawSimple, roll-RawSimple, map-RawSimple, fold-roll-RawSimple}
-use Rattle.cw_tree.specs.declared.statement.RawBlock.{RawBlock, fold-roll-RawBlock}
-use Rattle.cw_tree.specs.declared.statement.RawProc.{RawProc, fold-roll-RawProc}
-use Rattle.cw_tree.specs.declared.statement.RawStmt.{RawStmt, out-RawStmt, fold-roll-RawStmt, fold_out-RawStmt}
+use Rattle.cw_tree.specs.declared.statement.RawDecl.{RawDecl}
+use Rattle.cw_tree.specs.declared.statement.RawForm.{RawForm}
+use Rattle.cw_tree.specs.declared.statement.RawSimple.{RawSimple}
+use Rattle.cw_tree.specs.declared.statement.RawBlock.{RawBlock}
+use Rattle.cw_tree.specs.declared.statement.RawProc.{RawProc}
+use Rattle.cw_tree.specs.declared.statement.RawStmt.{RawStmt, out-RawStmt, fold_out-RawStmt}
 use Rattle.cw_tree.specs.declared.statement.RawDecl.TheOpen as layer
-use Rattle.cw_tree.specs.declared.statement.RawDecl.TheOpen.{RawForm-F, RawSimple-F}
 use Rattle.cw_tree.specs.declared.statement.RawDecl.TheVariants as decl_tree
 use Rattle.cw_tree.specs.declared.statement.RawForm.TheVariants as form_tree
 use Rattle.cw_tree.specs.declared.statement.RawSimple.TheVariants as simple_tree
@@ -49,19 +48,13 @@ use Rattle.cw_sound.proofs.Items.Fitting.{RowsFit, fit-texts}
 use Rattle.cw_sound.proofs.Items.FittingExpressions.{expression_fits, condition_fits, reference_fits, arguments_fit}
 use Rattle.cw_sound.proofs.Presets.Small.{RowsSmall, rows_append}
 use Rattle.cw_sound.proofs.Presets.Frames.{Told, Held, DataHeld, texts_held}
+use Rattle.cw_sound.proofs.Statements.Layers.{Known}
+use Rattle.cw_sound.proofs.Statements.Folds.{things_pass, rows_pass, judged_pass}
+use Rattle.cw_sound.proofs.Statements.Passes.{layered, rolls, LayersKnown, Rolled}
 use Rattle.cw_sound.proofs.Statements.Keeping.{elements_keep, all_keep, declaration_keeps, simple_keeps, statement_keeps}
 use Rattle.cw_sound.proofs.Expressions.Judging.{Keeps, keeps_fine, keeps_both, both_free}
 use Rattle.cw_sound.proofs.Items.Keeping.{keeps_declared}
 use Rattle.cw_macro.specs.Premises.{Each}
-
-abbrev DeclLayer : Type 0
-DeclLayer = RawDecl-F RawDecl RawForm RawSimple RawBlock RawProc RawStmt
-
-abbrev FormLayer : Type 0
-FormLayer = RawForm-F RawDecl RawForm RawSimple RawBlock RawProc RawStmt
-
-abbrev SimpleLayer : Type 0
-SimpleLayer = RawSimple-F RawDecl RawForm RawSimple RawBlock RawProc RawStmt
 
 module _ (named : Named) (sites : List (Row Site)) where
   -- where these things are told and the rules have no fault, these rows are held apart from frames
@@ -106,86 +99,76 @@ module _ (named : Named) (sites : List (Row Site)) where
 
   -- ---- layers
 
-  decl_rolled : (l : DeclLayer)
-      → Part (stores.declaration_step named (map-RawDecl RawDecl RawForm RawSimple RawBlock RawProc RawStmt Things Things Things Things Things Things (stores.declaration_things named) (stores.form_things named) (stores.simple_things named) (stores.block_things named) (stores.procedure_things named) (stores.statement_things named) l))
-      (holds.declaration_step (map-RawDecl RawDecl RawForm RawSimple RawBlock RawProc RawStmt Rows Rows Rows Rows Rows Rows holds.declaration_rows holds.form_rows holds.simple_rows holds.block_rows holds.procedure_rows holds.statement_rows l))
-      (judges.declaration_step named sites (map-RawDecl RawDecl RawForm RawSimple RawBlock RawProc RawStmt Judgement Judgement Judgement Judgement Judgement Judgement (judges.declaration_judged named sites) (judges.form_judged named sites) (judges.simple_judged named sites) (judges.block_judged named sites) (judges.procedure_judged named sites) (judges.statement_judged named sites) l))
-      → DeclHeld (roll-RawDecl l)
-  decl_rolled l h =
-      moved (sym (fold-roll-RawDecl Things Things Things Things Things Things (stores.declaration_step named) (stores.form_step named) (stores.simple_step named) (stores.block_step named) (stores.procedure_step named) (stores.statement_step named) l))
-      (sym (fold-roll-RawDecl Rows Rows Rows Rows Rows Rows holds.declaration_step holds.form_step holds.simple_step holds.block_step holds.procedure_step holds.statement_step l))
-      (sym (fold-roll-RawDecl Judgement Judgement Judgement Judgement Judgement Judgement (judges.declaration_step named sites) (judges.form_step named sites) (judges.simple_step named sites) (judges.block_step named sites) (judges.procedure_step named sites) (judges.statement_step named sites) l))
-      h
+  abbrev held : Known
+  held = record { Decl = DeclHeld; Form = FormHeld; Simple = SimpleHeld; Block = BlockHeld; Proc = ProcHeld; Stmt = StmtHeld }
 
-  form_rolled : (l : FormLayer)
-      → Part (stores.form_step named (map-RawForm RawDecl RawForm RawSimple RawBlock RawProc RawStmt Things Things Things Things Things Things (stores.declaration_things named) (stores.form_things named) (stores.simple_things named) (stores.block_things named) (stores.procedure_things named) (stores.statement_things named) l))
-      (holds.form_step (map-RawForm RawDecl RawForm RawSimple RawBlock RawProc RawStmt Rows Rows Rows Rows Rows Rows holds.declaration_rows holds.form_rows holds.simple_rows holds.block_rows holds.procedure_rows holds.statement_rows l))
-      (judges.form_step named sites (map-RawForm RawDecl RawForm RawSimple RawBlock RawProc RawStmt Judgement Judgement Judgement Judgement Judgement Judgement (judges.declaration_judged named sites) (judges.form_judged named sites) (judges.simple_judged named sites) (judges.block_judged named sites) (judges.procedure_judged named sites) (judges.statement_judged named sites) l))
-      → FormHeld (roll-RawForm l)
-  form_rolled l h =
-      moved (sym (fold-roll-RawForm Things Things Things Things Things Things (stores.declaration_step named) (stores.form_step named) (stores.simple_step named) (stores.block_step named) (stores.procedure_step named) (stores.statement_step named) l))
-      (sym (fold-roll-RawForm Rows Rows Rows Rows Rows Rows holds.declaration_step holds.form_step holds.simple_step holds.block_step holds.procedure_step holds.statement_step l))
-      (sym (fold-roll-RawForm Judgement Judgement Judgement Judgement Judgement Judgement (judges.declaration_step named sites) (judges.form_step named sites) (judges.simple_step named sites) (judges.block_step named sites) (judges.procedure_step named sites) (judges.statement_step named sites) l))
-      h
+  abbrev layers_held : LayersKnown
+  layers_held = record {
+    Decl = λ y. Part ((layered (things_pass named)).decl y) ((layered rows_pass).decl y) ((layered (judged_pass named sites)).decl y);
+    Form = λ y. Part ((layered (things_pass named)).form y) ((layered rows_pass).form y) ((layered (judged_pass named sites)).form y);
+    Simple = λ y. Part ((layered (things_pass named)).simple y) ((layered rows_pass).simple y) ((layered (judged_pass named sites)).simple y);
+    Block = λ y. Part ((layered (things_pass named)).block y) ((layered rows_pass).block y) ((layered (judged_pass named sites)).block y);
+    Proc = λ y. Part ((layered (things_pass named)).proc y) ((layered rows_pass).proc y) ((layered (judged_pass named sites)).proc y);
+    Stmt = λ y. Part ((layered (things_pass named)).stmt y) ((layered rows_pass).stmt y) ((layered (judged_pass named sites)).stmt y);
+  }
 
-  simple_rolled : (l : SimpleLayer)
-      → Part (stores.simple_step named (map-RawSimple RawDecl RawForm RawSimple RawBlock RawProc RawStmt Things Things Things Things Things Things (stores.declaration_things named) (stores.form_things named) (stores.simple_things named) (stores.block_things named) (stores.procedure_things named) (stores.statement_things named) l))
-      (holds.simple_step (map-RawSimple RawDecl RawForm RawSimple RawBlock RawProc RawStmt Rows Rows Rows Rows Rows Rows holds.declaration_rows holds.form_rows holds.simple_rows holds.block_rows holds.procedure_rows holds.statement_rows l))
-      (judges.simple_step named sites (map-RawSimple RawDecl RawForm RawSimple RawBlock RawProc RawStmt Judgement Judgement Judgement Judgement Judgement Judgement (judges.declaration_judged named sites) (judges.form_judged named sites) (judges.simple_judged named sites) (judges.block_judged named sites) (judges.procedure_judged named sites) (judges.statement_judged named sites) l))
-      → SimpleHeld (roll-RawSimple l)
-  simple_rolled l h =
-      moved (sym (fold-roll-RawSimple Things Things Things Things Things Things (stores.declaration_step named) (stores.form_step named) (stores.simple_step named) (stores.block_step named) (stores.procedure_step named) (stores.statement_step named) l))
-      (sym (fold-roll-RawSimple Rows Rows Rows Rows Rows Rows holds.declaration_step holds.form_step holds.simple_step holds.block_step holds.procedure_step holds.statement_step l))
-      (sym (fold-roll-RawSimple Judgement Judgement Judgement Judgement Judgement Judgement (judges.declaration_step named sites) (judges.form_step named sites) (judges.simple_step named sites) (judges.block_step named sites) (judges.procedure_step named sites) (judges.statement_step named sites) l))
-      h
+  rolled : Rolled held layers_held
+  rolled = record {
+    decl = λ y. moved (sym ((rolls (things_pass named)).decl y)) (sym ((rolls rows_pass).decl y)) (sym ((rolls (judged_pass named sites)).decl y));
+    form = λ y. moved (sym ((rolls (things_pass named)).form y)) (sym ((rolls rows_pass).form y)) (sym ((rolls (judged_pass named sites)).form y));
+    simple = λ y. moved (sym ((rolls (things_pass named)).simple y)) (sym ((rolls rows_pass).simple y)) (sym ((rolls (judged_pass named sites)).simple y));
+    block = λ y. moved (sym ((rolls (things_pass named)).block y)) (sym ((rolls rows_pass).block y)) (sym ((rolls (judged_pass named sites)).block y));
+    proc = λ y. moved (sym ((rolls (things_pass named)).proc y)) (sym ((rolls rows_pass).proc y)) (sym ((rolls (judged_pass named sites)).proc y));
+    stmt = λ y. moved (sym ((rolls (things_pass named)).stmt y)) (sym ((rolls rows_pass).stmt y)) (sym ((rolls (judged_pass named sites)).stmt y));
+  }
 
   -- ---- simple statements
 
   pub empty_held : SimpleHeld simple_tree.Empty
-  empty_held = subst SimpleHeld simple_tree.rolls-Empty (simple_rolled layer.Empty (nothing fine))
+  empty_held = subst SimpleHeld simple_tree.rolls-Empty (rolled.simple layer.Empty (nothing fine))
 
   pub assign_held : (r : RawRef) (x : RawExpr) → RowsSmall (reference_rows r) → RowsSmall (expression_rows x) → SimpleHeld (simple_tree.Assign r x)
   assign_held r x h k =
       subst SimpleHeld (simple_tree.rolls-Assign r x)
-      (simple_rolled (layer.Assign r x) (λ o free told.
+      (rolled.simple (layer.Assign r x) (λ o free told.
       texts_held sites o (reference_uses r reading.Target ++ expression_uses x reading.Value) (reference_rows r ++ expression_rows x)
       (fit-texts o (reference_uses r reading.Target) (expression_uses x reading.Value) (reference_rows r) (expression_rows x) (reference_fits r o reading.Target) (expression_fits x o reading.Value)) (rows_append (reference_rows r) (expression_rows x) h k) told))
 
   pub assign_bits_held : (z : RawBits) (r : RawRef) (x : RawExpr) → RowsSmall (reference_rows r) → RowsSmall (expression_rows x) → SimpleHeld (simple_tree.AssignBits z r x)
   assign_bits_held z r x h k =
       subst SimpleHeld (simple_tree.rolls-AssignBits z r x)
-      (simple_rolled (layer.AssignBits z r x) (λ o free told.
+      (rolled.simple (layer.AssignBits z r x) (λ o free told.
       texts_held sites o (reference_uses r reading.Whole ++ expression_uses x reading.Value) (reference_rows r ++ expression_rows x)
       (fit-texts o (reference_uses r reading.Whole) (expression_uses x reading.Value) (reference_rows r) (expression_rows x) (reference_fits r o reading.Whole) (expression_fits x o reading.Value)) (rows_append (reference_rows r) (expression_rows x) h k) told))
 
   pub goto_held : (at : Position) (f : RawName) → SimpleHeld (simple_tree.Goto at f)
-  goto_held at f = subst SimpleHeld (simple_tree.rolls-Goto at f) (simple_rolled (layer.Goto at f) (nothing fine))
+  goto_held at f = subst SimpleHeld (simple_tree.rolls-Goto at f) (rolled.simple (layer.Goto at f) (nothing fine))
 
   pub goto_switch_held : (at : Position) (f : RawName) (x : RawExpr) → RowsSmall (expression_rows x) → SimpleHeld (simple_tree.GotoSwitch at f x)
   goto_switch_held at f x h =
-      subst SimpleHeld (simple_tree.rolls-GotoSwitch at f x) (simple_rolled (layer.GotoSwitch at f x) (λ o free told. texts_held sites o (expression_uses x reading.Value) (expression_rows x) (expression_fits x o reading.Value) h told))
+      subst SimpleHeld (simple_tree.rolls-GotoSwitch at f x) (rolled.simple (layer.GotoSwitch at f x) (λ o free told. texts_held sites o (expression_uses x reading.Value) (expression_rows x) (expression_fits x o reading.Value) h told))
 
   pub call_held : (f : RawName) (xs : List RawExpr) → RowsSmall (argument_rows xs) → SimpleHeld (simple_tree.Call f xs)
-  call_held f xs h = subst SimpleHeld (simple_tree.rolls-Call f xs) (simple_rolled (layer.Call f xs) (λ o free told. texts_held sites o (argument_uses xs) (argument_rows xs) (arguments_fit xs o) h told))
+  call_held f xs h = subst SimpleHeld (simple_tree.rolls-Call f xs) (rolled.simple (layer.Call f xs) (λ o free told. texts_held sites o (argument_uses xs) (argument_rows xs) (arguments_fit xs o) h told))
 
   pub answer_held : (at : Position) (x : RawExpr) → RowsSmall (expression_rows x) → SimpleHeld (simple_tree.Answer at x)
   answer_held at x h =
-      subst SimpleHeld (simple_tree.rolls-Answer at x) (simple_rolled (layer.Answer at x) (λ o free told. texts_held sites o (expression_uses x reading.Value) (expression_rows x) (expression_fits x o reading.Value) h told))
+      subst SimpleHeld (simple_tree.rolls-Answer at x) (rolled.simple (layer.Answer at x) (λ o free told. texts_held sites o (expression_uses x reading.Value) (expression_rows x) (expression_fits x o reading.Value) h told))
 
   pub inner_held : (b : RawBlock) → BlockHeld b → SimpleHeld (simple_tree.Block b)
-  inner_held b h = subst SimpleHeld (simple_tree.rolls-Block b) (simple_rolled (layer.Block b) h)
+  inner_held b h = subst SimpleHeld (simple_tree.rolls-Block b) (rolled.simple (layer.Block b) h)
 
   -- ---- forms
 
   simple_form_held : (s : RawSimple) → SimpleHeld s → FormHeld (form_tree.Simple s)
-  simple_form_held s h = subst FormHeld (form_tree.rolls-Simple s) (form_rolled (layer.Simple s) h)
+  simple_form_held s h = subst FormHeld (form_tree.rolls-Simple s) (rolled.form (layer.Simple s) h)
 
   pub if_held : (at : Position) (c : RawCond) (ls : List RawName) (s : RawSimple) → RowsSmall (condition_rows c) → SimpleHeld s → FormHeld (form_tree.If at c ls s None)
   if_held at c ls s h k =
       let things = stores.simple_things named s in
       let judged = judges.simple_judged named sites s in
       subst FormHeld (form_tree.rolls-If at c ls s None)
-      (form_rolled (layer.If at c ls s None)
+      (rolled.form (layer.If at c ls s None)
       (two (λ o. texts o (condition_uses c reading.Value)) (λ o. things o ++ []) (condition_rows c) (holds.simple_rows s ++ []) (condition_judged named c) (both judged fine) (keeps_both (simple_keeps named sites s) keeps_fine)
       (strings (condition_uses c reading.Value) (condition_rows c) (condition_judged named c) (λ o. condition_fits c o reading.Value) h) (two things (λ o. []) (holds.simple_rows s) [] judged fine keeps_fine k (nothing fine))))
 
@@ -196,7 +179,7 @@ module _ (named : Named) (sites : List (Row Site)) where
       let judged = judges.simple_judged named sites s in
       let last = judges.statement_judged named sites x in
       subst FormHeld (form_tree.rolls-If at c ls s (Some x))
-      (form_rolled (layer.If at c ls s (Some x))
+      (rolled.form (layer.If at c ls s (Some x))
       (two (λ o. texts o (condition_uses c reading.Value)) (λ o. things o ++ more o) (condition_rows c) (holds.simple_rows s ++ holds.statement_rows x) (condition_judged named c) (both judged last) (keeps_both (simple_keeps named sites s) (statement_keeps named sites x))
       (strings (condition_uses c reading.Value) (condition_rows c) (condition_judged named c) (λ o. condition_fits c o reading.Value) h) (two things more (holds.simple_rows s) (holds.statement_rows x) judged last (statement_keeps named sites x) k l)))
 
@@ -225,7 +208,7 @@ module _ (named : Named) (sites : List (Row Site)) where
       let last = judges.statement_judged named sites s in
       let more = stores.statement_things named s in
       subst FormHeld (form_tree.rolls-For at r xs s)
-      (form_rolled (layer.For at r xs s) (λ o free told.
+      (rolled.form (layer.For at r xs s) (λ o free told.
       two (λ o. texts o (reference_uses r reading.Whole)) (λ o. felems_things xs o ++ more o) (reference_rows r) (felems_rows xs ++ holds.statement_rows s) (reference_judged named r) (both j last) (keeps_both (elements_keep named (scale_of named r) xs) (statement_keeps named sites s))
       (strings (reference_uses r reading.Whole) (reference_rows r) (reference_judged named r) (λ o. reference_fits r o reading.Whole) h)
       (two (felems_things xs) more (felems_rows xs) (holds.statement_rows s) j last (statement_keeps named sites s) (λ o free told. felems_held xs o k told) l) o free told.1))
@@ -233,11 +216,7 @@ module _ (named : Named) (sites : List (Row Site)) where
   -- ---- statements
 
   stmt_held : (ls : List RawName) (f : RawForm) → FormHeld f → StmtHeld (stmt_tree ls f)
-  stmt_held ls f h =
-      moved (sym (fold-roll-RawStmt Things Things Things Things Things Things (stores.declaration_step named) (stores.form_step named) (stores.simple_step named) (stores.block_step named) (stores.procedure_step named) (stores.statement_step named) (record { labels = ls; form = f })))
-      (sym (fold-roll-RawStmt Rows Rows Rows Rows Rows Rows holds.declaration_step holds.form_step holds.simple_step holds.block_step holds.procedure_step holds.statement_step (record { labels = ls; form = f })))
-      (sym (fold-roll-RawStmt Judgement Judgement Judgement Judgement Judgement Judgement (judges.declaration_step named sites) (judges.form_step named sites) (judges.simple_step named sites) (judges.block_step named sites) (judges.procedure_step named sites) (judges.statement_step named sites) (record { labels = ls; form = f })))
-      h
+  stmt_held ls f h = rolled.stmt (record { labels = ls; form = f }) h
 
   form_in : (s : RawStmt) → StmtHeld s → FormHeld (out-RawStmt s).form
   form_in s h =
@@ -258,28 +237,26 @@ module _ (named : Named) (sites : List (Row Site)) where
   -- ---- declarations
 
   pub data_held : (d : RawData) → DataHeld sites d → DeclHeld (decl_tree.Data d)
-  data_held d h = subst DeclHeld (decl_tree.rolls-Data d) (decl_rolled (layer.Data d) (λ o free told. h o None free told))
+  data_held d h = subst DeclHeld (decl_tree.rolls-Data d) (rolled.decl (layer.Data d) (λ o free told. h o None free told))
 
   on_base : (b : RawBase) (d : RawData) → overlaid_judged named sites b d None ≡ None → declared_judged sites d None ≡ None
   unfolding overlaid_judged
   on_base b d free = (both_free (base_judged named b) (declared_judged sites d) (keeps_declared sites d) free).1
 
   pub overlay_held : (at : Position) (b : RawBase) (d : RawData) → DataHeld sites d → DeclHeld (decl_tree.Overlay at b d)
-  overlay_held at b d h = subst DeclHeld (decl_tree.rolls-Overlay at b d) (decl_rolled (layer.Overlay at b d) (λ o free told. h o (Some (base_at named b)) (on_base b d free) told))
+  overlay_held at b d h = subst DeclHeld (decl_tree.rolls-Overlay at b d) (rolled.decl (layer.Overlay at b d) (λ o free told. h o (Some (base_at named b)) (on_base b d free) told))
 
   pub switch_held : (at : Position) (f : RawName) (xs : List RawName) → DeclHeld (decl_tree.Switch at f xs)
-  switch_held at f xs = subst DeclHeld (decl_tree.rolls-Switch at f xs) (decl_rolled (layer.Switch at f xs) (λ o free told. tt))
+  switch_held at f xs = subst DeclHeld (decl_tree.rolls-Switch at f xs) (rolled.decl (layer.Switch at f xs) (λ o free told. tt))
 
   pub proc_held : (t : Option RawType) (g : RawPtag) (f : RawName) (ps : List RawParam) (s : RawStmt) → StmtHeld s → DeclHeld (decl_tree.Proc (proc_tree t g f ps s))
   proc_held t g f ps s h =
       let v : Owner = record { token = f.at.token; recursive = is_recursive g } in
       let last = judges.statement_judged named sites s in
       let made : ProcHeld (proc_tree t g f ps s) =
-      moved (sym (fold-roll-RawProc Things Things Things Things Things Things (stores.declaration_step named) (stores.form_step named) (stores.simple_step named) (stores.block_step named) (stores.procedure_step named) (stores.statement_step named) (record { answer = t; tag = g; name = f; params = ps; body = s })))
-      (sym (fold-roll-RawProc Rows Rows Rows Rows Rows Rows holds.declaration_step holds.form_step holds.simple_step holds.block_step holds.procedure_step holds.statement_step (record { answer = t; tag = g; name = f; params = ps; body = s })))
-      (sym (fold-roll-RawProc Judgement Judgement Judgement Judgement Judgement Judgement (judges.declaration_step named sites) (judges.form_step named sites) (judges.simple_step named sites) (judges.block_step named sites) (judges.procedure_step named sites) (judges.statement_step named sites) (record { answer = t; tag = g; name = f; params = ps; body = s })))
+      rolled.proc (record { answer = t; tag = g; name = f; params = ps; body = s })
       (λ o free told. h (Some v) (both_free (heading_judged named t f ps) last (statement_keeps named sites s) free).1 (each-right (Told sites) (parameters_things (Some v) ps) (stores.statement_things named s (Some v)) told)) in
-      subst DeclHeld (decl_tree.rolls-Proc (proc_tree t g f ps s)) (decl_rolled (layer.Proc (proc_tree t g f ps s)) made)
+      subst DeclHeld (decl_tree.rolls-Proc (proc_tree t g f ps s)) (rolled.decl (layer.Proc (proc_tree t g f ps s)) made)
 
   -- ---- blocks
 
@@ -297,8 +274,6 @@ module _ (named : Named) (sites : List (Row Site)) where
 
   pub block_held : (t : Item) (ds : List RawDecl) (ss : List RawStmt) → Each DeclHeld ds → Each StmtHeld ss → BlockHeld (block_tree t ds ss)
   block_held t ds ss h k =
-      moved (sym (fold-roll-RawBlock Things Things Things Things Things Things (stores.declaration_step named) (stores.form_step named) (stores.simple_step named) (stores.block_step named) (stores.procedure_step named) (stores.statement_step named) (record { at = position t; decls = ds; stmts = ss })))
-      (sym (fold-roll-RawBlock Rows Rows Rows Rows Rows Rows holds.declaration_step holds.form_step holds.simple_step holds.block_step holds.procedure_step holds.statement_step (record { at = position t; decls = ds; stmts = ss })))
-      (sym (fold-roll-RawBlock Judgement Judgement Judgement Judgement Judgement Judgement (judges.declaration_step named sites) (judges.form_step named sites) (judges.simple_step named sites) (judges.block_step named sites) (judges.procedure_step named sites) (judges.statement_step named sites) (record { at = position t; decls = ds; stmts = ss })))
+      rolled.block (record { at = position t; decls = ds; stmts = ss })
       (two (stores.joined (map (stores.declaration_things named) ds)) (stores.joined (map (stores.statement_things named) ss)) (joined (map holds.declaration_rows ds)) (joined (map holds.statement_rows ss)) (all_judged (map (judges.declaration_judged named sites) ds)) (all_judged (map (judges.statement_judged named sites) ss))
       (all_keep (judges.statement_judged named sites) (statement_keeps named sites) ss) (decls_held ds h) (stmts_held ss k))

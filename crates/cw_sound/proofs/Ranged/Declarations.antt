@@ -43,11 +43,12 @@ use Rattle.cw_sound.proofs.Statements.Keeping.{elements_keep, declaration_keeps,
 use Rattle.cw_sound.proofs.Names.Parts.{Plain, no_switches}
 use Rattle.cw_sound.proofs.Names.PlainFacts.{plain_nothing, plain_both, plain_use, plain_loop}
 use Rattle.cw_sound.proofs.Names.ExpressionUses.{expression_plain, condition_plain, reference_plain, arguments_plain}
-use Rattle.cw_sound.proofs.Names.TreeParts.{switches_decl, switches_form, switches_simple, switches_block, switches_proc, switches_stmt, felems_plain}
+use Rattle.cw_sound.proofs.Names.TreeParts.{felems_plain}
 use Rattle.cw_sound.proofs.Ranged.Facts.{Ranged, nothing_ranged, both_ranged, plain_ranged, declared_ranged, specified_ranged, block_ranged, each_ranged, data_ranged, overlaid_ranged, parameters_ranged, answer_ranged}
 use Rattle.cw_sound.proofs.Items.Keeping.{keeps_params}
 use Rattle.cw_sound.proofs.Statements.Layers.{Known, WithDecl, WithStmt, DeclParts, FormParts, SimpleParts, BlockParts, ProcParts, StmtParts, decl_layer, form_layer, simple_layer, block_layer, proc_layer, stmt_layer, each_block}
-use Rattle.cw_sound.proofs.Statements.Folds.{facts_decl, facts_form, facts_simple, facts_block, facts_proc, facts_stmt, judged_decl, judged_form, judged_simple, judged_block, judged_proc, judged_stmt}
+use Rattle.cw_sound.proofs.Statements.Passes.{rolls}
+use Rattle.cw_sound.proofs.Statements.Folds.{facts_pass, judged_pass, switches_pass}
 
 -- ---- switches
 
@@ -126,12 +127,12 @@ module _ (named : Named) (sites : List (Row Site)) (numbers : Numbers) where
   known = record { Decl = Is_decl; Form = Is_form; Simple = Is_simple; Block = Is_block; Proc = Is_proc; Stmt = Is_stmt }
 
   decl_so : (y : DeclParts known) → Is_decl (roll-RawDecl (decl_layer known y))
-  decl_so (layer.Data d) = like (judged_decl named sites (layer.Data d)) (facts_decl (layer.Data d)) (switches_decl named numbers (layer.Data d)) (λ free. facts_fit (data_facts d) (data_ranged numbers sites d free))
+  decl_so (layer.Data d) = like ((rolls (judged_pass named sites)).decl (layer.Data d)) ((rolls facts_pass).decl (layer.Data d)) ((rolls (switches_pass named numbers)).decl (layer.Data d)) (λ free. facts_fit (data_facts d) (data_ranged numbers sites d free))
   decl_so (layer.Overlay at b d) =
-      like (judged_decl named sites (layer.Overlay at b d)) (facts_decl (layer.Overlay at b d)) (switches_decl named numbers (layer.Overlay at b d)) (λ free. facts_fit (base_facts b ++ data_facts d) (overlaid_ranged numbers named sites b d free))
+      like ((rolls (judged_pass named sites)).decl (layer.Overlay at b d)) ((rolls facts_pass).decl (layer.Overlay at b d)) ((rolls (switches_pass named numbers)).decl (layer.Overlay at b d)) (λ free. facts_fit (base_facts b ++ data_facts d) (overlaid_ranged numbers named sites b d free))
   decl_so (layer.Switch at n labels) =
-      like (judged_decl named sites (layer.Switch at n labels)) (facts_decl (layer.Switch at n labels)) (switches_decl named numbers (layer.Switch at n labels)) (λ free. switch_fit n labels (holds (nat_le (length labels) 255) rule.TooMany n.at free))
-  decl_so (layer.Proc p) = like (judged_decl named sites (layer.Proc p.0)) (facts_decl (layer.Proc p.0)) (switches_decl named numbers (layer.Proc p.0)) p.1
+      like ((rolls (judged_pass named sites)).decl (layer.Switch at n labels)) ((rolls facts_pass).decl (layer.Switch at n labels)) ((rolls (switches_pass named numbers)).decl (layer.Switch at n labels)) (λ free. switch_fit n labels (holds (nat_le (length labels) 255) rule.TooMany n.at free))
+  decl_so (layer.Proc p) = like ((rolls (judged_pass named sites)).decl (layer.Proc p.0)) ((rolls facts_pass).decl (layer.Proc p.0)) ((rolls (switches_pass named numbers)).decl (layer.Proc p.0)) p.1
 
   labels_ranged : (ns : List RawName) → Ranged numbers (each_declares kind.Label ns)
   labels_ranged ns = each_ranged numbers kind.Label ns refl
@@ -140,21 +141,21 @@ module _ (named : Named) (sites : List (Row Site)) (numbers : Numbers) where
   test_ranged test = plain_ranged numbers (condition_uses test reading.Value) (condition_plain numbers test reading.Value)
 
   form_so : (y : FormParts known) → Is_form (roll-RawForm (form_layer known y))
-  form_so (layer.Simple s) = like (judged_form named sites (layer.Simple s.0)) (facts_form (layer.Simple s.0)) (switches_form named numbers (layer.Simple s.0)) s.1
+  form_so (layer.Simple s) = like ((rolls (judged_pass named sites)).form (layer.Simple s.0)) ((rolls facts_pass).form (layer.Simple s.0)) ((rolls (switches_pass named numbers)).form (layer.Simple s.0)) s.1
   form_so (layer.If at test labels first None) =
-      like (judged_form named sites (layer.If at test labels first.0 None)) (facts_form (layer.If at test labels first.0 None)) (switches_form named numbers (layer.If at test labels first.0 None))
+      like ((rolls (judged_pass named sites)).form (layer.If at test labels first.0 None)) ((rolls facts_pass).form (layer.If at test labels first.0 None)) ((rolls (switches_pass named numbers)).form (layer.If at test labels first.0 None))
       (λ free.
       let calm = both_free (condition_judged named test) (both (simple_judged named sites first.0) fine) (keeps_both (simple_keeps named sites first.0) keeps_fine) free in
       let calms = both_free (simple_judged named sites first.0) fine keeps_fine calm.1 in
       behind (condition_uses test reading.Value) (test_ranged test) (behind (each_declares kind.Label labels) (labels_ranged labels) (both_fit (first.1 calms.0) nothing_fit)))
   form_so (layer.If at test labels first (Some second)) =
-      like (judged_form named sites (layer.If at test labels first.0 (Some second.0))) (facts_form (layer.If at test labels first.0 (Some second.0))) (switches_form named numbers (layer.If at test labels first.0 (Some second.0)))
+      like ((rolls (judged_pass named sites)).form (layer.If at test labels first.0 (Some second.0))) ((rolls facts_pass).form (layer.If at test labels first.0 (Some second.0))) ((rolls (switches_pass named numbers)).form (layer.If at test labels first.0 (Some second.0)))
       (λ free.
       let calm = both_free (condition_judged named test) (both (simple_judged named sites first.0) (statement_judged named sites second.0)) (keeps_both (simple_keeps named sites first.0) (statement_keeps named sites second.0)) free in
       let calms = both_free (simple_judged named sites first.0) (statement_judged named sites second.0) (statement_keeps named sites second.0) calm.1 in
       behind (condition_uses test reading.Value) (test_ranged test) (behind (each_declares kind.Label labels) (labels_ranged labels) (both_fit (first.1 calms.0) (second.1 calms.1))))
   form_so (layer.For at variable elems body) =
-      like (judged_form named sites (layer.For at variable elems body.0)) (facts_form (layer.For at variable elems body.0)) (switches_form named numbers (layer.For at variable elems body.0))
+      like ((rolls (judged_pass named sites)).form (layer.For at variable elems body.0)) ((rolls facts_pass).form (layer.For at variable elems body.0)) ((rolls (switches_pass named numbers)).form (layer.For at variable elems body.0))
       (λ free.
       let f : ℕ = scale_of named variable in
       let inside : Judgement = statement_judged named sites body.0 in
@@ -164,27 +165,27 @@ module _ (named : Named) (sites : List (Row Site)) (numbers : Numbers) where
       (behind (felems_facts elems) (plain_ranged numbers (felems_facts elems) (felems_plain named numbers elems)) (body.1 calms.1)))
 
   simple_so : (y : SimpleParts known) → Is_simple (roll-RawSimple (simple_layer known y))
-  simple_so layer.Empty = like (judged_simple named sites layer.Empty) (facts_simple layer.Empty) (switches_simple named numbers layer.Empty) (λ free. nothing_fit)
+  simple_so layer.Empty = like ((rolls (judged_pass named sites)).simple layer.Empty) ((rolls facts_pass).simple layer.Empty) ((rolls (switches_pass named numbers)).simple layer.Empty) (λ free. nothing_fit)
   simple_so (layer.Assign r e) =
-      like (judged_simple named sites (layer.Assign r e)) (facts_simple (layer.Assign r e)) (switches_simple named numbers (layer.Assign r e))
+      like ((rolls (judged_pass named sites)).simple (layer.Assign r e)) ((rolls facts_pass).simple (layer.Assign r e)) ((rolls (switches_pass named numbers)).simple (layer.Assign r e))
       (λ free. plain_fit (reference_uses r reading.Target ++ expression_uses e reading.Value) (plain_both numbers (reference_uses r reading.Target) (expression_uses e reading.Value) (reference_plain numbers r reading.Target) (expression_plain numbers e reading.Value)))
   simple_so (layer.AssignBits bits r e) =
-      like (judged_simple named sites (layer.AssignBits bits r e)) (facts_simple (layer.AssignBits bits r e)) (switches_simple named numbers (layer.AssignBits bits r e))
+      like ((rolls (judged_pass named sites)).simple (layer.AssignBits bits r e)) ((rolls facts_pass).simple (layer.AssignBits bits r e)) ((rolls (switches_pass named numbers)).simple (layer.AssignBits bits r e))
       (λ free. plain_fit (reference_uses r reading.Whole ++ expression_uses e reading.Value) (plain_both numbers (reference_uses r reading.Whole) (expression_uses e reading.Value) (reference_plain numbers r reading.Whole) (expression_plain numbers e reading.Value)))
   simple_so (layer.Goto at n) =
-      like (judged_simple named sites (layer.Goto at n)) (facts_simple (layer.Goto at n)) (switches_simple named numbers (layer.Goto at n))
+      like ((rolls (judged_pass named sites)).simple (layer.Goto at n)) ((rolls facts_pass).simple (layer.Goto at n)) ((rolls (switches_pass named numbers)).simple (layer.Goto at n))
       (λ free. plain_fit (fact.Uses (record { name = n; form = use_form.Goto }) ∷ []) (plain_use numbers (record { name = n; form = use_form.Goto }) [] (plain_nothing numbers)))
   simple_so (layer.GotoSwitch at n e) =
-      like (judged_simple named sites (layer.GotoSwitch at n e)) (facts_simple (layer.GotoSwitch at n e)) (switches_simple named numbers (layer.GotoSwitch at n e))
+      like ((rolls (judged_pass named sites)).simple (layer.GotoSwitch at n e)) ((rolls facts_pass).simple (layer.GotoSwitch at n e)) ((rolls (switches_pass named numbers)).simple (layer.GotoSwitch at n e))
       (λ free. plain_fit (fact.Uses (record { name = n; form = use_form.GotoSwitch }) ∷ expression_uses e reading.Value) (plain_use numbers (record { name = n; form = use_form.GotoSwitch }) (expression_uses e reading.Value) (expression_plain numbers e reading.Value)))
   simple_so (layer.Call n es) =
-      like (judged_simple named sites (layer.Call n es)) (facts_simple (layer.Call n es)) (switches_simple named numbers (layer.Call n es))
+      like ((rolls (judged_pass named sites)).simple (layer.Call n es)) ((rolls facts_pass).simple (layer.Call n es)) ((rolls (switches_pass named numbers)).simple (layer.Call n es))
       (λ free. plain_fit (fact.Uses (record { name = n; form = use_form.Call }) ∷ argument_uses es) (plain_use numbers (record { name = n; form = use_form.Call }) (argument_uses es) (arguments_plain numbers es)))
   simple_so (layer.Answer at e) =
-      like (judged_simple named sites (layer.Answer at e)) (facts_simple (layer.Answer at e)) (switches_simple named numbers (layer.Answer at e))
+      like ((rolls (judged_pass named sites)).simple (layer.Answer at e)) ((rolls facts_pass).simple (layer.Answer at e)) ((rolls (switches_pass named numbers)).simple (layer.Answer at e))
       (λ free.
       plain_fit (fact.Uses (record { name = answer_name at; form = use_form.Answer }) ∷ expression_uses e reading.Value) (plain_use numbers (record { name = answer_name at; form = use_form.Answer }) (expression_uses e reading.Value) (expression_plain numbers e reading.Value)))
-  simple_so (layer.Block b) = like (judged_simple named sites (layer.Block b.0)) (facts_simple (layer.Block b.0)) (switches_simple named numbers (layer.Block b.0)) (b.1 false)
+  simple_so (layer.Block b) = like ((rolls (judged_pass named sites)).simple (layer.Block b.0)) ((rolls facts_pass).simple (layer.Block b.0)) ((rolls (switches_pass named numbers)).simple (layer.Block b.0)) (b.1 false)
 
   decls_so : (ds : List (WithDecl known)) → NoFault (all_judged (map (declaration_judged named sites) (map (λ e. e.0) ds))) → Fit (said.joined (map declaration_facts (map (λ e. e.0) ds))) (switched.joined (map (declaration_switches named numbers) (map (λ e. e.0) ds)))
   decls_so [] free = nothing_fit
@@ -208,7 +209,7 @@ module _ (named : Named) (sites : List (Row Site)) (numbers : Numbers) where
   block_so y outermost =
       let ds : List RawDecl = map (λ e. e.0) y.decls in
       let ss : List RawStmt = map (λ e. e.0) y.stmts in
-      like (judged_block named sites (block_layer known y)) (ap (λ f. f outermost) (facts_block (block_layer known y))) (switches_block named numbers (block_layer known y))
+      like ((rolls (judged_pass named sites)).block (block_layer known y)) (ap (λ f. f outermost) ((rolls facts_pass).block (block_layer known y))) ((rolls (switches_pass named numbers)).block (block_layer known y))
       (λ free.
       let calm = both_free (all_judged (map (declaration_judged named sites) ds)) (all_judged (map (statement_judged named sites) ss)) (all_keep (statement_judged named sites) (statement_keeps named sites) ss) free in
       enclosed_fit (outermost || not (length (map declaration_facts ds) == 0)) (both_fit (decls_so y.decls calm.0) (stmts_so y.stmts calm.1)))
@@ -230,13 +231,13 @@ module _ (named : Named) (sites : List (Row Site)) (numbers : Numbers) where
 
   proc_so : (y : ProcParts known) → Is_proc (roll-RawProc (proc_layer known y))
   proc_so y =
-      like (judged_proc named sites (proc_layer known y)) (facts_proc (proc_layer known y)) (switches_proc named numbers (proc_layer known y))
+      like ((rolls (judged_pass named sites)).proc (proc_layer known y)) ((rolls facts_pass).proc (proc_layer known y)) ((rolls (switches_pass named numbers)).proc (proc_layer known y))
       (λ free.
       let calm = both_free (heading_judged named y.answer y.name y.params) (statement_judged named sites y.body.0) (statement_keeps named sites y.body.0) free in
       procedure_fit y.answer y.name y.params (statement_facts y.body.0) (statement_switches named numbers y.body.0) calm.0 (y.body.1 calm.1))
 
   stmt_so : (y : StmtParts known) → Is_stmt (roll-RawStmt (stmt_layer known y))
-  stmt_so y = like (judged_stmt named sites (stmt_layer known y)) (facts_stmt (stmt_layer known y)) (switches_stmt named numbers (stmt_layer known y)) (λ free. behind (each_declares kind.Label y.labels) (labels_ranged y.labels) (y.form.1 free))
+  stmt_so y = like ((rolls (judged_pass named sites)).stmt (stmt_layer known y)) ((rolls facts_pass).stmt (stmt_layer known y)) ((rolls (switches_pass named numbers)).stmt (stmt_layer known y)) (λ free. behind (each_declares kind.Label y.labels) (labels_ranged y.labels) (y.form.1 free))
 
   pub block_fit : (b : RawBlock) → Is_block b
   block_fit = each_block known (record { decl = decl_so; form = form_so; simple = simple_so; block = block_so; proc = proc_so; stmt = stmt_so })

@@ -34,11 +34,11 @@ use Rattle.cw_sound.specs.Expressions.Regular.{all, is_regular, is_regular_condi
 use Rattle.cw_sound.proofs.Expressions.Truth.{both, parts, le_true, lt_true}
 use Rattle.cw_sound.proofs.Expressions.Judging.{NoFault, keeps_both, both_free}
 use Rattle.cw_sound.proofs.Expressions.Standing.{split}
-use Rattle.cw_sound.proofs.Expressions.Whole.{as_value}
+use Rattle.cw_sound.proofs.Expressions.Whole.{expression_good, condition_good, reference_good, call_good}
 use Rattle.cw_sound.specs.Ranges.Declared.{DeclarationsInRange}
-use Rattle.cw_sound.proofs.Ranges.Arguments.{call_given}
-use Rattle.cw_sound.proofs.Ranges.Rules.{sounds}
-use Rattle.cw_sound.proofs.Ranges.Trees.{expression_is_right, condition_is_right, reference_is_right, each_right}
+use Rattle.cw_sound.proofs.Ranges.InRanges.{in_ranges}
+use Rattle.cw_sound.proofs.Ranges.Given.{all_in_ranges}
+use Rattle.cw_sound.proofs.Ranges.RangedTrees.{ranged_kept}
 use Rattle.cw_sound.specs.Statements.Levels.{element_levels}
 use Rattle.cw_sound.specs.Statements.Regular.{is_regular_element}
 use Rattle.cw_sound.proofs.Statements.Keeping.{whole_keeps, test_keeps, elements_keep}
@@ -74,25 +74,22 @@ module _ (named : Named) (numbers : Numbers) (u : SourceUnit) (who : Option ℕ)
 
   pub expression_ranged : (e : RawExpr) (f : ℕ) → IsTrue (is_regular e) → FactsStand named numbers u (expression_uses e reading.Value) who → NoFault (expression_judged named f e) → f ≤ 15 → then_levels e ≤ most_levels → IsTrue (ranged_at e f)
   expression_ranged e f regular facts free small few =
-      let v = (expression_is_right named numbers u who declared e regular reading.Value facts).valued (as_value named reading.Value (expression named e).shape.bare refl) in
       let calm = (both_free ((expression named e).faults f) (few_operators (expression_operators e)) (keeps_few (expression_operators e)) free).0 in
-      both (nat_le f 15) ((ranged_value u (expression_of named numbers e)).at f) (le_true f 15 small) (v.good f small few calm).at
+      both (nat_le f 15) ((ranged_value u (expression_of named numbers e)).at f) (le_true f 15 small) (expression_good named numbers u who (in_ranges u) (ranged_kept named numbers u who declared) reading.Value e f regular refl facts calm small few).at
 
   pub test_ranged : (c : RawCond) → IsTrue (is_regular_condition c) → FactsStand named numbers u (condition_uses c reading.Value) who → NoFault (condition_judged named c) → condition_levels c ≤ most_levels → IsTrue (ranged_test c)
   test_ranged c regular facts free few =
       let calm = (both_free ((condition named c).faults 0) (few_operators (condition_operators c)) (keeps_few (condition_operators c)) free).0 in
-      (condition_is_right named numbers u who declared c regular reading.Value facts).ranged 0 few calm
+      condition_good named numbers u who (in_ranges u) (ranged_kept named numbers u who declared) reading.Value c 0 regular facts calm few
 
   pub place_ranged : (r : RawRef) (x : Reading) → IsTrue (is_placed x) → IsTrue (is_regular_reference r) → FactsStand named numbers u (reference_uses r x) who → NoFault (reference_judged named r) → reference_levels r ≤ most_levels → IsTrue (ranged_place r)
   place_ranged r x placed regular facts free few =
       let calm = (both_free ((reference named r).faults 0) (few_each (reference_operators r)) (keeps_few_each (reference_operators r)) free).0 in
-      ((reference_is_right named numbers u who declared r regular).located x placed facts).ranged 0 few calm
+      reference_good named numbers u who (in_ranges u) (ranged_kept named numbers u who declared) x r 0 regular placed facts calm few
 
   pub call_ranged : (n : RawName) (es : List RawExpr) → IsTrue (all (map is_regular es)) → FactsStand named numbers u (uses_of n form.Call ++ argument_uses es) who → NoFault (call_faults named (signature_of named n) n (map (expression named) es)) → largest (map then_levels es) ≤ most_levels
       → IsTrue (all_ranged (map (is_ranged_argument u) (call_of named numbers n es).1))
-  call_ranged n es regular facts free few =
-      let halves = split named numbers u who (uses_of n form.Call) (argument_uses es) facts in
-      call_given u who named numbers n (sounds named numbers u who (each_right named numbers u who declared es regular) halves.1) few free
+  call_ranged n es regular facts free few = all_in_ranges u (call_good named numbers u who (in_ranges u) (ranged_kept named numbers u who declared) n es regular facts free few).1
 
   -- ---- the elements of a FOR
 

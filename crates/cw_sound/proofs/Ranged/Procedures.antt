@@ -23,6 +23,7 @@ use Rattle.cw_sound.specs.Statements.Bodies.{Body, Bodies, block_bodies}
 use Rattle.cw_sound.specs.Statements.Counted.{Counted, BodiesFit}
 use Rattle.cw_sound.proofs.Statements.Parts.{Stood}
 use Rattle.cw_sound.proofs.Statements.InBodies.{bodies_are_right}
+use Rattle.cw_sound.proofs.Statements.Halves.{in_unit}
 use Rattle.cw_sound.proofs.Statements.SameBodies.{bodies_are_same}
 use Rattle.cw_sound.proofs.Statements.UnitBodies.{made, Paired, paired}
 use Rattle.cw_sound.specs.Storage.Frames.{FramesFit}
@@ -46,7 +47,7 @@ module _ (named : Named) (numbers : Numbers) (u : SourceUnit) (declared : Declar
   module _ (sites : List (Row Site)) (b : RawBlock) (fits : BodiesFit (block_bodies b)) (counted : Counted numbers 0 (block_bodies b)) (stood : Stood named numbers u None (block_facts b true)) (free : NoFault (block_judged named sites b)) where
     bodies_ranged : (x : Body) → In x (block_bodies b) → RangedBody x
     bodies_ranged x i =
-        let r = bodies_are_right named sites numbers u b None true stood free x i in
+        let r = bodies_are_right named sites numbers (in_unit named numbers u) b true None stood free x i in
         let f = fits x i in
         statement_is_right named sites numbers u (proc_within numbers (Some x.token) None) declared x.statement f.0 r.0 r.1 f.1
 

@@ -18,7 +18,7 @@ use Rattle.cw_writable.specs.Coded.RangedExpressions as ranged
 use Rattle.cw_sound.proofs.Expressions.Truth.{no, both as both_true, parts, le_true, le_of, lt_true, lt_of}
 use Rattle.cw_sound.proofs.Expressions.Judging.{Keeps, NoFault, keeps_both, keeps_unless, keeps_int, both_free, holds, keeps_scale}
 use Rattle.cw_sound.specs.Ranges.Declared.{is_size, is_element, is_row}
-use Rattle.cw_sound.proofs.Ranges.Operands.{within_is, part_of}
+use Rattle.cw_sound.proofs.Expressions.Operands.{within_is, part_of}
 
 abbrev most_words : ℕ
 most_words = 32768

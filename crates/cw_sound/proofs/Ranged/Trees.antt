@@ -36,7 +36,7 @@ use Rattle.cw_sound.proofs.Expressions.Truth.{parts}
 use Rattle.cw_sound.proofs.Expressions.Judging.{NoFault, keeps_both, both_free}
 use Rattle.cw_sound.proofs.Expressions.Numbers.{name_small}
 use Rattle.cw_sound.specs.Ranges.Declared.{DeclarationsInRange}
-use Rattle.cw_sound.proofs.Ranges.Operands.{bits_are_part}
+use Rattle.cw_sound.proofs.Expressions.Operands.{bits_are_part}
 use Rattle.cw_sound.specs.Statements.Levels.{element_levels, statement_levels, block_levels}
 use Rattle.cw_sound.specs.Statements.Regular.{is_regular_element, is_regular_statement, is_regular_block}
 use Rattle.cw_sound.proofs.Statements.Keeping.{counted_keeps, whole_keeps, place_keeps}

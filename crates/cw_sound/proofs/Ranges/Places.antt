@@ -31,7 +31,8 @@ use Rattle.cw_writable.proofs.Coded.RangedLayers.{ranged_spot_layer, ranged_refe
 use Rattle.cw_scale.specs.Kinds.{kind_of, kind_in}
 use Rattle.cw_sound.specs.Ranges.Declared.{has_ranges, is_row, is_size, DeclarationsInRange}
 use Rattle.cw_sound.proofs.Expressions.Truth.{no, both, parts, le_true, le_of, lt_true}
-use Rattle.cw_sound.proofs.Ranges.Parts.{value, Result}
+use Rattle.cw_sound.proofs.Expressions.Parts.{Result}
+use Rattle.cw_sound.proofs.Ranges.InRanges.{value, in_ranges}
 use Rattle.cw_sound.proofs.Ranges.Nodes.{value_rolled, result_of}
 
 -- ---- bounds are words
@@ -67,7 +68,7 @@ pub field_ranges : (k : NameKind) → IsTrue (has_ranges k) → IsTrue (is_field
 field_ranges (kind.Element table e) h = (parts (nat_lt (element_word e) 32768) (is_field (element_field e)) h).1
 field_ranges _ h = refl
 
-module _ (u : SourceUnit) (who : Option ℕ) where
+module _ (u : SourceUnit) where
   spot_rolled : (x : Spot-F Arg Cond Expr Spot Ref) → is_ranged_spot u (roll-Spot x) ≡ ranged_spot_layer u x
   spot_rolled = fold-roll-Spot Bool Bool RangedValue Bool RangedReference ranged.argument_step ranged.condition_step (ranged.expression_step u) ranged.spot_step ranged.reference_step
 
@@ -90,16 +91,16 @@ module _ (u : SourceUnit) (who : Option ℕ) where
   pub place_scale : (s : Spot) (f : ℕ) (field : Option Field) → (ranged_reference u (reference s f field)).scale ≡ f
   place_scale s f field = ap (λ (v : RangedReference). v.scale) (reference_rolled (record { «at» = s; f = f; field = field }))
 
-  pub read_result : (f : ℕ) (r : Ref) → IsTrue (ranged_reference u r).good → Result u who (ranged_reference u r).scale f (read r)
-  read_result f r h = result_of u who (ranged_reference u r).scale f (read r) (λ f. (ranged_reference u r).good) (value_rolled u who (layer.Read r)) h
+  pub read_result : (f : ℕ) (r : Ref) → IsTrue (ranged_reference u r).good → Result (in_ranges u) (ranged_reference u r).scale f (read r)
+  read_result f r h = result_of u (ranged_reference u r).scale f (read r) (λ f. (ranged_reference u r).good) (value_rolled u (layer.Read r)) h
 
-  pub place_result : (g : ℕ) (s : Spot) (f : ℕ) (field : Option Field) → f ≤ 15 → IsTrue (is_field field) → Place s → Result u who f g (read (reference s f field))
-  place_result g s f field small part p = subst (λ (n : ℕ). Result u who n g (read (reference s f field))) (place_scale s f field) (read_result g (reference s f field) (place_good s f field small part p))
+  pub place_result : (g : ℕ) (s : Spot) (f : ℕ) (field : Option Field) → f ≤ 15 → IsTrue (is_field field) → Place s → Result (in_ranges u) f g (read (reference s f field))
+  place_result g s f field small part p = subst (λ (n : ℕ). Result (in_ranges u) n g (read (reference s f field))) (place_scale s f field) (read_result g (reference s f field) (place_good s f field small part p))
 
   -- ---- an index is evaluated at the scale 0
 
   abbrev pub Index : Expr → Type 0
-  Index e = IsTrue ((value u who e).at 0)
+  Index e = IsTrue ((value u e).at 0)
 
   pub bare_place : (e : Expr) → Index e → Place (roll-Spot (layer.Bare e))
   bare_place e x = place_of (layer.Bare e) x
@@ -114,8 +115,8 @@ module _ (u : SourceUnit) (who : Option ℕ) where
       let a : Bool = are_bounds (bound first.lower) (bound first.upper) in
       let b : Bool = are_bounds (bound s.lower) (bound s.upper) in
       let n : Bool = nat_le (row_length s) 32768 in
-      let v : Bool = (value u who e).at 0 in
-      let w : Bool = (value u who g).at 0 in
+      let v : Bool = (value u e).at 0 in
+      let w : Bool = (value u g).at 0 in
       place_of (layer.Two i (bound first.lower) (bound first.upper) (bound s.lower) (bound s.upper) (row_length s) e g)
       (both (a && (b && n)) (v && w) (both a (b && n) (bounds_are_words first) (both b n (bounds_are_words s) row)) (both v w x y))
 
@@ -125,16 +126,16 @@ module _ (u : SourceUnit) (who : Option ℕ) where
       let m : Bool = nat_le (entries_of s) 32768 in
       let l : Bool = nat_lt p 32768 in
       let h = parts n m (parts (nat_le (words_of s) 32768) (n && m) size).1 in
-      place_of (layer.Elem i t (width_of s) (entries_of s) p e) (both (n && (m && l)) ((value u who e).at 0) (both n (m && l) h.0 (both m l h.1 low)) x)
+      place_of (layer.Elem i t (width_of s) (entries_of s) p e) (both (n && (m && l)) ((value u e).at 0) (both n (m && l) h.0 (both m l h.1 low)) x)
 
   word_made : (s : RawSize) (i : ℕ) (t : Bool) (e : Expr) → IsTrue (is_size s) → Index e → Place (roll-Spot (layer.Word i t (words_of s) e))
   word_made s i t e size x =
       let n : Bool = nat_le (words_of s) 32768 in
-      place_of (layer.Word i t (words_of s) e) (both n ((value u who e).at 0) (parts n (nat_le (width_of s) 32768 && nat_le (entries_of s) 32768) size).0 x)
+      place_of (layer.Word i t (words_of s) e) (both n ((value u e).at 0) (parts n (nat_le (width_of s) 32768 && nat_le (entries_of s) 32768) size).0 x)
 
   -- ---- names with indexes
 
-  module _ (named : Named) (numbers : Numbers) (declared : DeclarationsInRange named) where
+  module _ (named : Named) (numbers : Numbers) (who : Option ℕ) (declared : DeclarationsInRange named) where
     table_place : (token p : ℕ) (e : Expr) → IsTable named numbers u who token → IsTrue (nat_lt p 32768) → Index e → Place (element_spot (kind_here named token) (item_here numbers token) p e)
     table_place token p e (s, inl is, item) low x =
         subst (λ (z : Option NameKind). Place (element_spot z (item_here numbers token) p e)) (sym is) (element_made s (item_here numbers token) p false e (declared.kinds token (kind.Table s) is) low x)
@@ -145,7 +146,7 @@ module _ (u : SourceUnit) (who : Option ℕ) where
     one_place (kind.Array t b) n e x d h y =
         let l : ℤ = bound b.first.lower in
         let m : ℤ = bound b.first.upper in
-        place_of (layer.One (item_in (number_of named numbers n)) l m e) (both (are_bounds l m) ((value u who e).at 0) (bounds_are_words b.first) y)
+        place_of (layer.One (item_in (number_of named numbers n)) l m e) (both (are_bounds l m) ((value u e).at 0) (bounds_are_words b.first) y)
     one_place (kind.ArrayParam t) n e x d h y = place_of (layer.ParamArray (item_in (number_of named numbers n)) e) y
     one_place (kind.Table s) n e x d h y = word_made s (item_in (number_of named numbers n)) false e d y
     one_place (kind.TableParam s) n e x d h y = word_made s (item_in (number_of named numbers n)) true e d y

@@ -6,6 +6,7 @@ use Rattle.cw_tree.specs.declared.leaf.RawSign.{RawSign}
 use Rattle.cw_tree.specs.declared.leaf.RawFactorSign.{RawFactorSign}
 use Rattle.cw_tree.specs.declared.leaf.RawCompareSign.{RawCompareSign}
 use Rattle.cw_tree.specs.declared.expression.RawBits.{RawBits}
+use Rattle.cw_tree.specs.declared.expression.RawExpr.{RawExpr}
 use Rattle.cw_tree.specs.declared.expression.RawExpr.TheVariants as expr_tree
 use Rattle.cw_tree.specs.declared.expression.RawExpr.TheOpen as layer
 use Rattle.cw_tree.specs.declared.expression.RawPrimary.{RawPrimary}
@@ -27,11 +28,10 @@ use Rattle.cw_sound.proofs.Regular.Fits.{Fits, ExprFits, expr_rolled, PrimaryFit
 use Rattle.cw_sound.proofs.Regular.Bracketed.{sum_in, as_term_in, as_differ_in, as_union_in, as_mask_in, as_prim_in, primary_held, prim_held, mask_held, union_held, differ_held, term_held, sum_held}
 
 -- operands that are regular and count a token at least
-record Ops {X O : Type 0} (f : X → Bool) (g : X → ℕ) (ops : Operands X O) : Type 0 where
-  right : IsTrue (regular.all (map f ops.0))
-  some : 1 ≤ tokens.between (map g ops.0)
+abbrev Ops : {X O : Type 0} → (X → Bool) → (X → ℕ) → Operands X O → Type 0
+Ops f g ops = Fits (regular.all (map f ops.0)) (tokens.between (map g ops.0))
 
-alone : {X O : Type 0} (f : X → Bool) (g : X → ℕ) (x : X) → Fits (f x) (g x) → Ops {O = O} f g (x ∷ [], [])
+alone : {X : Type 0} (f : X → Bool) (g : X → ℕ) (x : X) → Fits (f x) (g x) → Fits (regular.all (f x ∷ [])) (tokens.between (g x ∷ []))
 alone f g x h = record { right = both (f x) true h.right refl; some = omega (arith, h.some) }
 
 more : {X O : Type 0} (f : X → Bool) (g : X → ℕ) (ops : Operands X O) (rest : List (O × X)) → Ops f g ops → Behind f g rest → Ops f g (extended ops rest)
@@ -45,6 +45,9 @@ begun P taken o narrow x h k =
       | Some c ↦ λ e. elim (both_of o narrow c e) [ both_steps y u v ↦ k y c u v ]
     ] refl
 
+behind : {X O T : Type 0} (f : X → Bool) (g : X → ℕ) (parts : T → Operands X O) (narrow : X → Option RawExpr) (taken : RawExpr → Option T) (x : X) (rest : List (O × X)) → Fits (f x) (g x) → ((y : RawExpr) (t : T) → narrow x ≡ Some y → taken y ≡ Some t → Ops f g (parts t)) → Behind f g rest → Ops f g (extended (first_of parts (narrow x >>- taken) x) rest)
+behind f g parts narrow taken x rest h k r = more f g (first_of parts (narrow x >>- taken) x) rest (begun (Ops f g) parts (narrow x) taken x (alone f g x h) k) r
+
 -- ---- mask, union, differ
 
 abbrev mask_parts : RawMask → Operands RawPrim Position
@@ -52,36 +55,27 @@ mask_parts m = ((out-RawMask m).operands, (out-RawMask m).operators)
 
 pub mask_made : (x : RawPrim) (rest : List (Position × RawPrim)) → PrimFits x → Behind regular.is_regular_prim tokens.prim_tokens rest → MaskFits (mask_tree (extended (mask_start x) rest))
 mask_made x rest h r =
-    let start : Ops regular.is_regular_prim tokens.prim_tokens (mask_start x) =
-    begun (Ops regular.is_regular_prim tokens.prim_tokens) mask_parts (bracket_prim x) as_mask x (alone regular.is_regular_prim tokens.prim_tokens x h)
-    (λ y m u v. let k = opened.mask m (as_mask_in y m (prim_held x y h u) v) in record { right = k.right; some = k.some }) in
-    let k = more regular.is_regular_prim tokens.prim_tokens (mask_start x) rest start r in
     let ops : Operands RawPrim Position = extended (mask_start x) rest in
-    mask_rolled (record { operands = ops.0; operators = ops.1 }) (record { right = k.right; some = k.some })
+    mask_rolled (record { operands = ops.0; operators = ops.1 })
+    (behind regular.is_regular_prim tokens.prim_tokens mask_parts bracket_prim as_mask x rest h (λ y m u v. opened.mask m (as_mask_in y m (prim_held x y h u) v)) r)
 
 abbrev union_parts : RawUnion → Operands RawMask Position
 union_parts m = ((out-RawUnion m).operands, (out-RawUnion m).operators)
 
 pub union_made : (x : RawMask) (rest : List (Position × RawMask)) → MaskFits x → Behind regular.is_regular_mask tokens.mask_tokens rest → UnionFits (union_tree (extended (union_start x) rest))
 union_made x rest h r =
-    let start : Ops regular.is_regular_mask tokens.mask_tokens (union_start x) =
-    begun (Ops regular.is_regular_mask tokens.mask_tokens) union_parts (bracket_mask x) as_union x (alone regular.is_regular_mask tokens.mask_tokens x h)
-    (λ y m u v. let k = opened.union m (as_union_in y m (mask_held x y h u) v) in record { right = k.right; some = k.some }) in
-    let k = more regular.is_regular_mask tokens.mask_tokens (union_start x) rest start r in
     let ops : Operands RawMask Position = extended (union_start x) rest in
-    union_rolled (record { operands = ops.0; operators = ops.1 }) (record { right = k.right; some = k.some })
+    union_rolled (record { operands = ops.0; operators = ops.1 })
+    (behind regular.is_regular_mask tokens.mask_tokens union_parts bracket_mask as_union x rest h (λ y m u v. opened.union m (as_union_in y m (mask_held x y h u) v)) r)
 
 abbrev differ_parts : RawDiffer → Operands RawUnion Position
 differ_parts m = ((out-RawDiffer m).operands, (out-RawDiffer m).operators)
 
 pub differ_made : (x : RawUnion) (rest : List (Position × RawUnion)) → UnionFits x → Behind regular.is_regular_union tokens.union_tokens rest → DifferFits (differ_tree (extended (differ_start x) rest))
 differ_made x rest h r =
-    let start : Ops regular.is_regular_union tokens.union_tokens (differ_start x) =
-    begun (Ops regular.is_regular_union tokens.union_tokens) differ_parts (bracket_union x) as_differ x (alone regular.is_regular_union tokens.union_tokens x h)
-    (λ y m u v. let k = opened.differ m (as_differ_in y m (union_held x y h u) v) in record { right = k.right; some = k.some }) in
-    let k = more regular.is_regular_union tokens.union_tokens (differ_start x) rest start r in
     let ops : Operands RawUnion Position = extended (differ_start x) rest in
-    differ_rolled (record { operands = ops.0; operators = ops.1 }) (record { right = k.right; some = k.some })
+    differ_rolled (record { operands = ops.0; operators = ops.1 })
+    (behind regular.is_regular_union tokens.union_tokens differ_parts bracket_union as_differ x rest h (λ y m u v. opened.differ m (as_differ_in y m (union_held x y h u) v)) r)
 
 -- ---- terms and sums, which have an operator between any two operands
 
@@ -172,13 +166,13 @@ pub cand_made : (x : RawCmp) (rest : List (Position × RawCmp)) → CmpFits x �
 cand_made x rest h r =
     let k = more regular.is_regular_comparison tokens.cmp_tokens (x ∷ [], []) rest (alone regular.is_regular_comparison tokens.cmp_tokens x h) r in
     let ops : Operands RawCmp Position = extended (x ∷ [], []) rest in
-    cand_rolled (record { operands = ops.0; operators = ops.1 }) (record { right = k.right; some = k.some })
+    cand_rolled (record { operands = ops.0; operators = ops.1 }) k
 
 pub cond_made : (x : RawCand) (rest : List (Position × RawCand)) → CandFits x → Behind regular.is_regular_conjunction tokens.cand_tokens rest → CondFits (cond_tree (extended (x ∷ [], []) rest))
 cond_made x rest h r =
     let k = more regular.is_regular_conjunction tokens.cand_tokens (x ∷ [], []) rest (alone regular.is_regular_conjunction tokens.cand_tokens x h) r in
     let ops : Operands RawCand Position = extended (x ∷ [], []) rest in
-    cond_rolled (record { operands = ops.0; operators = ops.1 }) (record { right = k.right; some = k.some })
+    cond_rolled (record { operands = ops.0; operators = ops.1 }) k
 
 pub cmp_made : (x : RawSum) (op : RawCompareSign) (y : RawSum) → SumFits x → SumFits y → CmpFits (comparison_tree x op y)
 cmp_made x op y h k = cmp_rolled (record { left = x; operator = op; right = y }) (record { right = both (regular.is_regular_sum x) (regular.is_regular_sum y) h.right k.right; some = omega arith })

@@ -9,7 +9,8 @@ use Rattle.cw_sound.specs.Statements.Levels.{statement_levels}
 use Rattle.cw_sound.specs.Statements.Regular as regular
 use Rattle.cw_macro.specs.Premises.{Each}
 use Rattle.cw_sound.proofs.Statements.Layers.{Known}
-use Rattle.cw_sound.proofs.Statements.Passes.{Pass, layered, rolls, bodies_walk, walked_layer, walk_rolls, LayersKnown, Rolled}
+use Rattle.cw_sound.proofs.Statements.Folds.{regular_pass, tokens_pass}
+use Rattle.cw_sound.proofs.Statements.Passes.{layered, rolls, bodies_walk, walked_layer, walk_rolls, LayersKnown, Rolled}
 
 -- within n levels
 pub record BodyFits (n : ℕ) (b : Body) : Type 0 where
@@ -32,12 +33,6 @@ same : {n : ℕ} {is js : Bool} {k l : ℕ} {bs cs : Bodies} → is ≡ js → k
 same {n = n} {is = is} {js = js} {k = k} {bs = bs} e f g h few =
     let s = h (subst (λ (z : ℕ). z ≤ 65535) (sym f) few) in
     record { right = subst IsTrue e s.right; inner = subst (λ (z : Bodies). Each (BodyFits n) z) g s.inner }
-
-abbrev regular_pass : Pass Bool
-regular_pass = record { decl = regular.declaration_step; form = regular.form_step; simple = regular.simple_step; block = regular.block_step; proc = regular.procedure_step; stmt = regular.statement_step }
-
-abbrev tokens_pass : Pass ℕ
-tokens_pass = record { decl = tokens.decl_step; form = tokens.form_step; simple = tokens.simple_step; block = tokens.block_step; proc = tokens.proc_step; stmt = tokens.stmt_step }
 
 module _ (n : ℕ) where
   abbrev pub small : Known

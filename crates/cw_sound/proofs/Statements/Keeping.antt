@@ -23,7 +23,8 @@ use Rattle.cw_judge.specs.Judged.{expression_judged, condition_judged, reference
 use Rattle.cw_sound.proofs.Expressions.Judging.{Keeps, keeps_fine, keeps_both, keeps_bits}
 use Rattle.cw_sound.proofs.Expressions.Keeping.{expression_keeps, condition_keeps, reference_keeps, call_keeps}
 use Rattle.cw_sound.proofs.Items.Keeping.{keeps_declared, keeps_overlaid, keeps_heading, keeps_switch, keeps_few, keeps_few_each}
-use Rattle.cw_sound.proofs.Statements.Folds.{decl_layer_judged, form_layer_judged, simple_layer_judged, block_layer_judged, proc_layer_judged, stmt_layer_judged, judged_decl, judged_form, judged_simple, judged_block, judged_proc, judged_stmt}
+use Rattle.cw_sound.proofs.Statements.Passes.{layered, rolls}
+use Rattle.cw_sound.proofs.Statements.Folds.{judged_pass}
 use Rattle.cw_sound.proofs.Statements.Layers.{Known, DeclParts, FormParts, SimpleParts, BlockParts, ProcParts, StmtParts, decl_layer, form_layer, simple_layer, block_layer, proc_layer, stmt_layer, Rules, each_decl, each_simple, each_block, each_stmt}
 
 -- ---- the number of operators
@@ -85,13 +86,13 @@ module _ (named : Named) where
     parts_keep T j [] = keeps_fine
     parts_keep T j (t ∷ ts) = keeps_both t.1 (parts_keep T j ts)
 
-    declaration_rule : (y : DeclParts known) → Keeps (decl_layer_judged named sites (decl_layer known y))
+    declaration_rule : (y : DeclParts known) → Keeps ((layered (judged_pass named sites)).decl (decl_layer known y))
     declaration_rule (layer.Data d) = keeps_declared sites d
     declaration_rule (layer.Overlay at b d) = keeps_overlaid named sites b d
     declaration_rule (layer.Switch at n labels) = keeps_switch n labels
     declaration_rule (layer.Proc p) = p.1
 
-    form_rule : (y : FormParts known) → Keeps (form_layer_judged named sites (form_layer known y))
+    form_rule : (y : FormParts known) → Keeps ((layered (judged_pass named sites)).form (form_layer known y))
     form_rule (layer.Simple s) = s.1
     form_rule (layer.If at test labels first None) = keeps_both (test_keeps test) (keeps_both first.1 keeps_fine)
     form_rule (layer.If at test labels first (Some second)) = keeps_both (test_keeps test) (keeps_both first.1 second.1)
@@ -99,7 +100,7 @@ module _ (named : Named) where
         let f : ℕ = scale_of named variable in
         keeps_both (place_keeps variable) (keeps_both (elements_keep f elems) body.1)
 
-    simple_rule : (y : SimpleParts known) → Keeps (simple_layer_judged named sites (simple_layer known y))
+    simple_rule : (y : SimpleParts known) → Keeps ((layered (judged_pass named sites)).simple (simple_layer known y))
     simple_rule layer.Empty = keeps_fine
     simple_rule (layer.Assign r e) = keeps_both (place_keeps r) (whole_keeps (scale_of named r) e)
     simple_rule (layer.AssignBits bits r e) = keeps_both (keeps_bits bits) (keeps_both (place_keeps r) (whole_keeps 0 e))
@@ -109,23 +110,23 @@ module _ (named : Named) where
     simple_rule (layer.Answer at e) = whole_keeps (fraction_of_kind (kind_of named (answer_name at))) e
     simple_rule (layer.Block b) = b.1
 
-    block_rule : (y : BlockParts known) → Keeps (block_layer_judged named sites (block_layer known y))
+    block_rule : (y : BlockParts known) → Keeps ((layered (judged_pass named sites)).block (block_layer known y))
     block_rule y = keeps_both (parts_keep RawDecl (declaration_judged named sites) y.decls) (parts_keep RawStmt (statement_judged named sites) y.stmts)
 
-    procedure_rule : (y : ProcParts known) → Keeps (proc_layer_judged named sites (proc_layer known y))
+    procedure_rule : (y : ProcParts known) → Keeps ((layered (judged_pass named sites)).proc (proc_layer known y))
     procedure_rule y = keeps_both (keeps_heading named y.answer y.name y.params) y.body.1
 
-    statement_rule : (y : StmtParts known) → Keeps (stmt_layer_judged named sites (stmt_layer known y))
+    statement_rule : (y : StmtParts known) → Keeps ((layered (judged_pass named sites)).stmt (stmt_layer known y))
     statement_rule y = y.form.1
 
     rules : Rules known
     rules = record {
-      decl = λ y. subst Keeps (sym (judged_decl named sites (decl_layer known y))) (declaration_rule y);
-      form = λ y. subst Keeps (sym (judged_form named sites (form_layer known y))) (form_rule y);
-      simple = λ y. subst Keeps (sym (judged_simple named sites (simple_layer known y))) (simple_rule y);
-      block = λ y. subst Keeps (sym (judged_block named sites (block_layer known y))) (block_rule y);
-      proc = λ y. subst Keeps (sym (judged_proc named sites (proc_layer known y))) (procedure_rule y);
-      stmt = λ y. subst Keeps (sym (judged_stmt named sites (stmt_layer known y))) (statement_rule y);
+      decl = λ y. subst Keeps (sym ((rolls (judged_pass named sites)).decl (decl_layer known y))) (declaration_rule y);
+      form = λ y. subst Keeps (sym ((rolls (judged_pass named sites)).form (form_layer known y))) (form_rule y);
+      simple = λ y. subst Keeps (sym ((rolls (judged_pass named sites)).simple (simple_layer known y))) (simple_rule y);
+      block = λ y. subst Keeps (sym ((rolls (judged_pass named sites)).block (block_layer known y))) (block_rule y);
+      proc = λ y. subst Keeps (sym ((rolls (judged_pass named sites)).proc (proc_layer known y))) (procedure_rule y);
+      stmt = λ y. subst Keeps (sym ((rolls (judged_pass named sites)).stmt (stmt_layer known y))) (statement_rule y);
     }
 
     pub statement_keeps : (x : RawStmt) → StatementKeeps x

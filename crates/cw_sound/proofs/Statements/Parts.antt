@@ -1,5 +1,5 @@
 -- The parts of statements that are expressions, conditions, references, calls and jumps.
-use Rattle.std.proofs.Common.{◌≡◌, ℕ, ◌≤◌, List, [], ◌∷◌, ◌++◌, map, Bool, true, false, IsTrue, ◌&&◌, nat_le, Option, Some, None, slice_get, refl, sym, ap, subst, ◌∙◌, arith}
+use Rattle.std.proofs.Common.{◌≡◌, ℕ, ◌≤◌, List, [], ◌∷◌, ◌++◌, map, Bool, IsTrue, ◌&&◌, nat_le, Option, Some, slice_get, refl, sym, ap, subst, ◌∙◌, arith}
 use Rattle.cw_tree.specs.declared.leaf.RawName.{RawName}
 use Rattle.cw_tree.specs.declared.expression.RawExpr.{RawExpr}
 use Rattle.cw_tree.specs.declared.expression.RawCond.{RawCond}
@@ -13,7 +13,7 @@ use Rattle.cw_facts.specs.declared.fact.Kind.TheVariants as kind
 use Rattle.cw_facts.specs.declared.fact.Reading.{Reading}
 use Rattle.cw_facts.specs.declared.fact.Reading.TheVariants as reading
 use Rattle.cw_facts.specs.Uses.{uses_of, expression_uses, condition_uses, reference_uses}
-use Rattle.cw_facts.specs.Facts.{enclosed, felem_facts, felems_facts}
+use Rattle.cw_facts.specs.Facts.{felem_facts, felems_facts}
 use Rattle.cw_scope.specs.declared.resolve.Named.{Named}
 use Rattle.cw_scope.specs.NameRules.{is_label, is_switch}
 use Rattle.cw_scale.specs.Faults.{both as judged_both}
@@ -45,10 +45,12 @@ use Rattle.cw_sound.specs.Expressions.Readings.{is_placed}
 use Rattle.cw_sound.specs.Expressions.Regular.{all, is_regular, is_regular_condition, is_regular_reference}
 use Rattle.cw_sound.proofs.Expressions.Truth.{no, both, parts, le_true}
 use Rattle.cw_sound.proofs.Expressions.Judging.{NoFault, keeps_both, both_free}
-use Rattle.cw_sound.proofs.Expressions.Standing.{split, all_left, all_right, use_stands, use_is_in, owned_is_in}
+use Rattle.cw_sound.proofs.Expressions.Standing.{split, all_left, all_right, use_stands, use_is_in}
 use Rattle.cw_sound.proofs.Expressions.Parts.{AsValue}
-use Rattle.cw_sound.proofs.Expressions.Trees.{condition_is_right, reference_is_right}
-use Rattle.cw_sound.proofs.Expressions.Whole.{expression_good}
+use Rattle.cw_sound.proofs.Expressions.Built.{built_well, BuiltTest}
+use Rattle.cw_sound.proofs.Expressions.BuiltTrees.{built_kept}
+use Rattle.cw_sound.proofs.Expressions.Trees.{reference_is_right}
+use Rattle.cw_sound.proofs.Expressions.Whole.{expression_good, condition_good}
 use Rattle.cw_sound.specs.Statements.Answers.{AnswersStand, AnswersAs}
 use Rattle.cw_sound.specs.Statements.Levels.{element_levels}
 use Rattle.cw_sound.specs.Statements.Regular.{is_regular_element}
@@ -66,10 +68,6 @@ module _ (named : Named) (numbers : Numbers) (u : SourceUnit) (who : Option ℕ)
       let facts = split named numbers u who fs gs h.0 in
       ((facts.0, λ m k. h.1 m (all_left named numbers u who m fs gs k)), (facts.1, λ m k. h.1 m (all_right named numbers u who m fs gs k)))
 
-  pub opened : (b : Bool) (fs : List Fact) → Stood (enclosed b fs) → Stood fs
-  opened false fs h = h
-  opened true fs h = (λ m k. h.0 m (owned_is_in named numbers u who m None fs k), λ m k. h.1 m (owned_is_in named numbers u who m None fs k))
-
   pub answers_as : (n : RawName) → Stood (uses_of n form.Answer) → AnswersAs named u who form.Answer n
   answers_as n h = h.1 (here who (uses (record { name = n; form = form.Answer }))) (use_is_in named numbers u who n form.Answer)
 
@@ -81,21 +79,18 @@ module _ (named : Named) (numbers : Numbers) (u : SourceUnit) (who : Option ℕ)
 
   pub fit_of : (e : RawExpr) (f : ℕ) → IsTrue (is_regular e) → FactsStand named numbers u (expression_uses e reading.Value) who → NoFault (expression_judged named f e) → f ≤ 15 → then_levels e ≤ most_levels → Fit e f
   fit_of e f regular facts free small few =
-      let g = expression_good named numbers u who reading.Value e f regular refl facts (both_free ((expression named e).faults f) (few_operators (expression_operators e)) (keeps_few (expression_operators e)) free).0 small few in
+      let g = expression_good named numbers u who (built_well u who) (built_kept named numbers u who) reading.Value e f regular refl facts (both_free ((expression named e).faults f) (few_operators (expression_operators e)) (keeps_few (expression_operators e)) free).0 small few in
       record {
-        built = λ levels low high. both (nat_le f 15) ((built_value u (has_words u who) (expression_of named numbers e)).at f levels) (le_true f 15 small) (g.at levels low high);
-        formed = g.formed false;
+        built = λ levels low high. both (nat_le f 15) ((built_value u (has_words u who) (expression_of named numbers e)).at f levels) (le_true f 15 small) (g.at.built levels low high);
+        formed = g.at.formed;
       }
 
-  pub record TestFit (c : RawCond) : Type 0 where
-    pub built : IsTrue (is_condition u (has_words u who) (condition_of named numbers c))
-    pub formed : IsTrue (formed.is_condition (alone u) 0 (at_work who) (condition_of named numbers c))
+  abbrev pub TestFit : RawCond → Type 0
+  TestFit c = BuiltTest u who (condition_of named numbers c)
 
   pub test_fit : (c : RawCond) → IsTrue (is_regular_condition c) → FactsStand named numbers u (condition_uses c reading.Value) who → NoFault (condition_judged named c) → condition_levels c ≤ most_levels → TestFit c
   test_fit c regular facts free few =
-      let t = condition_is_right named numbers u who c regular reading.Value facts in
-      let calm = (both_free ((condition named c).faults 0) (few_operators (condition_operators c)) (keeps_few (condition_operators c)) free).0 in
-      record { built = t.built 0 few calm; formed = t.formed 0 few calm }
+      condition_good named numbers u who (built_well u who) (built_kept named numbers u who) reading.Value c 0 regular facts (both_free ((condition named c).faults 0) (few_operators (condition_operators c)) (keeps_few (condition_operators c)) free).0 few
 
   -- a reference that is assigned to, with the scale of what is assigned
   pub record PlaceFit (r : RawRef) : Type 0 where
@@ -110,12 +105,12 @@ module _ (named : Named) (numbers : Numbers) (u : SourceUnit) (who : Option ℕ)
 
   pub place_fit : (r : RawRef) (x : Reading) → IsTrue (is_placed x) → IsTrue (is_regular_reference r) → FactsStand named numbers u (reference_uses r x) who → NoFault (reference_judged named r) → reference_levels r ≤ most_levels → PlaceFit r
   place_fit r x placed regular facts free few =
-      let p = reference_is_right named numbers u who r regular in
-      let l = p.located x placed facts in
+      let p = reference_is_right named numbers u who (built_well u who) (built_kept named numbers u who) r regular in
       let calm = (both_free ((reference named r).faults 0) (few_each (reference_operators r)) (keeps_few_each (reference_operators r)) free).0 in
+      let g = (p.located x placed facts).good 0 few calm in
       record {
-        built = l.built 0 few calm;
-        formed = l.formed 0 few calm;
+        built = g.built;
+        formed = g.formed;
         small = ((p.sound x facts).valued (wanted x (reference named r).shape.bare placed)).natural_small;
         scale = sym (ap (λ (b : BuiltReference). b.scale) (reference-built u (has_words u who) (reference_of named numbers r))) ∙ p.scale;
       }

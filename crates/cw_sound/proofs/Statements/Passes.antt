@@ -12,26 +12,26 @@ use Rattle.cw_sound.specs.Statements.Bodies.{Bodies}
 use Rattle.cw_sound.specs.Statements.Bodies as bodies
 use Rattle.cw_sound.proofs.Statements.Layers.{Known, DeclLayer, FormLayer, SimpleLayer, BlockLayer, ProcLayer, StmtLayer, DeclParts, FormParts, SimpleParts, BlockParts, ProcParts, StmtParts, decl_layer, form_layer, simple_layer, block_layer, proc_layer, stmt_layer, Rules}
 
--- a value of each tree
-pub record Whole (A : Type 0) : Type 0 where
+-- a value of each tree, a block's of a sort of its own
+pub record Whole (A B : Type 0) : Type 0 where
   pub decl : RawDecl → A
   pub form : RawForm → A
   pub simple : RawSimple → A
-  pub block : RawBlock → A
+  pub block : RawBlock → B
   pub proc : RawProc → A
   pub stmt : RawStmt → A
 
 -- a value of each layer
-pub record Layered (A : Type 0) : Type 0 where
+pub record Layered (A B : Type 0) : Type 0 where
   pub decl : DeclLayer → A
   pub form : FormLayer → A
   pub simple : SimpleLayer → A
-  pub block : BlockLayer → A
+  pub block : BlockLayer → B
   pub proc : ProcLayer → A
   pub stmt : StmtLayer → A
 
 -- the value of a tree is that of its layer
-pub record Rolls {A : Type 0} (whole : Whole A) (layered : Layered A) : Type 0 where
+pub record Rolls {A B : Type 0} (whole : Whole A B) (layered : Layered A B) : Type 0 where
   pub decl : (y : DeclLayer) → whole.decl (roll-RawDecl y) ≡ layered.decl y
   pub form : (y : FormLayer) → whole.form (roll-RawForm y) ≡ layered.form y
   pub simple : (y : SimpleLayer) → whole.simple (roll-RawSimple y) ≡ layered.simple y
@@ -41,43 +41,43 @@ pub record Rolls {A : Type 0} (whole : Whole A) (layered : Layered A) : Type 0 w
 
 -- ---- passes that see values alone
 
-pub record Pass (A : Type 0) : Type 0 where
-  pub decl : RawDecl-F A A A A A A → A
-  pub form : RawForm-F A A A A A A → A
-  pub simple : RawSimple-F A A A A A A → A
-  pub block : RawBlock-F A A A A A A → A
-  pub proc : RawProc-F A A A A A A → A
-  pub stmt : RawStmt-F A A A A A A → A
+pub record Pass (A B : Type 0) : Type 0 where
+  pub decl : RawDecl-F A A A B A A → A
+  pub form : RawForm-F A A A B A A → A
+  pub simple : RawSimple-F A A A B A A → A
+  pub block : RawBlock-F A A A B A A → B
+  pub proc : RawProc-F A A A B A A → A
+  pub stmt : RawStmt-F A A A B A A → A
 
-module _ {A : Type 0} (pass : Pass A) where
-  abbrev pub whole : Whole A
+module _ {A B : Type 0} (pass : Pass A B) where
+  abbrev pub whole : Whole A B
   whole = record {
-    decl = fold-RawDecl A A A A A A pass.decl pass.form pass.simple pass.block pass.proc pass.stmt;
-    form = fold-RawForm A A A A A A pass.decl pass.form pass.simple pass.block pass.proc pass.stmt;
-    simple = fold-RawSimple A A A A A A pass.decl pass.form pass.simple pass.block pass.proc pass.stmt;
-    block = fold-RawBlock A A A A A A pass.decl pass.form pass.simple pass.block pass.proc pass.stmt;
-    proc = fold-RawProc A A A A A A pass.decl pass.form pass.simple pass.block pass.proc pass.stmt;
-    stmt = fold-RawStmt A A A A A A pass.decl pass.form pass.simple pass.block pass.proc pass.stmt;
+    decl = fold-RawDecl A A A B A A pass.decl pass.form pass.simple pass.block pass.proc pass.stmt;
+    form = fold-RawForm A A A B A A pass.decl pass.form pass.simple pass.block pass.proc pass.stmt;
+    simple = fold-RawSimple A A A B A A pass.decl pass.form pass.simple pass.block pass.proc pass.stmt;
+    block = fold-RawBlock A A A B A A pass.decl pass.form pass.simple pass.block pass.proc pass.stmt;
+    proc = fold-RawProc A A A B A A pass.decl pass.form pass.simple pass.block pass.proc pass.stmt;
+    stmt = fold-RawStmt A A A B A A pass.decl pass.form pass.simple pass.block pass.proc pass.stmt;
   }
 
-  abbrev pub layered : Layered A
+  abbrev pub layered : Layered A B
   layered = record {
-    decl = λ y. pass.decl (map-RawDecl RawDecl RawForm RawSimple RawBlock RawProc RawStmt A A A A A A whole.decl whole.form whole.simple whole.block whole.proc whole.stmt y);
-    form = λ y. pass.form (map-RawForm RawDecl RawForm RawSimple RawBlock RawProc RawStmt A A A A A A whole.decl whole.form whole.simple whole.block whole.proc whole.stmt y);
-    simple = λ y. pass.simple (map-RawSimple RawDecl RawForm RawSimple RawBlock RawProc RawStmt A A A A A A whole.decl whole.form whole.simple whole.block whole.proc whole.stmt y);
-    block = λ y. pass.block (map-RawBlock RawDecl RawForm RawSimple RawBlock RawProc RawStmt A A A A A A whole.decl whole.form whole.simple whole.block whole.proc whole.stmt y);
-    proc = λ y. pass.proc (map-RawProc RawDecl RawForm RawSimple RawBlock RawProc RawStmt A A A A A A whole.decl whole.form whole.simple whole.block whole.proc whole.stmt y);
-    stmt = λ y. pass.stmt (map-RawStmt RawDecl RawForm RawSimple RawBlock RawProc RawStmt A A A A A A whole.decl whole.form whole.simple whole.block whole.proc whole.stmt y);
+    decl = λ y. pass.decl (map-RawDecl RawDecl RawForm RawSimple RawBlock RawProc RawStmt A A A B A A whole.decl whole.form whole.simple whole.block whole.proc whole.stmt y);
+    form = λ y. pass.form (map-RawForm RawDecl RawForm RawSimple RawBlock RawProc RawStmt A A A B A A whole.decl whole.form whole.simple whole.block whole.proc whole.stmt y);
+    simple = λ y. pass.simple (map-RawSimple RawDecl RawForm RawSimple RawBlock RawProc RawStmt A A A B A A whole.decl whole.form whole.simple whole.block whole.proc whole.stmt y);
+    block = λ y. pass.block (map-RawBlock RawDecl RawForm RawSimple RawBlock RawProc RawStmt A A A B A A whole.decl whole.form whole.simple whole.block whole.proc whole.stmt y);
+    proc = λ y. pass.proc (map-RawProc RawDecl RawForm RawSimple RawBlock RawProc RawStmt A A A B A A whole.decl whole.form whole.simple whole.block whole.proc whole.stmt y);
+    stmt = λ y. pass.stmt (map-RawStmt RawDecl RawForm RawSimple RawBlock RawProc RawStmt A A A B A A whole.decl whole.form whole.simple whole.block whole.proc whole.stmt y);
   }
 
   pub rolls : Rolls whole layered
   rolls = record {
-    decl = fold-roll-RawDecl A A A A A A pass.decl pass.form pass.simple pass.block pass.proc pass.stmt;
-    form = fold-roll-RawForm A A A A A A pass.decl pass.form pass.simple pass.block pass.proc pass.stmt;
-    simple = fold-roll-RawSimple A A A A A A pass.decl pass.form pass.simple pass.block pass.proc pass.stmt;
-    block = fold-roll-RawBlock A A A A A A pass.decl pass.form pass.simple pass.block pass.proc pass.stmt;
-    proc = fold-roll-RawProc A A A A A A pass.decl pass.form pass.simple pass.block pass.proc pass.stmt;
-    stmt = fold-roll-RawStmt A A A A A A pass.decl pass.form pass.simple pass.block pass.proc pass.stmt;
+    decl = fold-roll-RawDecl A A A B A A pass.decl pass.form pass.simple pass.block pass.proc pass.stmt;
+    form = fold-roll-RawForm A A A B A A pass.decl pass.form pass.simple pass.block pass.proc pass.stmt;
+    simple = fold-roll-RawSimple A A A B A A pass.decl pass.form pass.simple pass.block pass.proc pass.stmt;
+    block = fold-roll-RawBlock A A A B A A pass.decl pass.form pass.simple pass.block pass.proc pass.stmt;
+    proc = fold-roll-RawProc A A A B A A pass.decl pass.form pass.simple pass.block pass.proc pass.stmt;
+    stmt = fold-roll-RawStmt A A A B A A pass.decl pass.form pass.simple pass.block pass.proc pass.stmt;
   }
 
 -- ---- passes that see the trees too
@@ -91,7 +91,7 @@ pub record Walk (A : Type 0) : Type 0 where
   pub stmt : RawStmt-F (RawDecl × A) (RawForm × A) (RawSimple × A) (RawBlock × A) (RawProc × A) (RawStmt × A) → A
 
 module _ {A : Type 0} (pass : Walk A) where
-  abbrev pub walked : Whole A
+  abbrev pub walked : Whole A A
   walked = record {
     decl = para-RawDecl A A A A A A pass.decl pass.form pass.simple pass.block pass.proc pass.stmt;
     form = para-RawForm A A A A A A pass.decl pass.form pass.simple pass.block pass.proc pass.stmt;
@@ -101,7 +101,7 @@ module _ {A : Type 0} (pass : Walk A) where
     stmt = para-RawStmt A A A A A A pass.decl pass.form pass.simple pass.block pass.proc pass.stmt;
   }
 
-  abbrev pub walked_layer : Layered A
+  abbrev pub walked_layer : Layered A A
   walked_layer = record {
     decl = λ y. pass.decl (map-RawDecl RawDecl RawForm RawSimple RawBlock RawProc RawStmt (RawDecl × A) (RawForm × A) (RawSimple × A) (RawBlock × A) (RawProc × A) (RawStmt × A) (λ z. (z, walked.decl z)) (λ z. (z, walked.form z)) (λ z. (z, walked.simple z)) (λ z. (z, walked.block z)) (λ z. (z, walked.proc z)) (λ z. (z, walked.stmt z)) y);
     form = λ y. pass.form (map-RawForm RawDecl RawForm RawSimple RawBlock RawProc RawStmt (RawDecl × A) (RawForm × A) (RawSimple × A) (RawBlock × A) (RawProc × A) (RawStmt × A) (λ z. (z, walked.decl z)) (λ z. (z, walked.form z)) (λ z. (z, walked.simple z)) (λ z. (z, walked.block z)) (λ z. (z, walked.proc z)) (λ z. (z, walked.stmt z)) y);

@@ -13,10 +13,10 @@ use Rattle.cw_make.specs.Procedures as procs
 use Rattle.cw_sound.proofs.Statements.Passes.{Whole, Layered, Rolls}
 
 module _ (named : Named) (numbers : Numbers) where
-  abbrev pub procedures : Whole Procs
+  abbrev pub procedures : Whole Procs Procs
   procedures = record { decl = procs.declaration_procs named numbers; form = procs.form_procs named numbers; simple = procs.simple_procs named numbers; block = procs.block_procs named numbers; proc = procs.procedure_procs named numbers; stmt = procs.statement_procs named numbers }
 
-  abbrev pub layer_procedures : Layered Procs
+  abbrev pub layer_procedures : Layered Procs Procs
   layer_procedures = record {
     decl = λ y. procs.declaration_step named numbers (map-RawDecl RawDecl RawForm RawSimple RawBlock RawProc RawStmt (RawDecl × Procs) (RawForm × Procs) (RawSimple × Procs) (RawBlock × Procs) (RawProc × Procs) (RawStmt × Procs) (λ z. (z, procs.declaration_procs named numbers z)) (λ z. (z, procs.form_procs named numbers z)) (λ z. (z, procs.simple_procs named numbers z)) (λ z. (z, procs.block_procs named numbers z)) (λ z. (z, procs.procedure_procs named numbers z)) (λ z. (z, procs.statement_procs named numbers z)) y);
     form = λ y. procs.form_step named numbers (map-RawForm RawDecl RawForm RawSimple RawBlock RawProc RawStmt (RawDecl × Procs) (RawForm × Procs) (RawSimple × Procs) (RawBlock × Procs) (RawProc × Procs) (RawStmt × Procs) (λ z. (z, procs.declaration_procs named numbers z)) (λ z. (z, procs.form_procs named numbers z)) (λ z. (z, procs.simple_procs named numbers z)) (λ z. (z, procs.block_procs named numbers z)) (λ z. (z, procs.procedure_procs named numbers z)) (λ z. (z, procs.statement_procs named numbers z)) y);

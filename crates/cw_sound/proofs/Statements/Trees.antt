@@ -39,6 +39,9 @@ use Rattle.cw_sound.proofs.Expressions.Judging.{NoFault, keeps_both, both_free}
 use Rattle.cw_sound.proofs.Expressions.Standing.{loop_stands}
 use Rattle.cw_sound.proofs.Expressions.Numbers.{name_small}
 use Rattle.cw_sound.proofs.Expressions.Places.{has_item_of}
+use Rattle.cw_sound.proofs.Expressions.Built.{built_well}
+use Rattle.cw_sound.proofs.Expressions.BuiltTrees.{built_kept}
+use Rattle.cw_sound.proofs.Expressions.Given.{all_given}
 use Rattle.cw_sound.proofs.Expressions.Whole.{call_good}
 use Rattle.cw_sound.specs.Statements.Levels.{element_levels, statement_levels, block_levels}
 use Rattle.cw_sound.specs.Statements.Regular.{is_regular_element, is_regular_statement, is_regular_block}
@@ -67,10 +70,10 @@ module _ (named : Named) (numbers : Numbers) (u : SourceUnit) (who : Option ℕ)
   call_right n es r s free =
       let calm = (both_free (call_faults named (signature_of named n) n (map (expression named) es)) (arguments_counted es) (counted_keeps es) free).0 in
       call_statement_good u who (line_of n.at) (call_of named numbers n es).0 (call_of named numbers n es).1 (largest (map then_levels es))
-      (λ few. (call_good named numbers u who n es r s.0 calm few).1.built)
+      (λ few. (all_given u who (call_good named numbers u who (built_well u who) (built_kept named numbers u who) n es r s.0 calm few).1).built)
       (λ few.
-      let g = call_good named numbers u who n es r s.0 calm few in
-      subst (λ (ks : Option (List Kind)). IsTrue (formed.is_call (alone u) 0 (at_work who) false (call_of named numbers n es).0 ks)) (sym g.1.kinds) g.0.call)
+      let g = call_good named numbers u who (built_well u who) (built_kept named numbers u who) n es r s.0 calm few in
+      subst (λ (ks : Option (List Kind)). IsTrue (formed.is_call (alone u) 0 (at_work who) false (call_of named numbers n es).0 ks)) (sym (all_given u who g.1).kinds) g.0.call)
 
   assign_right : (r : RawRef) (e : RawExpr) → IsTrue (is_regular_reference r && is_regular e) → Stood named numbers u who (reference_uses r reading.Target ++ expression_uses e reading.Value) → NoFault (both (reference_judged named r) (expression_judged named (scale_of named r) e)) → Good u who (made.assignment named numbers r e) (max (reference_levels r) (then_levels e))
   assign_right r e ok s free =

@@ -31,6 +31,7 @@ use Rattle.cw_sound.proofs.Statements.Parts.{Stood}
 use Rattle.cw_sound.proofs.Statements.Nodes.{Good}
 use Rattle.cw_sound.proofs.Statements.Trees.{statement_is_right, block_is_right}
 use Rattle.cw_sound.proofs.Statements.InBodies.{bodies_are_right}
+use Rattle.cw_sound.proofs.Statements.Halves.{in_unit}
 use Rattle.cw_sound.proofs.Statements.SameBodies.{bodies_are_same}
 
 module _ (named : Named) (numbers : Numbers) (u : SourceUnit) where
@@ -81,7 +82,7 @@ module _ (named : Named) (numbers : Numbers) (u : SourceUnit) where
       (stood : Stood named numbers u None (block_facts b true)) (free : NoFault (block_judged named sites b)) where
     good_bodies : (x : Body) → In x (block_bodies b) → GoodBody x × (statement_levels x.statement ≤ most_levels)
     good_bodies x i =
-        let r = bodies_are_right named sites numbers u b None true stood free x i in
+        let r = bodies_are_right named sites numbers (in_unit named numbers u) b true None stood free x i in
         let f = fits x i in
         (statement_is_right named sites numbers u (proc_within numbers (Some x.token) None) x.statement f.0 r.0 r.1, f.1)
 

@@ -24,6 +24,7 @@ use Rattle.cw_sound.specs.Uses.Mentions.{block_mentions}
 use Rattle.cw_sound.specs.Items.Derived.{HasRisingTokens, IsRising}
 use Rattle.cw_sound.specs.Items.Bases.{BasesStand}
 use Rattle.cw_sound.specs.Items.Items.{things_of, item_made}
+use Rattle.cw_sound.proofs.Expressions.Truth.{first_true, second_true}
 use Rattle.cw_sound.proofs.Items.Lists.{In, not-below}
 use Rattle.cw_sound.proofs.Items.Numbering.{tokens_of_things, made-of}
 use Rattle.cw_sound.proofs.Items.Room.{orderly-first, site_at, ends}
@@ -37,14 +38,6 @@ use Rattle.cw_sound.proofs.Storage.Extents.{reached, below_capped, root_only}
 use Rattle.cw_macro.specs.Premises.{Each}
 
 -- ---- things of frames
-
-left_true : (a b : Bool) → (a && b) ≡ true → a ≡ true
-left_true true b e = refl
-left_true false b e = absurd cc
-
-right_true : (a b : Bool) → (a && b) ≡ true → b ≡ true
-right_true true b e = e
-right_true false b e = absurd cc
 
 is_frame : (h : Home) → is_frame_home h ≡ true → h ≡ home.Frame
 is_frame home.Frame e = refl
@@ -168,9 +161,9 @@ module _ (named : Named) (rising : HasRisingTokens named.raw.now) (bases : Bases
     framed : (t : Thing) → test t ≡ true → Framed t
     framed t h =
         let x : Item = item_made named t in
-        let f = frame_thing (numbers_of named) t _ _ t.base (frame_of t.sort t.owner) refl refl (is_frame x.home (left_true (is_frame_home x.home) (is_owner q x.owner) h)) in
+        let f = frame_thing (numbers_of named) t _ _ t.base (frame_of t.sort t.owner) refl refl (is_frame x.home (first_true (is_frame_home x.home) (is_owner q x.owner) h)) in
         let w = owner_of_frame t.sort t.owner f.1 f.2 in
-        let o : is_owner q (proc_of_owner (numbers_of named) (Some w.0)) ≡ true = ap (λ y. is_owner q (proc_of_owner (numbers_of named) y)) (sym w.1) ∙ right_true (is_frame_home x.home) (is_owner q x.owner) h in
+        let o : is_owner q (proc_of_owner (numbers_of named) (Some w.0)) ≡ true = ap (λ y. is_owner q (proc_of_owner (numbers_of named) y)) (sym w.1) ∙ second_true (is_frame_home x.home) (is_owner q x.owner) h in
         record { baseless = f.0; owner = w.0; owned = w.1; frame = f.2 ∙ ap Some (sym w.2); number = sym (eqb-true q (proc_here (numbers_of named) w.0.token) o) }
 
     module _ (so : AllSo (Counted named (numbers_of named)) (numbers_of named) (block_mentions (numbers_of named) named.raw.now)) where

@@ -24,7 +24,8 @@ use Rattle.cw_items.specs.Things.{Things, joined as joined_things, thing, texts,
 use Rattle.cw_make_items.specs.Lookup.{Numbers}
 use Rattle.cw_sound.proofs.Storage.Owners.{Owns, owns_both, owns_none, owns_other, owns_others, owns_use, owns_uses, owns_loop, owns_block, owns_procedure, owns_data, owns_overlay, owns_parameters, owns_answer, owns_texts}
 use Rattle.cw_sound.proofs.Statements.Layers.{Known, WithDecl, WithStmt, DeclParts, FormParts, SimpleParts, BlockParts, ProcParts, StmtParts, decl_layer, form_layer, simple_layer, block_layer, proc_layer, stmt_layer, Rules, each_block}
-use Rattle.cw_sound.proofs.Statements.Folds.{decl_layer_facts, form_layer_facts, simple_layer_facts, block_layer_facts, proc_layer_facts, stmt_layer_facts, decl_layer_things, form_layer_things, simple_layer_things, block_layer_things, proc_layer_things, stmt_layer_things, facts_decl, facts_form, facts_simple, facts_block, facts_proc, facts_stmt, things_decl, things_form, things_simple, things_block, things_proc, things_stmt}
+use Rattle.cw_sound.proofs.Statements.Passes.{layered, rolls}
+use Rattle.cw_sound.proofs.Statements.Folds.{facts_pass, things_pass}
 use Rattle.cw_sound.proofs.Items.Lists.{moved_two}
 
 module _ (K : ℕ → Type 0) (numbers : Numbers) (named : Named) where
@@ -79,13 +80,13 @@ module _ (K : ℕ → Type 0) (numbers : Numbers) (named : Named) where
   enclosed_own true facts ts h o = owns_block K numbers o facts (ts o) (h o)
   enclosed_own false facts ts h o = h o
 
-  declaration_step_owns : (y : DeclParts known) → Parts (decl_layer_facts (decl_layer known y)) (decl_layer_things named (decl_layer known y))
+  declaration_step_owns : (y : DeclParts known) → Parts ((layered facts_pass).decl (decl_layer known y)) ((layered (things_pass named)).decl (decl_layer known y))
   declaration_step_owns (layer.Data d) o = owns_data K numbers o None d
   declaration_step_owns (layer.Overlay at b d) o = owns_overlay K numbers o b (Some (base_at named b)) d
   declaration_step_owns (layer.Switch at n labels) o = owns_both K numbers o (declares n kind.Switch ∷ []) (each_uses labels) [] [] (owns_other K numbers o kind.Switch n) (owns_uses K numbers o labels)
   declaration_step_owns (layer.Proc p) o = p.1 o
 
-  form_step_owns : (y : FormParts known) → Parts (form_layer_facts (form_layer known y)) (form_layer_things named (form_layer known y))
+  form_step_owns : (y : FormParts known) → Parts ((layered facts_pass).form (form_layer known y)) ((layered (things_pass named)).form (form_layer known y))
   form_step_owns (layer.Simple s) o = s.1 o
   form_step_owns (layer.If at test labels first None) o =
       owns_both K numbers o (condition_uses test reading.Value) (each_declares kind.Label labels ++ (simple_facts first.0 ++ [])) (texts o (condition_uses test reading.Value)) (simple_things named first.0 o ++ [])
@@ -104,7 +105,7 @@ module _ (K : ℕ → Type 0) (numbers : Numbers) (named : Named) where
       (owns_texts K numbers o (reference_uses variable reading.Whole))
       (owns_both K numbers o (felems_facts elems) (statement_facts body.0) (felems_things elems o) (statement_things named body.0 o) (felems_own elems o) (body.1 o)))
 
-  simple_step_owns : (y : SimpleParts known) → Parts (simple_layer_facts (simple_layer known y)) (simple_layer_things named (simple_layer known y))
+  simple_step_owns : (y : SimpleParts known) → Parts ((layered facts_pass).simple (simple_layer known y)) ((layered (things_pass named)).simple (simple_layer known y))
   simple_step_owns layer.Empty o = owns_none K numbers o
   simple_step_owns (layer.Assign r e) o = two_texts (reference_uses r reading.Target) (expression_uses e reading.Value) o
   simple_step_owns (layer.AssignBits bits r e) o = two_texts (reference_uses r reading.Whole) (expression_uses e reading.Value) o
@@ -117,7 +118,7 @@ module _ (K : ℕ → Type 0) (numbers : Numbers) (named : Named) where
       (owns_texts K numbers o (expression_uses e reading.Value))
   simple_step_owns (layer.Block b) o = b.1 false o
 
-  block_step_owns : (y : BlockParts known) (outermost : Bool) → Parts (block_layer_facts (block_layer known y) outermost) (block_layer_things named (block_layer known y))
+  block_step_owns : (y : BlockParts known) (outermost : Bool) → Parts ((layered facts_pass).block (block_layer known y) outermost) ((layered (things_pass named)).block (block_layer known y))
   block_step_owns b outermost =
       let ds = map (λ e. e.0) b.decls in
       let ss = map (λ e. e.0) b.stmts in
@@ -126,25 +127,25 @@ module _ (K : ℕ → Type 0) (numbers : Numbers) (named : Named) where
       (λ o.
       owns_both K numbers o (joined (map declaration_facts ds)) (joined (map statement_facts ss)) (joined_things (map (declaration_things named) ds) o) (joined_things (map (statement_things named) ss) o) (declarations_own b.decls o) (statements_own b.stmts o))
 
-  procedure_step_owns : (y : ProcParts known) → Parts (proc_layer_facts (proc_layer known y)) (proc_layer_things named (proc_layer known y))
+  procedure_step_owns : (y : ProcParts known) → Parts ((layered facts_pass).proc (proc_layer known y)) ((layered (things_pass named)).proc (proc_layer known y))
   procedure_step_owns p o =
       let w : Owner = record { token = p.name.at.token; recursive = is_recursive p.tag } in
       owns_procedure K numbers o w p.name p.answer (flattened p.params) refl (answer_facts p.answer ++ (parameters_facts p.params ++ statement_facts p.body.0)) (parameters_things (Some w) p.params ++ statement_things named p.body.0 (Some w))
       (owns_both K numbers (Some w) (answer_facts p.answer) (parameters_facts p.params ++ statement_facts p.body.0) [] (parameters_things (Some w) p.params ++ statement_things named p.body.0 (Some w)) (owns_answer K numbers (Some w) p.answer)
       (owns_both K numbers (Some w) (parameters_facts p.params) (statement_facts p.body.0) (parameters_things (Some w) p.params) (statement_things named p.body.0 (Some w)) (owns_parameters K numbers (Some w) p.params) (p.body.1 (Some w))))
 
-  statement_step_owns : (y : StmtParts known) → Parts (stmt_layer_facts (stmt_layer known y)) (stmt_layer_things named (stmt_layer known y))
+  statement_step_owns : (y : StmtParts known) → Parts ((layered facts_pass).stmt (stmt_layer known y)) ((layered (things_pass named)).stmt (stmt_layer known y))
   statement_step_owns s o =
       owns_both K numbers o (each_declares kind.Label s.labels) (form_facts s.form.0) [] (form_things named s.form.0 o) (owns_others K numbers o kind.Label s.labels) (s.form.1 o)
 
   rules : Rules known
   rules = record {
-    decl = λ y. moved_two Parts (facts_decl (decl_layer known y)) (things_decl named (decl_layer known y)) (declaration_step_owns y);
-    form = λ y. moved_two Parts (facts_form (form_layer known y)) (things_form named (form_layer known y)) (form_step_owns y);
-    simple = λ y. moved_two Parts (facts_simple (simple_layer known y)) (things_simple named (simple_layer known y)) (simple_step_owns y);
-    block = λ y outermost. moved_two Parts (ap (λ f. f outermost) (facts_block (block_layer known y))) (things_block named (block_layer known y)) (block_step_owns y outermost);
-    proc = λ y. moved_two Parts (facts_proc (proc_layer known y)) (things_proc named (proc_layer known y)) (procedure_step_owns y);
-    stmt = λ y. moved_two Parts (facts_stmt (stmt_layer known y)) (things_stmt named (stmt_layer known y)) (statement_step_owns y);
+    decl = λ y. moved_two Parts ((rolls facts_pass).decl (decl_layer known y)) ((rolls (things_pass named)).decl (decl_layer known y)) (declaration_step_owns y);
+    form = λ y. moved_two Parts ((rolls facts_pass).form (form_layer known y)) ((rolls (things_pass named)).form (form_layer known y)) (form_step_owns y);
+    simple = λ y. moved_two Parts ((rolls facts_pass).simple (simple_layer known y)) ((rolls (things_pass named)).simple (simple_layer known y)) (simple_step_owns y);
+    block = λ y outermost. moved_two Parts (ap (λ f. f outermost) ((rolls facts_pass).block (block_layer known y))) ((rolls (things_pass named)).block (block_layer known y)) (block_step_owns y outermost);
+    proc = λ y. moved_two Parts ((rolls facts_pass).proc (proc_layer known y)) ((rolls (things_pass named)).proc (proc_layer known y)) (procedure_step_owns y);
+    stmt = λ y. moved_two Parts ((rolls facts_pass).stmt (stmt_layer known y)) ((rolls (things_pass named)).stmt (stmt_layer known y)) (statement_step_owns y);
   }
 
   pub block_owns : (x : RawBlock) → RawBlockOwns x

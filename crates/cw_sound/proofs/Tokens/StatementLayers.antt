@@ -21,7 +21,8 @@ use Rattle.cw_tokens.specs.TreeTokens as tree
 use Rattle.cw_tokens.specs.TreeTokens.{total, param_tokens}
 use Rattle.cw_sound.proofs.Tokens.StatementNodes.{SizedStatement, SizedBody, SizedDeclaration, parameters_counted}
 use Rattle.cw_sound.proofs.Statements.Layers.{DeclLayer, FormLayer, SimpleLayer, BlockLayer, ProcLayer, StmtLayer}
-use Rattle.cw_sound.proofs.Statements.Passes.{Pass, layered, rolls}
+use Rattle.cw_sound.proofs.Statements.Folds.{made_pass, switches_pass, tokens_pass}
+use Rattle.cw_sound.proofs.Statements.Passes.{layered, rolls}
 use Rattle.cw_sound.proofs.Statements.Procedures.{layer_procedures, procedures_roll}
 
 pub three_ways : {A B C : Type 0} (P : A → B → C → Type 0) {a d : A} {b e : B} {c f : C} → a ≡ d → b ≡ e → c ≡ f → P d e f → P a b c
@@ -31,30 +32,21 @@ four_ways : {A B C D : Type 0} (P : A → B → C → D → Type 0) {a e : A} {b
 four_ways P {a = a} {f = f} {g = g} {h = h} i j k l m = three_ways (P a) j k l (subst (λ x. P x f g h) (sym i) m)
 
 module _ (named : Named) (numbers : Numbers) where
-  abbrev made_pass : Pass Stmt
-  made_pass = record { decl = made.declaration_step named numbers; form = made.form_step named numbers; simple = made.simple_step named numbers; block = made.block_step named numbers; proc = made.procedure_step named numbers; stmt = made.statement_step named numbers }
-
-  abbrev switches_pass : Pass Switches
-  switches_pass = record { decl = switches.declaration_step named numbers; form = switches.form_step named numbers; simple = switches.simple_step named numbers; block = switches.block_step named numbers; proc = switches.procedure_step named numbers; stmt = switches.statement_step named numbers }
-
-  abbrev tree_pass : Pass ℕ
-  tree_pass = record { decl = tree.decl_step; form = tree.form_step; simple = tree.simple_step; block = tree.block_step; proc = tree.proc_step; stmt = tree.stmt_step }
-
-  pub declaration_rolls : (x : DeclLayer) → SizedDeclaration ((layer_procedures named numbers).decl x) ((layered switches_pass).decl x) ((layered tree_pass).decl x)
+  pub declaration_rolls : (x : DeclLayer) → SizedDeclaration ((layer_procedures named numbers).decl x) ((layered (switches_pass named numbers)).decl x) ((layered tokens_pass).decl x)
       → SizedDeclaration (procs.declaration_procs named numbers (roll-RawDecl x)) (switches.declaration_switches named numbers (roll-RawDecl x)) (tree.decl_tokens (roll-RawDecl x))
-  declaration_rolls x h = three_ways SizedDeclaration ((procedures_roll named numbers).decl x) ((rolls switches_pass).decl x) ((rolls tree_pass).decl x) h
+  declaration_rolls x h = three_ways SizedDeclaration ((procedures_roll named numbers).decl x) ((rolls (switches_pass named numbers)).decl x) ((rolls tokens_pass).decl x) h
 
-  pub form_rolls : (x : FormLayer) → SizedStatement ((layered made_pass).form x) ((layer_procedures named numbers).form x) ((layered switches_pass).form x) ((layered tree_pass).form x)
+  pub form_rolls : (x : FormLayer) → SizedStatement ((layered (made_pass named numbers)).form x) ((layer_procedures named numbers).form x) ((layered (switches_pass named numbers)).form x) ((layered tokens_pass).form x)
       → SizedStatement (made.form_of named numbers (roll-RawForm x)) (procs.form_procs named numbers (roll-RawForm x)) (switches.form_switches named numbers (roll-RawForm x)) (tree.form_tokens (roll-RawForm x))
-  form_rolls x h = four_ways SizedStatement ((rolls made_pass).form x) ((procedures_roll named numbers).form x) ((rolls switches_pass).form x) ((rolls tree_pass).form x) h
+  form_rolls x h = four_ways SizedStatement ((rolls (made_pass named numbers)).form x) ((procedures_roll named numbers).form x) ((rolls (switches_pass named numbers)).form x) ((rolls tokens_pass).form x) h
 
-  pub simple_rolls : (x : SimpleLayer) → SizedStatement ((layered made_pass).simple x) ((layer_procedures named numbers).simple x) ((layered switches_pass).simple x) ((layered tree_pass).simple x)
+  pub simple_rolls : (x : SimpleLayer) → SizedStatement ((layered (made_pass named numbers)).simple x) ((layer_procedures named numbers).simple x) ((layered (switches_pass named numbers)).simple x) ((layered tokens_pass).simple x)
       → SizedStatement (made.simple_of named numbers (roll-RawSimple x)) (procs.simple_procs named numbers (roll-RawSimple x)) (switches.simple_switches named numbers (roll-RawSimple x)) (tree.simple_tokens (roll-RawSimple x))
-  simple_rolls x h = four_ways SizedStatement ((rolls made_pass).simple x) ((procedures_roll named numbers).simple x) ((rolls switches_pass).simple x) ((rolls tree_pass).simple x) h
+  simple_rolls x h = four_ways SizedStatement ((rolls (made_pass named numbers)).simple x) ((procedures_roll named numbers).simple x) ((rolls (switches_pass named numbers)).simple x) ((rolls tokens_pass).simple x) h
 
-  pub block_rolls : (x : BlockLayer) → SizedBody ((layered made_pass).block x) ((layer_procedures named numbers).block x) ((layered switches_pass).block x) ((layered tree_pass).block x)
+  pub block_rolls : (x : BlockLayer) → SizedBody ((layered (made_pass named numbers)).block x) ((layer_procedures named numbers).block x) ((layered (switches_pass named numbers)).block x) ((layered tokens_pass).block x)
       → SizedBody (made.block_of named numbers (roll-RawBlock x)) (procs.block_procs named numbers (roll-RawBlock x)) (switches.block_switches named numbers (roll-RawBlock x)) (tree.block_tokens (roll-RawBlock x))
-  block_rolls x h = four_ways SizedBody ((rolls made_pass).block x) ((procedures_roll named numbers).block x) ((rolls switches_pass).block x) ((rolls tree_pass).block x) h
+  block_rolls x h = four_ways SizedBody ((rolls (made_pass named numbers)).block x) ((procedures_roll named numbers).block x) ((rolls (switches_pass named numbers)).block x) ((rolls tokens_pass).block x) h
 
   -- a procedure's declaration, by its body
   pub procedure_rolls : (x : ProcLayer) → SizedStatement (made.statement_of named numbers x.body) (procs.statement_procs named numbers x.body) (switches.statement_switches named numbers x.body) (tree.stmt_tokens x.body)
@@ -65,13 +57,13 @@ module _ (named : Named) (numbers : Numbers) where
         ap (λ (z : ProcLayer). 4 + (2 * length (params_of numbers z.params) + statement_tokens (made.statement_of named numbers z.body))) (out-roll-RawProc x) in
         let inner : procedures_tokens (procs.procedure_procs named numbers (roll-RawProc x)) ≡ procedures_tokens (procs.statement_procs named numbers x.body) = ap procedures_tokens ((procedures_roll named numbers).proc x) in
         let listed : switches_tokens (switches.procedure_switches named numbers (roll-RawProc x) q) ≡ switches_tokens (switches.statement_switches named numbers x.body (Some (proc_here numbers x.name.at.token))) =
-        ap (λ (z : Switches). switches_tokens (z q)) ((rolls switches_pass).proc x) in
-        let whole : tree.proc_tokens (roll-RawProc x) ≡ 4 + (total (map param_tokens x.params) + tree.stmt_tokens x.body) = ((rolls tree_pass).proc x) in
+        ap (λ (z : Switches). switches_tokens (z q)) ((rolls (switches_pass named numbers)).proc x) in
+        let whole : tree.proc_tokens (roll-RawProc x) ≡ 4 + (total (map param_tokens x.params) + tree.stmt_tokens x.body) = ((rolls tokens_pass).proc x) in
         let params = parameters_counted numbers x.params in
         let body = h.fits (Some (proc_here numbers x.name.at.token)) in
         omega (arith, own, inner, listed, whole, params, body);
   }
 
-  pub statement_rolls : (x : StmtLayer) → SizedStatement ((layered made_pass).stmt x) ((layer_procedures named numbers).stmt x) ((layered switches_pass).stmt x) ((layered tree_pass).stmt x)
+  pub statement_rolls : (x : StmtLayer) → SizedStatement ((layered (made_pass named numbers)).stmt x) ((layer_procedures named numbers).stmt x) ((layered (switches_pass named numbers)).stmt x) ((layered tokens_pass).stmt x)
       → SizedStatement (made.statement_of named numbers (roll-RawStmt x)) (procs.statement_procs named numbers (roll-RawStmt x)) (switches.statement_switches named numbers (roll-RawStmt x)) (tree.stmt_tokens (roll-RawStmt x))
-  statement_rolls x h = four_ways SizedStatement ((rolls made_pass).stmt x) ((procedures_roll named numbers).stmt x) ((rolls switches_pass).stmt x) ((rolls tree_pass).stmt x) h
+  statement_rolls x h = four_ways SizedStatement ((rolls (made_pass named numbers)).stmt x) ((procedures_roll named numbers).stmt x) ((rolls (switches_pass named numbers)).stmt x) ((rolls tokens_pass).stmt x) h

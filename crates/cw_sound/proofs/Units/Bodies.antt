@@ -1,43 +1,41 @@
 -- The procedures that a text declares are those whose bodies it has, in order.
 use Rattle.std.proofs.Common.{◌≡◌, ℕ, arith, List, [], ◌∷◌, ◌++◌, map, length, Bool, true, false, not, ◌||◌, ◌==◌, Option, Some, None, sym, ap, subst, ◌∙◌}
 use Rattle.cw_tree.specs.declared.leaf.RawName.{RawName}
-use Rattle.cw_tree.specs.declared.statement.RawFelem.{RawFelem}
-use Rattle.cw_tree.specs.declared.statement.RawFelem.TheVariants as felem
-use Rattle.cw_tree.specs.declared.statement.RawDecl.{RawDecl, RawDecl-F, roll-RawDecl, map-RawDecl}
-use Rattle.cw_tree.specs.declared.statement.RawForm.{RawForm, roll-RawForm, map-RawForm}
-use Rattle.cw_tree.specs.declared.statement.RawSimple.{RawSimple, roll-RawSimple, map-RawSimple}
-use Rattle.cw_tree.specs.declared.statement.RawBlock.{RawBlock, roll-RawBlock, map-RawBlock}
+use Rattle.cw_tree.specs.declared.statement.RawDecl.{RawDecl, roll-RawDecl}
+use Rattle.cw_tree.specs.declared.statement.RawForm.{RawForm, roll-RawForm}
+use Rattle.cw_tree.specs.declared.statement.RawSimple.{RawSimple, roll-RawSimple}
+use Rattle.cw_tree.specs.declared.statement.RawBlock.{RawBlock, roll-RawBlock}
 use Rattle.cw_tree.specs.declared.statement.RawProc.{RawProc, roll-RawProc, out-RawProc, map-RawProc}
-use Rattle.cw_tree.specs.declared.statement.RawStmt.{RawStmt, roll-RawStmt, map-RawStmt}
+use Rattle.cw_tree.specs.declared.statement.RawStmt.{RawStmt, roll-RawStmt}
 use Rattle.cw_tree.specs.declared.statement.RawDecl.TheOpen as layer
-use Rattle.cw_tree.specs.declared.statement.RawDecl.TheOpen.{RawForm-F, RawSimple-F, RawBlock-F, RawProc-F, RawStmt-F}
 use Rattle.cw_tree.specs.declared.statement.RawDecl.TheViews.{out-roll-RawProc}
-use Rattle.cw_tree.specs.declared.statement.RawDecl.TheFolds.{para-roll-RawDecl, para-roll-RawForm, para-roll-RawSimple, para-roll-RawBlock, para-roll-RawProc, para-roll-RawStmt}
 use Rattle.cw_facts.specs.declared.fact.Fact.{Fact}
 use Rattle.cw_facts.specs.declared.fact.Fact.TheVariants as fact
 use Rattle.cw_facts.specs.declared.fact.Form.TheVariants as use_form
 use Rattle.cw_facts.specs.declared.fact.Kind.TheVariants as kind
 use Rattle.cw_facts.specs.declared.fact.Reading.TheVariants as reading
-use Rattle.cw_facts.specs.Uses.{expression_uses, condition_uses, reference_uses, argument_uses}
+use Rattle.cw_facts.specs.Uses.{expression_uses, reference_uses, argument_uses}
 use Rattle.cw_facts.specs.Facts as facts
-use Rattle.cw_facts.specs.Facts.{BlockFacts, each_declares, base_name, felem_facts, felems_facts, enclosed, answer_name}
+use Rattle.cw_facts.specs.Facts.{BlockFacts, each_declares, base_name, enclosed, answer_name}
 use Rattle.cw_scope.specs.declared.resolve.Named.{Named}
 use Rattle.cw_make_items.specs.Lookup.{Numbers}
 use Rattle.cw_unit.specs.declared.unit.Switch.{Switch}
 use Rattle.cw_sound.specs.Uses.Mentions.{Mention, Here, declares, uses, stores, facts_mentions}
 use Rattle.cw_sound.specs.Names.Standing.{is_own_procedure}
-use Rattle.cw_sound.proofs.Names.Parts.{Part, Plain, plain, items, label, switch, procedure_with}
+use Rattle.cw_sound.proofs.Names.Parts.{Part, plain, items, label, switch, procedure_with}
 use Rattle.cw_sound.proofs.Names.PartKinds.{procs_in, part_procs, shape, inner_procs, body, within_it}
 use Rattle.cw_sound.proofs.Names.Rows.{mentions_append}
 use Rattle.cw_sound.proofs.Names.Picking.{pick_append, Zip, zip_both}
 use Rattle.cw_sound.proofs.Names.Sorts.{of_kind}
 use Rattle.cw_sound.proofs.Names.MentionsOf.{block_alone}
+use Rattle.cw_sound.proofs.Names.TreeParts.{felems_plain}
 use Rattle.cw_sound.proofs.Names.PlainFacts.{plain_nothing, plain_both, plain_use, plain_loop}
 use Rattle.cw_sound.proofs.Names.ExpressionUses.{expression_plain, condition_plain, reference_plain, arguments_plain}
 use Rattle.cw_sound.specs.Statements.Bodies.{Body, Bodies}
 use Rattle.cw_sound.specs.Statements.Bodies as bodies
 use Rattle.cw_sound.proofs.Statements.Layers.{Known, WithDecl, WithStmt, DeclParts, FormParts, SimpleParts, BlockParts, ProcParts, StmtParts, decl_layer, form_layer, simple_layer, block_layer, proc_layer, stmt_layer, each_block}
-use Rattle.cw_sound.proofs.Statements.Folds.{facts_decl, facts_form, facts_simple, facts_block, facts_proc, facts_stmt}
+use Rattle.cw_sound.proofs.Statements.Passes.{rolls, walk_rolls, bodies_walk}
+use Rattle.cw_sound.proofs.Statements.Folds.{facts_pass}
 
 -- a mention declares the procedure of a body
 abbrev pub Declares : Mention → (token : ℕ) → Type 0
@@ -92,17 +90,6 @@ module _ (named : Named) (numbers : Numbers) where
   labels [] = nothing
   labels (n ∷ ns) = two (none (label n)) (labels ns)
 
-  felem_plain : (e : RawFelem) → Plain numbers (felem_facts e)
-  felem_plain (felem.One e) = expression_plain numbers e reading.Value
-  felem_plain (felem.While e c) = plain_both numbers (expression_uses e reading.Value) (condition_uses c reading.Value) (expression_plain numbers e reading.Value) (condition_plain numbers c reading.Value)
-  felem_plain (felem.Step a b c) =
-      plain_both numbers (expression_uses a reading.Value) (expression_uses b reading.Value ++ expression_uses c reading.Value) (expression_plain numbers a reading.Value)
-      (plain_both numbers (expression_uses b reading.Value) (expression_uses c reading.Value) (expression_plain numbers b reading.Value) (expression_plain numbers c reading.Value))
-
-  felems_plain : (es : List RawFelem) → Plain numbers (felems_facts es)
-  felems_plain [] = plain_nothing numbers
-  felems_plain (e ∷ es) = plain_both numbers (felem_facts e) (felems_facts es) (felem_plain e) (felems_plain es)
-
   -- ---- what each tree has
 
   abbrev pub DeclHas : RawDecl → Type 0
@@ -125,24 +112,6 @@ module _ (named : Named) (numbers : Numbers) where
 
   -- ---- what each tree comes to, by its layer
 
-  abbrev bodies_declaration : (x : RawDecl-F RawDecl RawForm RawSimple RawBlock RawProc RawStmt) → bodies.declaration_bodies (roll-RawDecl x) ≡ bodies.declaration_step (map-RawDecl RawDecl RawForm RawSimple RawBlock RawProc RawStmt (RawDecl × Bodies) (RawForm × Bodies) (RawSimple × Bodies) (RawBlock × Bodies) (RawProc × Bodies) (RawStmt × Bodies) (λ z. (z, bodies.declaration_bodies z)) (λ z. (z, bodies.form_bodies z)) (λ z. (z, bodies.simple_bodies z)) (λ z. (z, bodies.block_bodies z)) (λ z. (z, bodies.procedure_bodies z)) (λ z. (z, bodies.statement_bodies z)) x)
-  bodies_declaration x = para-roll-RawDecl Bodies Bodies Bodies Bodies Bodies Bodies bodies.declaration_step bodies.form_step bodies.simple_step bodies.block_step bodies.procedure_step bodies.statement_step x
-
-  abbrev bodies_form : (x : RawForm-F RawDecl RawForm RawSimple RawBlock RawProc RawStmt) → bodies.form_bodies (roll-RawForm x) ≡ bodies.form_step (map-RawForm RawDecl RawForm RawSimple RawBlock RawProc RawStmt (RawDecl × Bodies) (RawForm × Bodies) (RawSimple × Bodies) (RawBlock × Bodies) (RawProc × Bodies) (RawStmt × Bodies) (λ z. (z, bodies.declaration_bodies z)) (λ z. (z, bodies.form_bodies z)) (λ z. (z, bodies.simple_bodies z)) (λ z. (z, bodies.block_bodies z)) (λ z. (z, bodies.procedure_bodies z)) (λ z. (z, bodies.statement_bodies z)) x)
-  bodies_form x = para-roll-RawForm Bodies Bodies Bodies Bodies Bodies Bodies bodies.declaration_step bodies.form_step bodies.simple_step bodies.block_step bodies.procedure_step bodies.statement_step x
-
-  abbrev bodies_simple : (x : RawSimple-F RawDecl RawForm RawSimple RawBlock RawProc RawStmt) → bodies.simple_bodies (roll-RawSimple x) ≡ bodies.simple_step (map-RawSimple RawDecl RawForm RawSimple RawBlock RawProc RawStmt (RawDecl × Bodies) (RawForm × Bodies) (RawSimple × Bodies) (RawBlock × Bodies) (RawProc × Bodies) (RawStmt × Bodies) (λ z. (z, bodies.declaration_bodies z)) (λ z. (z, bodies.form_bodies z)) (λ z. (z, bodies.simple_bodies z)) (λ z. (z, bodies.block_bodies z)) (λ z. (z, bodies.procedure_bodies z)) (λ z. (z, bodies.statement_bodies z)) x)
-  bodies_simple x = para-roll-RawSimple Bodies Bodies Bodies Bodies Bodies Bodies bodies.declaration_step bodies.form_step bodies.simple_step bodies.block_step bodies.procedure_step bodies.statement_step x
-
-  abbrev bodies_block : (x : RawBlock-F RawDecl RawForm RawSimple RawBlock RawProc RawStmt) → bodies.block_bodies (roll-RawBlock x) ≡ bodies.block_step (map-RawBlock RawDecl RawForm RawSimple RawBlock RawProc RawStmt (RawDecl × Bodies) (RawForm × Bodies) (RawSimple × Bodies) (RawBlock × Bodies) (RawProc × Bodies) (RawStmt × Bodies) (λ z. (z, bodies.declaration_bodies z)) (λ z. (z, bodies.form_bodies z)) (λ z. (z, bodies.simple_bodies z)) (λ z. (z, bodies.block_bodies z)) (λ z. (z, bodies.procedure_bodies z)) (λ z. (z, bodies.statement_bodies z)) x)
-  bodies_block x = para-roll-RawBlock Bodies Bodies Bodies Bodies Bodies Bodies bodies.declaration_step bodies.form_step bodies.simple_step bodies.block_step bodies.procedure_step bodies.statement_step x
-
-  abbrev bodies_procedure : (x : RawProc-F RawDecl RawForm RawSimple RawBlock RawProc RawStmt) → bodies.procedure_bodies (roll-RawProc x) ≡ bodies.procedure_step (map-RawProc RawDecl RawForm RawSimple RawBlock RawProc RawStmt (RawDecl × Bodies) (RawForm × Bodies) (RawSimple × Bodies) (RawBlock × Bodies) (RawProc × Bodies) (RawStmt × Bodies) (λ z. (z, bodies.declaration_bodies z)) (λ z. (z, bodies.form_bodies z)) (λ z. (z, bodies.simple_bodies z)) (λ z. (z, bodies.block_bodies z)) (λ z. (z, bodies.procedure_bodies z)) (λ z. (z, bodies.statement_bodies z)) x)
-  bodies_procedure x = para-roll-RawProc Bodies Bodies Bodies Bodies Bodies Bodies bodies.declaration_step bodies.form_step bodies.simple_step bodies.block_step bodies.procedure_step bodies.statement_step x
-
-  abbrev bodies_statement : (x : RawStmt-F RawDecl RawForm RawSimple RawBlock RawProc RawStmt) → bodies.statement_bodies (roll-RawStmt x) ≡ bodies.statement_step (map-RawStmt RawDecl RawForm RawSimple RawBlock RawProc RawStmt (RawDecl × Bodies) (RawForm × Bodies) (RawSimple × Bodies) (RawBlock × Bodies) (RawProc × Bodies) (RawStmt × Bodies) (λ z. (z, bodies.declaration_bodies z)) (λ z. (z, bodies.form_bodies z)) (λ z. (z, bodies.simple_bodies z)) (λ z. (z, bodies.block_bodies z)) (λ z. (z, bodies.procedure_bodies z)) (λ z. (z, bodies.statement_bodies z)) x)
-  bodies_statement x = para-roll-RawStmt Bodies Bodies Bodies Bodies Bodies Bodies bodies.declaration_step bodies.form_step bodies.simple_step bodies.block_step bodies.procedure_step bodies.statement_step x
-
   like : {fs gs : List Fact} {bs cs : Bodies} → gs ≡ fs → cs ≡ bs → Has fs bs → Has gs cs
   like {fs} {gs} {bs} {cs} e d h = subst (λ f. Has f cs) (sym e) (subst (Has fs) (sym d) h)
 
@@ -154,45 +123,45 @@ module _ (named : Named) (numbers : Numbers) where
   -- ---- rules of the grammar
 
   declaration_rule : (y : DeclParts known) → DeclHas (roll-RawDecl (decl_layer known y))
-  declaration_rule (layer.Data d) = like (facts_decl (layer.Data d)) (bodies_declaration (layer.Data d)) (none (items d))
+  declaration_rule (layer.Data d) = like ((rolls facts_pass).decl (layer.Data d)) ((walk_rolls bodies_walk).decl (layer.Data d)) (none (items d))
   declaration_rule (layer.Overlay at b d) =
-      like (facts_decl (layer.Overlay at b d)) (bodies_declaration (layer.Overlay at b d))
+      like ((rolls facts_pass).decl (layer.Overlay at b d)) ((walk_rolls bodies_walk).decl (layer.Overlay at b d))
       (before (none (plain (plain_use numbers (record { name = base_name b; form = use_form.Base }) [] (plain_nothing numbers)))) (none (items d)))
-  declaration_rule (layer.Switch at n ns) = like (facts_decl (layer.Switch at n ns)) (bodies_declaration (layer.Switch at n ns)) (none (switch n ns))
-  declaration_rule (layer.Proc p) = like (facts_decl (layer.Proc p.0)) (bodies_declaration (layer.Proc p.0)) p.1
+  declaration_rule (layer.Switch at n ns) = like ((rolls facts_pass).decl (layer.Switch at n ns)) ((walk_rolls bodies_walk).decl (layer.Switch at n ns)) (none (switch n ns))
+  declaration_rule (layer.Proc p) = like ((rolls facts_pass).decl (layer.Proc p.0)) ((walk_rolls bodies_walk).decl (layer.Proc p.0)) p.1
 
   form_rule : (y : FormParts known) → FormHas (roll-RawForm (form_layer known y))
-  form_rule (layer.Simple s) = like (facts_form (layer.Simple s.0)) (bodies_form (layer.Simple s.0)) s.1
+  form_rule (layer.Simple s) = like ((rolls facts_pass).form (layer.Simple s.0)) ((walk_rolls bodies_walk).form (layer.Simple s.0)) s.1
   form_rule (layer.If at test ns first None) =
-      like (facts_form (layer.If at test ns first.0 None)) (bodies_form (layer.If at test ns first.0 None))
+      like ((rolls facts_pass).form (layer.If at test ns first.0 None)) ((walk_rolls bodies_walk).form (layer.If at test ns first.0 None))
       (before (none (plain (condition_plain numbers test reading.Value))) (before (labels ns) (two first.1 nothing)))
   form_rule (layer.If at test ns first (Some second)) =
-      like (facts_form (layer.If at test ns first.0 (Some second.0))) (bodies_form (layer.If at test ns first.0 (Some second.0)))
+      like ((rolls facts_pass).form (layer.If at test ns first.0 (Some second.0))) ((walk_rolls bodies_walk).form (layer.If at test ns first.0 (Some second.0)))
       (before (none (plain (condition_plain numbers test reading.Value))) (before (labels ns) (two first.1 second.1)))
   form_rule (layer.For at variable elems body) =
-      like (facts_form (layer.For at variable elems body.0)) (bodies_form (layer.For at variable elems body.0))
-      (before (none (plain (plain_loop numbers at (reference_uses variable reading.Whole) (reference_plain numbers variable reading.Whole)))) (before (none (plain (felems_plain elems))) body.1))
+      like ((rolls facts_pass).form (layer.For at variable elems body.0)) ((walk_rolls bodies_walk).form (layer.For at variable elems body.0))
+      (before (none (plain (plain_loop numbers at (reference_uses variable reading.Whole) (reference_plain numbers variable reading.Whole)))) (before (none (plain (felems_plain named numbers elems))) body.1))
 
   simple_rule : (y : SimpleParts known) → SimpleHas (roll-RawSimple (simple_layer known y))
-  simple_rule layer.Empty = like (facts_simple (layer.Empty)) (bodies_simple (layer.Empty)) nothing
+  simple_rule layer.Empty = like ((rolls facts_pass).simple (layer.Empty)) ((walk_rolls bodies_walk).simple (layer.Empty)) nothing
   simple_rule (layer.Assign r e) =
-      like (facts_simple (layer.Assign r e)) (bodies_simple (layer.Assign r e))
+      like ((rolls facts_pass).simple (layer.Assign r e)) ((walk_rolls bodies_walk).simple (layer.Assign r e))
       (none (plain (plain_both numbers (reference_uses r reading.Target) (expression_uses e reading.Value) (reference_plain numbers r reading.Target) (expression_plain numbers e reading.Value))))
   simple_rule (layer.AssignBits bits r e) =
-      like (facts_simple (layer.AssignBits bits r e)) (bodies_simple (layer.AssignBits bits r e))
+      like ((rolls facts_pass).simple (layer.AssignBits bits r e)) ((walk_rolls bodies_walk).simple (layer.AssignBits bits r e))
       (none (plain (plain_both numbers (reference_uses r reading.Whole) (expression_uses e reading.Value) (reference_plain numbers r reading.Whole) (expression_plain numbers e reading.Value))))
   simple_rule (layer.Goto at n) =
-      like (facts_simple (layer.Goto at n)) (bodies_simple (layer.Goto at n)) (none (plain (plain_use numbers (record { name = n; form = use_form.Goto }) [] (plain_nothing numbers))))
+      like ((rolls facts_pass).simple (layer.Goto at n)) ((walk_rolls bodies_walk).simple (layer.Goto at n)) (none (plain (plain_use numbers (record { name = n; form = use_form.Goto }) [] (plain_nothing numbers))))
   simple_rule (layer.GotoSwitch at n e) =
-      like (facts_simple (layer.GotoSwitch at n e)) (bodies_simple (layer.GotoSwitch at n e))
+      like ((rolls facts_pass).simple (layer.GotoSwitch at n e)) ((walk_rolls bodies_walk).simple (layer.GotoSwitch at n e))
       (none (plain (plain_use numbers (record { name = n; form = use_form.GotoSwitch }) (expression_uses e reading.Value) (expression_plain numbers e reading.Value))))
   simple_rule (layer.Call n es) =
-      like (facts_simple (layer.Call n es)) (bodies_simple (layer.Call n es))
+      like ((rolls facts_pass).simple (layer.Call n es)) ((walk_rolls bodies_walk).simple (layer.Call n es))
       (none (plain (plain_use numbers (record { name = n; form = use_form.Call }) (argument_uses es) (arguments_plain numbers es))))
   simple_rule (layer.Answer at e) =
-      like (facts_simple (layer.Answer at e)) (bodies_simple (layer.Answer at e))
+      like ((rolls facts_pass).simple (layer.Answer at e)) ((walk_rolls bodies_walk).simple (layer.Answer at e))
       (none (plain (plain_use numbers (record { name = answer_name at; form = use_form.Answer }) (expression_uses e reading.Value) (expression_plain numbers e reading.Value))))
-  simple_rule (layer.Block b) = like (facts_simple (layer.Block b.0)) (bodies_simple (layer.Block b.0)) (b.1 false)
+  simple_rule (layer.Block b) = like ((rolls facts_pass).simple (layer.Block b.0)) ((walk_rolls bodies_walk).simple (layer.Block b.0)) (b.1 false)
 
   all_declarations : (ts : List (WithDecl known)) → let zs : List RawDecl = map (λ e. e.0) ts in Has (facts.joined (map facts.declaration_facts zs)) (bodies.joined (map (λ z. (z, bodies.declaration_bodies z)) zs))
   all_declarations [] = nothing
@@ -204,19 +173,19 @@ module _ (named : Named) (numbers : Numbers) where
 
   block_rule : (y : BlockParts known) → BlockHas (roll-RawBlock (block_layer known y))
   block_rule y outermost =
-      like (ap (λ f. f outermost) (facts_block (block_layer known y))) (bodies_block (block_layer known y))
+      like (ap (λ f. f outermost) ((rolls facts_pass).block (block_layer known y))) ((walk_rolls bodies_walk).block (block_layer known y))
       (either (outermost || not (length (map facts.declaration_facts (map (λ e. e.0) y.decls)) == 0)) (two (all_declarations y.decls) (all_statements y.stmts)))
 
   procedure_rule : (y : ProcParts known) → ProcHas (roll-RawProc (proc_layer known y))
   procedure_rule y =
       let p : RawProc = roll-RawProc (proc_layer known y) in
       let b : Body = record { token = y.name.at.token; statement = y.body.0 } in
-      like (facts_proc (proc_layer known y)) (bodies_procedure (proc_layer known y))
+      like ((rolls facts_pass).proc (proc_layer known y)) ((walk_rolls bodies_walk).proc (proc_layer known y))
       (subst (λ z. Has (facts.procedure_step (map-RawProc RawDecl RawForm RawSimple RawBlock RawProc RawStmt (List Fact) (List Fact) (List Fact) BlockFacts (List Fact) (List Fact) facts.declaration_facts facts.form_facts facts.simple_facts facts.block_facts facts.procedure_facts facts.statement_facts z)) (b ∷ bodies.statement_bodies y.body.0)) (out-roll-RawProc (proc_layer known y))
       (procedure p b (ap (λ z. z.name.at.token) (out-roll-RawProc (proc_layer known y))) (subst (λ z. Has (facts.statement_facts z.body) (bodies.statement_bodies y.body.0)) (sym (out-roll-RawProc (proc_layer known y))) y.body.1)))
 
   statement_rule : (y : StmtParts known) → StmtHas (roll-RawStmt (stmt_layer known y))
-  statement_rule y = like (facts_stmt (stmt_layer known y)) (bodies_statement (stmt_layer known y)) (before (labels y.labels) y.form.1)
+  statement_rule y = like ((rolls facts_pass).stmt (stmt_layer known y)) ((walk_rolls bodies_walk).stmt (stmt_layer known y)) (before (labels y.labels) y.form.1)
 
   pub block_has : (b : RawBlock) → BlockHas b
   block_has = each_block known (record { decl = declaration_rule; form = form_rule; simple = simple_rule; block = block_rule; proc = procedure_rule; stmt = statement_rule })

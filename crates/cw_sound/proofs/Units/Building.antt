@@ -30,7 +30,8 @@ use Rattle.cw_sound.proofs.Names.TreeParts.{block_parts}
 use Rattle.cw_sound.proofs.Expressions.Truth.{both}
 use Rattle.cw_sound.specs.Statements.Counted.{BodiesBuilt}
 use Rattle.cw_sound.proofs.Units.Numbering.{At, From, from_start}
-use Rattle.cw_sound.proofs.Units.Procedures.{ProcOf, row_of, part_has}
+use Rattle.cw_sound.proofs.Units.Procedures.{ProcOf, part_has}
+use Rattle.cw_sound.proofs.Names.Signed.{row_of}
 use Rattle.cw_sound.proofs.Units.Parameters.{Within, parameters_fit}
 
 le_true : (a b : ℕ) → a ≤ b → nat_le a b ≡ true
@@ -66,7 +67,7 @@ module _ (named : Named) (numbers : Numbers) (u : SourceUnit) (resolves : Resolv
       let inside : Within named numbers u items n (parameters_facts (out-RawProc p).params) = subst (λ k. Within named numbers u items k (parameters_facts (out-RawProc p).params)) body (r.inside None) in
       subst (λ (x : Proc). IsTrue (heads_fit n x)) (sym r.is_proc)
       (both (nat_le (length (params_of numbers (out-RawProc p).params)) 32) (items_fit (λ i. has_words u (Some n) i 1) (params_of numbers (out-RawProc p).params))
-      (made_few p (few (row_of named numbers p) r.signature)) (parameters_fit named numbers u items n (out-RawProc p).params inside))
+      (made_few p (few (row_of p) r.signature)) (parameters_fit named numbers u items n (out-RawProc p).params inside))
 
   all_procedures : (n : ℕ) (qs : List Proc) → Procedures n qs → ((k : ℕ) (q : Proc) → slice_get qs k ≡ Some q → IsTrue (has_body (n + k) q)) → IsTrue (are_procedures u n qs)
   all_procedures n [] h b = refl

@@ -22,6 +22,7 @@ use Rattle.cw_make.specs.Made.{unit_of}
 use Rattle.cw_sound.specs.Uses.Mentions.{In, Mention, Here, here, declares, uses, stores, Mentions, mentions_step, fact_mentions, facts_mentions, text_mentions}
 use Rattle.cw_sound.specs.Names.Standing as names
 use Rattle.cw_sound.specs.Names.Standing.{is_item, IsItemFrom}
+use Rattle.cw_sound.proofs.Names.Lists.{in_left, in_right}
 use Rattle.cw_sound.proofs.Names.Rows.{row, in_rows, facts_rows}
 use Rattle.cw_sound.specs.Items.Bodies.{Stored, AllStored, stored_at, declared_stored, is_other, stored_step, fact_stored, facts_stored}
 use Rattle.cw_sound.specs.Items.Items.{ItemsStand, IsThere}
@@ -30,15 +31,6 @@ each : {X : Type 0} (P : X → Type 0) (xs : List X) → All P xs → (x : X) �
 each P [] h x i = absurd i
 each P (y ∷ ys) h x (inl e) = subst P e (All-head P y ys h)
 each P (y ∷ ys) h x (inr i) = each P ys (All-tail P y ys h) x i
-
-in_first : {X : Type 0} (x : X) (xs ys : List X) → In x xs → In x (xs ++ ys)
-in_first x [] ys i = absurd i
-in_first x (y ∷ xs) ys (inl e) = inl e
-in_first x (y ∷ xs) ys (inr i) = inr (in_first x xs ys i)
-
-in_second : {X : Type 0} (x : X) (xs ys : List X) → In x ys → In x (xs ++ ys)
-in_second x [] ys i = i
-in_second x (y ∷ xs) ys i = inr (in_second x xs ys i)
 
 -- ---- what is stored, by its mentions
 
@@ -57,8 +49,8 @@ stored_append (x ∷ xs) ys = ap (λ zs. stored_by x.mention x.who ++ zs) (store
 
 is_stored : (m : Here) (ms : List Here) → In m ms → (s : Stored) → In s (stored_by m.mention m.who) → In s (stored_in ms)
 is_stored m [] i s j = absurd i
-is_stored m (n ∷ ms) (inl e) s j = in_first s (stored_by n.mention n.who) (stored_in ms) (subst (λ (x : Here). In s (stored_by x.mention x.who)) (sym e) j)
-is_stored m (n ∷ ms) (inr i) s j = in_second s (stored_by n.mention n.who) (stored_in ms) (is_stored m ms i s j)
+is_stored m (n ∷ ms) (inl e) s j = in_left s (stored_by n.mention n.who) (stored_in ms) (subst (λ (x : Here). In s (stored_by x.mention x.who)) (sym e) j)
+is_stored m (n ∷ ms) (inr i) s j = in_right s (stored_by n.mention n.who) (stored_in ms) (is_stored m ms i s j)
 
 module _ (numbers : Numbers) where
   abbrev HasStored : Mentions → AllStored → Type 0

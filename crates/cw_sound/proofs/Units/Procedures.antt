@@ -1,13 +1,9 @@
 -- The procedures of a unit beside their declarations: each is made of one that the text declares.
-use Rattle.std.proofs.Common.{◌≡◌, inl, inr, ℕ, arith, List, [], ◌∷◌, ◌++◌, length, Bool, Option, Some, None, refl, sym, ap, subst, ◌∙◌, append-nil}
-use Rattle.cw_table.specs.declared.table.Row.{Row}
+use Rattle.std.proofs.Common.{◌≡◌, inl, inr, ℕ, arith, List, [], ◌∷◌, ◌++◌, length, Bool, Option, None, refl, sym, ap, subst, ◌∙◌, append-nil}
 use Rattle.cw_tree.specs.declared.statement.RawProc.{RawProc, out-RawProc}
 use Rattle.cw_facts.specs.declared.fact.Fact.{Fact}
 use Rattle.cw_facts.specs.declared.fact.Fact.TheVariants as fact
-use Rattle.cw_facts.specs.declared.fact.Kind.TheVariants as kind
-use Rattle.cw_facts.specs.declared.fact.Signature.{Signature}
-use Rattle.cw_facts.specs.Facts.{specifies, parameters_facts, answer_facts}
-use Rattle.cw_facts.specs.Signatures.{flattened}
+use Rattle.cw_facts.specs.Facts.{parameters_facts}
 use Rattle.cw_scope.specs.declared.resolve.Named.{Named}
 use Rattle.cw_scope.specs.Resolved.{fact_signatures, text_signatures}
 use Rattle.cw_make_items.specs.Lookup.{Numbers}
@@ -18,19 +14,17 @@ use Rattle.cw_sound.specs.Uses.Mentions.{In, Here, facts_mentions, block_mention
 use Rattle.cw_sound.specs.Names.Standing.{is_own_procedure}
 use Rattle.cw_sound.proofs.Names.Lists.{Sub, in_right, sub_left, sub_right}
 use Rattle.cw_sound.proofs.Names.Parts.{Part, empty, both, plain, items, label, switch, block, procedure, more, procedure_with}
-use Rattle.cw_sound.proofs.Names.PartKinds.{procs_in, part_procs, shape, inner_procs, inner_facts, answers, params, body, within_it, first_mention}
+use Rattle.cw_sound.proofs.Names.PartKinds.{procs_in, part_procs, shape, inner_procs, answers, params, body, within_it, first_mention}
+use Rattle.cw_sound.proofs.Names.Signed.{row_of, rows_signed, inner_signed}
 use Rattle.cw_sound.proofs.Names.Rows.{mentions_append}
 use Rattle.cw_sound.proofs.Names.Picking.{pick_append, Zip, zip_both}
 use Rattle.cw_sound.proofs.Names.Sorts.{of_kind}
-use Rattle.cw_sound.proofs.Names.MentionsOf.{block_alone, signatures_append, declared_before, specified_before, signatures_block}
+use Rattle.cw_sound.proofs.Names.MentionsOf.{block_alone, signatures_append, signatures_block}
 use Rattle.cw_sound.proofs.Units.Bodies.{Declares}
 
 module _ (named : Named) (numbers : Numbers) where
   abbrev pub all : List Here
   all = block_mentions numbers named.raw.now
-
-  abbrev pub row_of : RawProc → Row Signature
-  row_of p = record { token = (out-RawProc p).name.at.token; item = record { answer = (out-RawProc p).answer; params = flattened (out-RawProc p).params } }
 
   -- a procedure of the unit, and the mention that declares it
   pub record ProcOf (m : Here) (q : Proc) : Type 0 where
@@ -50,22 +44,8 @@ module _ (named : Named) (numbers : Numbers) where
   -- ---- a procedure
 
   module _ (p : RawProc) (fs : List Fact) (q : Option ℕ) (sub : Sub (facts_mentions numbers (procedure_with named numbers p fs) q) all) (signed : Sub (text_signatures (procedure_with named numbers p fs)) named.signatures) where
-    signatures : Sub (row_of p ∷ text_signatures (inner_facts named numbers p fs q)) named.signatures
-    signatures =
-        subst (λ rs. Sub rs named.signatures)
-        (declared_before (out-RawProc p).name (kind.Proc (out-RawProc p).answer) (specifies (out-RawProc p).name.at.token (out-RawProc p).answer (flattened (out-RawProc p).params) ∷ fact.Block (Some (out-RawProc p).name.at.token) (inner_facts named numbers p fs q) ∷ [])
-        ∙ specified_before (out-RawProc p).name.at.token (out-RawProc p).answer (flattened (out-RawProc p).params) (fact.Block (Some (out-RawProc p).name.at.token) (inner_facts named numbers p fs q) ∷ [])
-        ∙ ap (λ rs. row_of p ∷ rs) (append-nil (fact_signatures (fact.Block (Some (out-RawProc p).name.at.token) (inner_facts named numbers p fs q))) ∙ signatures_block (Some (out-RawProc p).name.at.token) (inner_facts named numbers p fs q))) signed
-
-    inner_signatures : Sub (text_signatures (parameters_facts (out-RawProc p).params) ++ text_signatures fs) named.signatures
-    inner_signatures =
-        let both_parts = subst (λ rs. Sub rs named.signatures)
-        (signatures_append (answer_facts (out-RawProc p).answer) (parameters_facts (out-RawProc p).params ++ fs)) (λ r i. signatures r (inr i)) in
-        subst (λ rs. Sub rs named.signatures) (signatures_append (parameters_facts (out-RawProc p).params) fs)
-        (sub_right (text_signatures (answer_facts (out-RawProc p).answer)) (text_signatures (parameters_facts (out-RawProc p).params ++ fs)) named.signatures both_parts)
-
     body_signatures : Sub (text_signatures fs) named.signatures
-    body_signatures = sub_right (text_signatures (parameters_facts (out-RawProc p).params)) (text_signatures fs) named.signatures inner_signatures
+    body_signatures = sub_right (text_signatures (parameters_facts (out-RawProc p).params)) (text_signatures fs) named.signatures (inner_signed named numbers p fs q signed)
 
     inner : Sub (params named numbers p fs q ++ body named numbers p fs q) all
     inner m i = sub m (subst (In m) (sym (shape named numbers p fs q)) (inr (in_right m (answers named numbers p fs q) (params named numbers p fs q ++ body named numbers p fs q) i)))
@@ -77,7 +57,7 @@ module _ (named : Named) (numbers : Numbers) where
     inner_body = sub_right (params named numbers p fs q) (body named numbers p fs q) all inner
 
     first : ProcOf (first_mention named numbers p fs q) (proc_of named numbers p)
-    first = record { proc = p; is_proc = refl; name = refl; signature = signatures (row_of p) (inl refl); inside = λ who. inner_params }
+    first = record { proc = p; is_proc = refl; name = refl; signature = rows_signed named numbers p fs q signed (row_of p) (inl refl); inside = λ who. inner_params }
 
     whole : (qs : List Proc) → Zip ProcOf (procs_in (body named numbers p fs q)) qs → Zip ProcOf (procs_in (facts_mentions numbers (procedure_with named numbers p fs) q)) (proc_of named numbers p ∷ qs)
     whole qs h =

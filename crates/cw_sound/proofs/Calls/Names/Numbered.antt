@@ -1,26 +1,20 @@
 -- The control parameters of each procedure have the numbers from 0 on, and the specifications of their declarations: part by part, each part with
 -- what the whole mentions before it and behind it, and with the procedures before it and behind it.
-use Rattle.std.proofs.Common.{◌≡◌, ◌⊎◌, inl, inr, ℕ, ◌+◌, ◌≤◌, List, [], ◌∷◌, ◌++◌, length, Bool, true, false, IsTrue, Option, Some, None, is_some, slice_get, refl, sym, ap, ap₂, subst, ◌∙◌, arith, append_assoc, append-nil, length-append}
-use Rattle.cw_table.specs.declared.table.Row.{Row}
+use Rattle.std.proofs.Common.{◌≡◌, ◌⊎◌, inl, inr, ℕ, ◌+◌, List, [], ◌∷◌, ◌++◌, length, Bool, true, false, IsTrue, Option, Some, None, is_some, refl, ap, subst, ◌∙◌, arith}
 use Rattle.cw_table.specs.Rows.{item_at}
 use Rattle.cw_tree.specs.declared.leaf.RawName.{RawName}
 use Rattle.cw_tree.specs.declared.leaf.RawType.{RawType}
 use Rattle.cw_tree.specs.declared.segment.RawIps.{RawIps}
 use Rattle.cw_tree.specs.declared.statement.RawProc.{RawProc, out-RawProc}
 use Rattle.cw_facts.specs.declared.fact.Fact.{Fact}
-use Rattle.cw_facts.specs.declared.fact.Fact.TheVariants as fact
 use Rattle.cw_facts.specs.declared.fact.Declaration.{Declaration}
 use Rattle.cw_facts.specs.declared.fact.Kind.{Kind as NameKind}
 use Rattle.cw_facts.specs.declared.fact.Kind.TheVariants as kind
-use Rattle.cw_facts.specs.declared.fact.Signature.{Signature}
-use Rattle.cw_facts.specs.Facts.{specifies, each_uses, parameters_facts, answer_facts, answer_name, type_position}
-use Rattle.cw_facts.specs.Signatures.{plain as as_plain, flattened}
+use Rattle.cw_facts.specs.Facts.{each_uses, answer_facts, answer_name, type_position}
+use Rattle.cw_facts.specs.Signatures.{plain as as_plain}
 use Rattle.cw_scope.specs.declared.resolve.Named.{Named}
-use Rattle.cw_scope.specs.Resolved.{fact_signatures, text_signatures}
-use Rattle.cw_number.specs.declared.numbers.Counts.{Counts}
 use Rattle.cw_number.specs.declared.numbered.Numbered.TheVariants as numbered
-use Rattle.cw_number.specs.Numbers.{none_counted, counted}
-use Rattle.cw_make_items.specs.Lookup.{Numbers, proc_in, proc_here, control_in, control_here}
+use Rattle.cw_make_items.specs.Lookup.{Numbers, control_in, control_here}
 use Rattle.cw_make_items.specs.Types.{plain_spec}
 use Rattle.cw_make.specs.Procedures.{params_of, proc_of}
 use Rattle.cw_unit.specs.declared.descriptor.Spec.{Spec}
@@ -31,24 +25,21 @@ use Rattle.cw_unit.specs.declared.unit.Switch.{Switch}
 use Rattle.cw_depth.specs.CallGraph.{spec_in, spec_in_procedure}
 use Rattle.cw_deepest.specs.Programs.Fitting.{AreNumbered}
 use Rattle.cw_deepest.specs.Linked.UnitFits.{parameter_in}
-use Rattle.cw_sound.specs.Uses.Mentions.{In, Mention, Here, here, declares as declared, uses, stores, facts_mentions, block_mentions}
+use Rattle.cw_sound.specs.Uses.Mentions.{In, Mention, Here, here, declares as declared, uses, stores, facts_mentions}
 use Rattle.cw_sound.specs.Names.Placed.{Placed}
-use Rattle.cw_sound.specs.Names.Standing.{is_control, is_own_procedure, counted_from, CountsOwn, FewParameters}
+use Rattle.cw_sound.specs.Names.Standing.{is_control, CountsOwn, FewParameters}
 use Rattle.cw_sound.proofs.Names.Params.{controls}
 use Rattle.cw_sound.proofs.Names.Parts.{Part, empty, both, plain, items as data_items, label, switch, block, procedure, more, procedure_with}
-use Rattle.cw_sound.proofs.Names.Lists.{in_either, Sub, sub_left, sub_right, split}
+use Rattle.cw_sound.proofs.Names.Lists.{in_either, split}
 use Rattle.cw_sound.proofs.Names.Rows.{mentions_append}
-use Rattle.cw_sound.proofs.Names.Picking.{pick_append, Zip, zip_at, picked_at}
-use Rattle.cw_sound.proofs.Names.Sorts.{of_kind, few_before, procedures_before}
-use Rattle.cw_sound.proofs.Names.MentionsOf.{declared_first, block_alone, signatures_append, declared_before, specified_before, signatures_block}
-use Rattle.cw_sound.proofs.Names.InProcedure.{IsParameter, parameters_say, control_number, controls_before, counted_append}
-use Rattle.cw_sound.proofs.Names.PartKinds.{is_data, data_say, uses_say, procs_in, within_it, inner_facts, first_mention, answers, params, body, shape, no_procs_before, part_procs, data_not, plain_not}
+use Rattle.cw_sound.proofs.Names.Picking.{Zip, zip_at, picked_at}
+use Rattle.cw_sound.proofs.Names.Sorts.{of_kind}
+use Rattle.cw_sound.proofs.Names.MentionsOf.{declared_first, block_alone}
+use Rattle.cw_sound.proofs.Names.InProcedure.{IsParameter, parameters_say}
+use Rattle.cw_sound.proofs.Names.PartKinds.{is_data, data_say, uses_say, within_it, params, body, part_procs, data_not, plain_not}
+use Rattle.cw_sound.proofs.Names.Placing.{At, first_at, second_at, inner_at, in_procedure, Stands, procedure_stands}
 use Rattle.cw_sound.proofs.Calls.Names.Taken.{controls_listed, numbered_from, spec_at}
 use Rattle.cw_sound.proofs.Calls.Names.Controls.{Control, ControlOfKind, ControlOf, picked_of, all_controls}
-
-slice_at : {X : Type 0} → (xs ys : List X) (y : X) → slice_get (xs ++ y ∷ ys) (length xs) ≡ Some y
-slice_at [] ys y = refl
-slice_at (x ∷ xs) ys y = slice_at xs ys y
 
 either : {A B C : Type 0} → A ⊎ B → (A → C) → (B → C) → C
 either (inl x) h k = h x
@@ -114,9 +105,6 @@ answer_quiet numbers (Some t) q m i = by_side (subst (In m) (declared_first numb
     by_side (inr j) = absurd j
 
 module _ (named : Named) (numbers : Numbers) (u : SourceUnit) (placed : Placed named.raw.now) (counts : CountsOwn named numbers) (few : FewParameters named) where
-  abbrev all : List Here
-  all = block_mentions numbers named.raw.now
-
   abbrev AllGoals : List Here → Type 0
   AllGoals ms = (m : Here) → In m ms → HereGoal named numbers u m
 
@@ -125,32 +113,19 @@ module _ (named : Named) (numbers : Numbers) (u : SourceUnit) (placed : Placed n
 
   -- what a part of the block comes to
   abbrev InContext : List Fact → List Proc → Type 0
-  InContext fs ps =
-      (q : Option ℕ) (before after : List Here) (pb pa : List Proc) → all ≡ before ++ (facts_mentions numbers fs q ++ after) → u.procs ≡ pb ++ (ps ++ pa) → length (procs_in before) ≡ length pb
-      → Sub (text_signatures fs) named.signatures → AllGoals (facts_mentions numbers fs q) × AllNumbered ps
+  InContext fs ps = (q : Option ℕ) (before after : List Here) (pb pa : List Proc) → At named numbers u fs ps q before after pb pa → AllGoals (facts_mentions numbers fs q) × AllNumbered ps
 
   none_numbered : AllNumbered []
   none_numbered x i = absurd i
 
   -- ---- a procedure, whose body comes to this
 
-  module _ (p : RawProc) (fs : List Fact) (ps : List Proc) (inside : InContext fs ps) (q : Option ℕ) (before after : List Here) (pb pa : List Proc)
-      (parted : all ≡ before ++ (facts_mentions numbers (procedure_with named numbers p fs) q ++ after)) (made : u.procs ≡ pb ++ ((proc_of named numbers p ∷ ps) ++ pa)) (count : length (procs_in before) ≡ length pb)
-      (sub : Sub (text_signatures (procedure_with named numbers p fs)) named.signatures) where
-    abbrev name : RawName
-    name = (out-RawProc p).name
-
-    abbrev head : Here
-    head = first_mention named numbers p fs q
-
-    abbrev answered : List Here
-    answered = answers named numbers p fs q
+  module _ (p : RawProc) (fs : List Fact) (ps : List Proc) (inside : InContext fs ps) (q : Option ℕ) (before after : List Here) (pb pa : List Proc) (at : At named numbers u (procedure_with named numbers p fs) (proc_of named numbers p ∷ ps) q before after pb pa) where
+    stands : Stands named numbers u p fs ps q before after pb pa
+    stands = procedure_stands named numbers u placed counts p fs ps q before after pb pa at
 
     abbrev xs : List Here
     xs = params named numbers p fs q
-
-    abbrev ys : List Here
-    ys = body named numbers p fs q
 
     abbrev who : Option ℕ
     who = within_it named numbers p fs q
@@ -158,62 +133,12 @@ module _ (named : Named) (numbers : Numbers) (u : SourceUnit) (placed : Placed n
     abbrev qs : List Param
     qs = params_of numbers (out-RawProc p).params
 
-    abbrev own_row : Row Signature
-    own_row = record { token = name.at.token; item = record { answer = (out-RawProc p).answer; params = flattened (out-RawProc p).params } }
-
-    parted_here : all ≡ before ++ head ∷ ((answered ++ (xs ++ ys)) ++ after)
-    parted_here = parted ∙ ap (λ ms. before ++ (ms ++ after)) (shape named numbers p fs q)
-
-    is_number : item_at numbers name.at.token ≡ Some (numbered.Proc (length pb))
-    is_number =
-        let n = procedures_before before (few_before numbers named.raw.now placed is_own_procedure before ((answered ++ (xs ++ ys)) ++ after) head parted_here) ∙ count in
-        counts before ((answered ++ (xs ++ ys)) ++ after) q (record { name = name; kind = kind.Proc (out-RawProc p).answer }) (numbered.Proc (length pb)) parted_here (ap (λ k. Some (numbered.Proc k)) n)
-
-    here_proc : slice_get u.procs (proc_here numbers name.at.token) ≡ Some (proc_of named numbers p)
-    here_proc = ap (λ o. slice_get u.procs (proc_in o)) is_number ∙ ap (λ zs. slice_get zs (length pb)) made ∙ slice_at pb (ps ++ pa) (proc_of named numbers p)
-
-    signatures : Sub (own_row ∷ text_signatures (inner_facts named numbers p fs q)) named.signatures
-    signatures =
-        subst (λ rs. Sub rs named.signatures)
-        (declared_before name (kind.Proc (out-RawProc p).answer) (specifies name.at.token (out-RawProc p).answer (flattened (out-RawProc p).params) ∷ fact.Block (Some name.at.token) (inner_facts named numbers p fs q) ∷ [])
-        ∙ specified_before name.at.token (out-RawProc p).answer (flattened (out-RawProc p).params) (fact.Block (Some name.at.token) (inner_facts named numbers p fs q) ∷ [])
-        ∙ ap (λ rs. own_row ∷ rs) (append-nil (fact_signatures (fact.Block (Some name.at.token) (inner_facts named numbers p fs q))) ∙ signatures_block (Some name.at.token) (inner_facts named numbers p fs q))) sub
-
-    inner_signatures : Sub (text_signatures (parameters_facts (out-RawProc p).params) ++ text_signatures fs) named.signatures
-    inner_signatures =
-        let both_parts = subst (λ rs. Sub rs named.signatures)
-        (signatures_append (answer_facts (out-RawProc p).answer) (parameters_facts (out-RawProc p).params ++ fs)) (λ r i. signatures r (inr i)) in
-        subst (λ rs. Sub rs named.signatures) (signatures_append (parameters_facts (out-RawProc p).params) fs)
-        (sub_right (text_signatures (answer_facts (out-RawProc p).answer)) (text_signatures (parameters_facts (out-RawProc p).params ++ fs)) named.signatures both_parts)
-
-    few_here : length (flattened (out-RawProc p).params) ≤ 32
-    few_here = few own_row (signatures own_row (inl refl))
-
-    sub_params : Sub (text_signatures (parameters_facts (out-RawProc p).params)) named.signatures
-    sub_params = sub_left (text_signatures (parameters_facts (out-RawProc p).params)) (text_signatures fs) named.signatures inner_signatures
-
     zipped : Zip (ControlOf numbers named.signatures) (controls numbers xs) (controls_listed qs)
-    zipped = all_controls numbers named.signatures (out-RawProc p).params who sub_params
-
-    rearranged : (a b : List Here) (m : Here) → before ++ head ∷ ((answered ++ ((a ++ m ∷ b) ++ ys)) ++ after) ≡ (before ++ head ∷ (answered ++ a)) ++ m ∷ (b ++ (ys ++ after))
-    rearranged a b m =
-        ap (λ zs. before ++ head ∷ (zs ++ after)) (ap (λ zs. answered ++ zs) (append_assoc a (m ∷ b) ys) ∙ sym (append_assoc answered a (m ∷ b ++ ys)))
-        ∙ ap (λ zs. before ++ head ∷ zs) (append_assoc (answered ++ a) (m ∷ b ++ ys) after ∙ ap (λ zs. (answered ++ a) ++ m ∷ zs) (append_assoc b ys after))
-        ∙ sym (append_assoc before (head ∷ (answered ++ a)) (m ∷ (b ++ (ys ++ after))))
-
-    -- a control parameter has the number of its place
-    number_at : (a b : List Here) (q' : Option ℕ) (d : Declaration) → xs ≡ a ++ here q' (declared d) ∷ b → is_control d.kind ≡ true → item_at numbers d.name.at.token ≡ Some (numbered.Control (length (controls numbers a)))
-    number_at a b q' d cut test =
-        let c = counted (counted_from none_counted before) (kind.Proc (out-RawProc p).answer) in
-        let count_there = controls_before numbers named.signatures (out-RawProc p).answer (out-RawProc p).params who sub_params a b (here q' (declared d)) cut test few_here c refl in
-        let ahead : List Here = before ++ head ∷ (answered ++ a) in
-        let whole : all ≡ ahead ++ here q' (declared d) ∷ (b ++ (ys ++ after)) = parted_here ∙ ap (λ zs. before ++ head ∷ ((answered ++ (zs ++ ys)) ++ after)) cut ∙ rearranged a b (here q' (declared d)) in
-        let so_many : (counted_from none_counted ahead).controls ≡ length (controls numbers a) = ap (λ (k : Counts). k.controls) (counted_append none_counted before (head ∷ (answered ++ a))) ∙ count_there in
-        counts ahead (b ++ (ys ++ after)) q' d (numbered.Control (length (controls numbers a))) whole (control_number d.kind (counted_from none_counted ahead) test ∙ ap (λ k. Some (numbered.Control k)) so_many)
+    zipped = all_controls numbers named.signatures (out-RawProc p).params who stands.sub_params
 
     place_number : (i k : ℕ) (o : Option Spec) (a b : List Here) (w : Option ℕ) (x : Mention) → xs ≡ a ++ here w x ∷ b → length (controls numbers a) ≡ i → of_kind is_control x ≡ true → ControlOf numbers named.signatures (here w x) (k, o) → k ≡ 0 + i
     place_number i k o a b w (declared d) cut place test r =
-        let n : k ≡ length (controls numbers a) = its_number named numbers u d.kind d.name.at.token (k, o) r ∙ ap control_in (number_at a b w d cut test) in
+        let n : k ≡ length (controls numbers a) = its_number named numbers u d.kind d.name.at.token (k, o) r ∙ ap control_in (stands.number_at few a b w d cut test) in
         omega (arith, n, place)
     place_number i k o a b w (uses x) cut place test r = absurd r
     place_number i k o a b w (stores token n) cut place test r = absurd r
@@ -233,8 +158,8 @@ module _ (named : Named) (numbers : Numbers) (u : SourceUnit) (placed : Placed n
         let there = zip_at (ControlOf numbers named.signatures) (controls numbers cut.0) (controls numbers cut.1) (here q' (declared d)) (controls_listed qs) (subst (λ ms. Zip (ControlOf numbers named.signatures) ms (controls_listed qs)) picked zipped) in
         let start : c ≡ 0 + c = omega arith in
         let spec : spec_in c qs ≡ there.0.1 = spec_at qs 0 c c there.0 start numbered_here there.1 in
-        let here_spec : parameter_in u q' c ≡ there.0.1 = ap (λ o. parameter_in u o c) same ∙ ap (spec_in_procedure c) here_proc ∙ spec in
-        from_control named numbers u q' d.name d.kind there.0 c (number_at cut.0 cut.1 q' d cut.2 test) here_spec (ap is_some same) there.2
+        let here_spec : parameter_in u q' c ≡ there.0.1 = ap (λ o. parameter_in u o c) same ∙ ap (spec_in_procedure c) stands.here_proc ∙ spec in
+        from_control named numbers u q' d.name d.kind there.0 c (stands.number_at few cut.0 cut.1 q' d cut.2 test) here_spec (ap is_some same) there.2
 
     of_param : (m : Here) → In m xs → HereGoal named numbers u m
     of_param m i = by_mention m.who m.mention i (parameters_say numbers (out-RawProc p).params who m i)
@@ -248,33 +173,12 @@ module _ (named : Named) (numbers : Numbers) (u : SourceUnit) (placed : Placed n
         by_mention q' (uses x) j h = tt
         by_mention q' (stores token n) j h = tt
 
-    of_answer : (m : Here) → In m answered → HereGoal named numbers u m
-    of_answer m i = quiet named numbers u m.who m.mention (answer_quiet numbers (out-RawProc p).answer who m i)
-
     -- the body
-    of_body : AllGoals ys × AllNumbered ps
-    of_body =
-        inside who (before ++ head ∷ (answered ++ xs)) after (pb ++ proc_of named numbers p ∷ []) pa
-        (parted_here ∙ ap (λ zs. before ++ head ∷ zs) (ap (λ zs. zs ++ after) (sym (append_assoc answered xs ys)) ∙ append_assoc (answered ++ xs) ys after) ∙ sym (append_assoc before (head ∷ (answered ++ xs)) (ys ++ after)))
-        (made ∙ sym (append_assoc pb (proc_of named numbers p ∷ []) (ps ++ pa)))
-        (ap length (pick_append (of_kind is_own_procedure) before (head ∷ (answered ++ xs))) ∙ length-append (procs_in before) (head ∷ procs_in (answered ++ xs))
-        ∙ ap₂ (λ a b. a + length (head ∷ b)) count (no_procs_before named numbers p fs q) ∙ sym (length-append pb (proc_of named numbers p ∷ [])))
-        (sub_right (text_signatures (parameters_facts (out-RawProc p).params)) (text_signatures fs) named.signatures inner_signatures)
+    of_body : AllGoals (body named numbers p fs q) × AllNumbered ps
+    of_body = inside who _ _ _ _ stands.body_at
 
-    in_procedure : AllGoals (facts_mentions numbers (procedure_with named numbers p fs) q)
-    in_procedure m i = by_side (subst (In m) (shape named numbers p fs q) i)
-      where
-        inner : In m xs ⊎ In m ys → HereGoal named numbers u m
-        inner (inl k) = of_param m k
-        inner (inr k) = of_body.0 m k
-
-        outer : In m answered ⊎ In m (xs ++ ys) → HereGoal named numbers u m
-        outer (inl k) = of_answer m k
-        outer (inr k) = inner (in_either m xs ys k)
-
-        by_side : In m (head ∷ (answered ++ (xs ++ ys))) → HereGoal named numbers u m
-        by_side (inl e) = subst (HereGoal named numbers u) e tt
-        by_side (inr j) = outer (in_either m answered (xs ++ ys) j)
+    of_procedure : AllGoals (facts_mentions numbers (procedure_with named numbers p fs) q)
+    of_procedure = in_procedure named numbers u p fs q (HereGoal named numbers u) tt (λ m i. quiet named numbers u m.who m.mention (answer_quiet numbers (out-RawProc p).answer who m i)) of_param of_body.0
 
     procedures_numbered : AllNumbered (proc_of named numbers p ∷ ps)
     procedures_numbered x (inl e) = subst (λ (y : Proc). AreNumbered 0 y.params) e numbered_here
@@ -283,36 +187,27 @@ module _ (named : Named) (numbers : Numbers) (u : SourceUnit) (placed : Placed n
   -- ---- each part
 
   pub in_part : {fs : List Fact} {ws : Option ℕ → List Switch} {ps : List Proc} {s : ℕ → Bool} → Part named numbers fs ws ps s → InContext fs ps
-  in_part empty q before after pb pa parted made count sub = (λ m i. absurd i, none_numbered)
-  in_part (both {fs} {gs} {ws} {xs} {ps} {qs} {s} {t} a b) q before after pb pa parted made count sub =
-      let f : List Here = facts_mentions numbers fs q in
-      let g : List Here = facts_mentions numbers gs q in
-      let subs = subst (λ rs. Sub rs named.signatures) (signatures_append fs gs) sub in
-      let here_parted : all ≡ before ++ (f ++ (g ++ after)) = parted ∙ ap (λ ms. before ++ (ms ++ after)) (mentions_append numbers fs gs q) ∙ ap (λ ms. before ++ ms) (append_assoc f g after) in
-      let here_made : u.procs ≡ pb ++ (ps ++ (qs ++ pa)) = made ∙ ap (λ zs. pb ++ zs) (append_assoc ps qs pa) in
-      let x = in_part a q before (g ++ after) pb (qs ++ pa) here_parted here_made count (sub_left (text_signatures fs) (text_signatures gs) named.signatures subs) in
-      let y = in_part b q (before ++ f) after (pb ++ ps) pa (here_parted ∙ sym (append_assoc before f (g ++ after))) (here_made ∙ sym (append_assoc pb ps (qs ++ pa)))
-      (ap length (pick_append (of_kind is_own_procedure) before f) ∙ length-append (procs_in before) (procs_in f) ∙ ap₂ (λ c d. c + d) count (part_procs named numbers a q) ∙ sym (length-append pb ps))
-      (sub_right (text_signatures fs) (text_signatures gs) named.signatures subs) in (
-        λ m i. either (in_either m f g (subst (In m) (mentions_append numbers fs gs q) i)) (x.0 m) (y.0 m),
+  in_part empty q before after pb pa at = (λ m i. absurd i, none_numbered)
+  in_part (both {fs} {gs} {ws} {xs} {ps} {qs} {s} {t} a b) q before after pb pa at =
+      let x = in_part a q _ _ _ _ (first_at named numbers u fs gs ps qs q before after pb pa at) in
+      let y = in_part b q _ _ _ _ (second_at named numbers u fs gs ps qs q before after pb pa at (part_procs named numbers a q)) in (
+        λ m i. either (in_either m (facts_mentions numbers fs q) (facts_mentions numbers gs q) (subst (In m) (mentions_append numbers fs gs q) i)) (x.0 m) (y.0 m),
         λ z i. either (in_either z ps qs i) (x.1 z) (y.1 z),
       )
-  in_part (plain {fs} h) q before after pb pa parted made count sub = (λ m i. quiet named numbers u m.who m.mention (plain_not is_control m.mention (h.mentions q m i).1), none_numbered)
-  in_part (data_items d) q before after pb pa parted made count sub = (λ m i. quiet named numbers u m.who m.mention (data_not is_control data_kind m.mention (data_say numbers d q m i).1), none_numbered)
-  in_part (label n) q before after pb pa parted made count sub = (λ m i. by_side m (subst (In m) (declared_first numbers n kind.Label [] q) i), none_numbered)
+  in_part (plain {fs} h) q before after pb pa at = (λ m i. quiet named numbers u m.who m.mention (plain_not is_control m.mention (h.mentions q m i).1), none_numbered)
+  in_part (data_items d) q before after pb pa at = (λ m i. quiet named numbers u m.who m.mention (data_not is_control data_kind m.mention (data_say numbers d q m i).1), none_numbered)
+  in_part (label n) q before after pb pa at = (λ m i. by_side m (subst (In m) (declared_first numbers n kind.Label [] q) i), none_numbered)
     where
       by_side : (m : Here) → In m (here q (declared (record { name = n; kind = kind.Label })) ∷ []) → HereGoal named numbers u m
       by_side m (inl e) = subst (HereGoal named numbers u) e tt
       by_side m (inr j) = absurd j
-  in_part (switch n labels) q before after pb pa parted made count sub = (λ m i. by_side m (subst (In m) (declared_first numbers n kind.Switch (each_uses labels) q) i), none_numbered)
+  in_part (switch n labels) q before after pb pa at = (λ m i. by_side m (subst (In m) (declared_first numbers n kind.Switch (each_uses labels) q) i), none_numbered)
     where
       by_side : (m : Here) → In m (here q (declared (record { name = n; kind = kind.Switch })) ∷ facts_mentions numbers (each_uses labels) q) → HereGoal named numbers u m
       by_side m (inl e) = subst (HereGoal named numbers u) e tt
       by_side m (inr j) = quiet named numbers u m.who m.mention (plain_not is_control m.mention (uses_say numbers labels q m j).1)
-  in_part (block {fs} a) q before after pb pa parted made count sub =
-      let x = in_part a q before after pb pa (parted ∙ ap (λ ms. before ++ (ms ++ after)) (block_alone numbers None fs q)) made count
-      (subst (λ rs. Sub rs named.signatures) (append-nil (fact_signatures (fact.Block None fs)) ∙ signatures_block None fs) sub) in
+  in_part (block {fs} {ws} {ps} a) q before after pb pa at =
+      let x = in_part a q _ _ _ _ (inner_at named numbers u fs ps q before after pb pa at) in
       (λ m i. x.0 m (subst (In m) (block_alone numbers None fs q) i), x.1)
-  in_part (procedure p {fs} {ws} {ps} a) q before after pb pa parted made count sub =
-      (in_procedure p fs ps (in_part a) q before after pb pa parted made count sub, procedures_numbered p fs ps (in_part a) q before after pb pa parted made count sub)
-  in_part (more h a) q before after pb pa parted made count sub = in_part a q before after pb pa parted made count sub
+  in_part (procedure p {fs} {ws} {ps} a) q before after pb pa at = (of_procedure p fs ps (in_part a) q before after pb pa at, procedures_numbered p fs ps (in_part a) q before after pb pa at)
+  in_part (more h a) q before after pb pa at = in_part a q before after pb pa at

@@ -60,9 +60,13 @@ module _ (named : Named) (numbers : Numbers) (u : SourceUnit) (resolves : Resolv
   whole : ((m : Here) → In m (block_mentions numbers named.raw.now) → HereGoal named numbers u m) × ((x : Proc) → In x (block_procs named numbers named.raw.now.block) → AreNumbered 0 x.params)
   whole =
       in_part named numbers u placed counts few (block_parts named numbers named.raw.now.block true) None [] [] [] []
-      (sym (append-nil (block_mentions numbers named.raw.now))) (made.procs ∙ sym (append-nil (block_procs named numbers named.raw.now.block))) refl
-      (λ r i. subst (In r) (sym (resolves.4 ∙ signatures_append (communicators_facts named.raw.now.comms) (block_facts named.raw.now.block true)))
-      (in_right r (text_signatures (communicators_facts named.raw.now.comms)) (text_signatures (block_facts named.raw.now.block true)) i))
+      (record {
+        parted = sym (append-nil (block_mentions numbers named.raw.now));
+        made = made.procs ∙ sym (append-nil (block_procs named numbers named.raw.now.block));
+        count = refl;
+        sub = λ r i. subst (In r) (sym (resolves.4 ∙ signatures_append (communicators_facts named.raw.now.comms) (block_facts named.raw.now.block true)))
+            (in_right r (text_signatures (communicators_facts named.raw.now.comms)) (text_signatures (block_facts named.raw.now.block true)) i);
+      })
 
   found_in : (xs : List Proc) (q : ℕ) (x : Proc) → slice_get xs q ≡ Some x → In x xs
   found_in [] q x e = absurd (cc)
