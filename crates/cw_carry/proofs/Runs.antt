@@ -3,6 +3,7 @@ pub mod FirstWords
 pub mod Programs
 pub mod Testing
 pub mod Constants
+pub mod Induction
 pub mod Generated
 pub mod GeneratedUnits
 pub mod Spans

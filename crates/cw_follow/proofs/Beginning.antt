@@ -26,7 +26,7 @@ use Rattle.cw_follow.proofs.Watched.{Watched}
 use Rattle.cw_follow.proofs.Standing.{HasPieces, HasAll, HasWord, order_place, number_there}
 use Rattle.cw_tmpl.proofs.Shapes.{front_is}
 use Rattle.cw_follow.proofs.Orders.{Landed, Leading}
-use Rattle.cw_follow.proofs.States.{Given, Starting, never_on, not_stuck}
+use Rattle.cw_follow.proofs.States.{Given, Starting, never_on, not_stuck, before_block}
 use Rattle.cw_follow.proofs.Calls.{EntersTo, begins, begins_framed}
 use Rattle.cw_follow.proofs.Steps.{Follow, leads_to, onward, order_next}
 
@@ -88,39 +88,11 @@ module _ (known : Given) where
         let goes : step p T ≡ t = enter_is ∙ ap (λ x. enter_with false x (nat_le (a.frame_base + size) p.limits.area) size a g place false acts w) es ∙ ap (λ x. enter_with false true x size a g place false acts w) ef in
         let next : here + entered_size size ≡ order_place (base_of p g) s.orders (place + 1) =
         ap (λ n. here + n) (sym (listed Enters)) ∙ ap (λ x. here + size_by (is_short (reach_of s.orders)) place x Enters) (sym alone_is) ∙ order_next (base_of p g) s.orders place Enters listed_there in
-        let room_here = (stands_there t goes).room in
-        let fit = fits_there t goes in
         let top : a.frame_base + size ≤ p.limits.area = leb-true (a.frame_base + size) p.limits.area ef in
         let base : a.frame_base ≤ p.limits.area = omega arith in
         let working : ActivationsStand p g (a' ∷ acts) = (refl, base, top, s.beginning.arguments, s.beginning.operands_stand, s.beginning.callers) in
         leads_to known g place false (a ∷ acts) w t 21 goes enter_weight
-        (onward known (λ r l. inl ((
-          record {
-            orders = s.orders;
-            unit = s.unit;
-            from = place + 1;
-            done = 0;
-            before = w;
-            loaded_before = false;
-            place_is = omega arith;
-            begins = begins_behind;
-            inside = omega arith;
-            did = refl;
-            moded = refl;
-            landed = subst (λ n. Landed p image n g false (a' ∷ acts) w r) next l;
-            fits = fit.words;
-            acts_fit = fit.activations;
-            fits_before = fit.words;
-            room = room_here;
-            room_before = room_here;
-            wrote = refl;
-            stands = stands_there t goes;
-            working = working;
-            comes_back = s.comes_back;
-            never = never_on p T t goes s.never;
-          },
-          refl,
-        ))) d)
+        (onward known (λ r l. inl (before_block s.orders s.unit begins_behind (subst (λ n. Landed p image n g false (a' ∷ acts) w r) next l) (fits_there t goes) (stands_there t goes) working s.comes_back (never_on p T t goes s.never))) d)
 
     room_there : stack_words [] (a ∷ acts) ≤ 32000
     room_there = let r = s.stands.room in let e : stack_words w.operands (a ∷ acts) ≡ stack_words [] (a ∷ acts) = ap (λ xs. stack_words xs (a ∷ acts)) s.beginning.none in omega arith

@@ -1,12 +1,11 @@
 -- What the code of logic and of parts of words does.
-use Rattle.std.proofs.Common.{◌≡◌, ℕ, suc, ◌+◌, ◌-◌, ◌*◌, ◌/◌, ◌%◌, ◌^◌, ◌<◌, ◌≤◌, Bool, true, false, not, ℤ, pos, negsuc, List, [], ◌∷◌, ◌++◌, length, set, Option, refl, sym, ap, ap₂, ◌∙◌, subst, arith, lit<, lit≤, Some, pow_pos, pow_mono}
+use Rattle.std.proofs.Common.{◌≡◌, ℕ, suc, ◌+◌, ◌-◌, ◌*◌, ◌/◌, ◌%◌, ◌^◌, ◌<◌, ◌≤◌, Bool, true, false, not, ℤ, pos, List, [], ◌∷◌, ◌++◌, length, set, Option, refl, sym, ap, ap₂, ◌∙◌, subst, arith, lit<, lit≤, Some, pow_pos, pow_mono}
 use borrow.Author.Tests.{ltb-true}
 use Rattle.std.proofs.Math.Nat.{mod-le, div-le_self}
-use Rattle.std.proofs.lemmas.Bool.{false≢true}
 use Rattle.std.proofs.lemmas.Nat.{or_of_16, xor_of_16, and_comm, or_comm, xor_comm, and_mask, mod_below}
 use Rattle.std.specs.Int.Bits.{and_lt}
 use Rattle.std.specs.List.{All}
-use Rattle.std.specs.Prelude.{bit_and, bit_or, bit_xor, nat_lt, if◌then◌else◌}
+use Rattle.std.specs.Prelude.{bit_and, bit_xor, nat_lt, if◌then◌else◌}
 use Rattle.cw_i86.specs.Encoding.{bytes_of}
 use Rattle.cw_i86.specs.declared.instr.Instr.TheVariants as i86
 use Rattle.cw_i86.specs.declared.instr.Rm.TheVariants as rms
@@ -18,7 +17,7 @@ use Rattle.cw_word.specs.BitField.{unsigned_field, signed_field, with_field, fie
 use Rattle.cw_word.specs.FixedPoint.{FitsWord}
 use Rattle.cw_word.specs.Word.{signed, unsigned, word_difference as difference_of_words}
 use Rattle.cw_unit.specs.declared.unit.Field.{Field}
-use Rattle.cw_unit.specs.Words.{Operand, Word, Words, Outcome, Changed, put, on_two, is_below, word_at, at_address, through, field_value, with_bits, with_memory}
+use Rattle.cw_unit.specs.Words.{Operand, Word, Words, Outcome, Changed, put, on_two, word_at, at_address, field_value, with_bits, with_memory, logic_word}
 use Rattle.cw_unit.specs.Operation.{Extract, Fetch, StoreBits, perform}
 use Rattle.cw_order.specs.FittingWords.{OperandFits}
 use Rattle.cw_order.specs.OrderMachine.{unrefused}
@@ -32,7 +31,7 @@ use Rattle.cw_follow.proofs.Chains.{Is, view, done}
 use Rattle.cw_follow.proofs.Straight.{Act, Move, Exchange, Pop, Difference, Double, Load, straight, instruction, after, Needs}
 use Rattle.cw_follow.proofs.Routines.{with_ax, leads_on}
 use Rattle.cw_follow.proofs.Stacks.{level, record_of}
-use Rattle.cw_follow.proofs.Orders.{further, landed, kept_stored}
+use Rattle.cw_follow.proofs.Orders.{further, landed, kept_stored, through_address}
 use Rattle.cw_order.specs.OrderState.{operand_words}
 use Rattle.cw_follow.proofs.Operands.{Setting, words, with_cells, One, Two, result, LandedWith, DoesHere, accessing_one, accessing_two}
 use Rattle.cw_follow.proofs.Numbers.{unsigned_pos}
@@ -40,6 +39,8 @@ use Rattle.cw_follow.proofs.Facts.{down_none, not_below}
 use Rattle.cw_follow.proofs.Standing.{HasPieces, HasAll}
 use Rattle.cw_follow.proofs.Halves.{merged}
 use Rattle.cw_follow.proofs.Shifts.{shift_steps, part_steps, few_steps, few_part_steps, part_word, shifts, takes_last, turns}
+use Rattle.cw_unit.specs.declared.unit.LogicOp.{LogicOp}
+use Rattle.cw_unit.specs.declared.unit.LogicOp.TheVariants as logic
 
 -- an instruction on AX and BX that leaves this in AX
 abbrev pub Sets : Act → (ℕ → ℕ → ℕ) → (ℕ → ℕ → Bool → Bool) → Type 0
@@ -105,14 +106,22 @@ module _ (c : Setting) (memory : List ℤ) (input output : List ℕ) where
   unsigned_fits : (x : ℤ) → FitsWord x → unsigned x < 65536
   unsigned_fits = c.rows.words.unsigned_fits
 
-  pub ands : (x y : ℤ) → FitsWord x → FitsWord y → bit_and (unsigned y) (unsigned x) ≡ unsigned (signed (bit_and (unsigned x) (unsigned y)))
-  ands x y fx fy = and_comm (unsigned y) (unsigned x) ∙ sym (c.rows.words.forth (bit_and (unsigned x) (unsigned y)) (and_lt 16 (unsigned x) (unsigned y) (unsigned_fits x fx) (unsigned_fits y fy)))
+  -- bits of two words are those of a word, whichever comes first
+  logic_fits : (op : LogicOp) (x y : ℤ) → FitsWord x → FitsWord y → logic_word op (unsigned x) (unsigned y) < 65536
+  logic_fits logic.Mask x y fx fy = and_lt 16 (unsigned x) (unsigned y) (unsigned_fits x fx) (unsigned_fits y fy)
+  logic_fits logic.Union x y fx fy = or_of_16 (unsigned x) (unsigned y) (unsigned_fits x fx) (unsigned_fits y fy)
+  logic_fits logic.Differ x y fx fy = xor_of_16 (unsigned x) (unsigned y) (unsigned_fits x fx) (unsigned_fits y fy)
 
-  pub ors : (x y : ℤ) → FitsWord x → FitsWord y → bit_or (unsigned y) (unsigned x) ≡ unsigned (signed (bit_or (unsigned x) (unsigned y)))
-  ors x y fx fy = or_comm (unsigned y) (unsigned x) ∙ sym (c.rows.words.forth (bit_or (unsigned x) (unsigned y)) (or_of_16 (unsigned x) (unsigned y) (unsigned_fits x fx) (unsigned_fits y fy)))
+  pub logic_is : (op : LogicOp) (x y : ℤ) → FitsWord x → FitsWord y → logic_word op (unsigned x) (unsigned y) ≡ unsigned (signed (logic_word op (unsigned x) (unsigned y)))
+  logic_is op x y fx fy = sym (c.rows.words.forth (logic_word op (unsigned x) (unsigned y)) (logic_fits op x y fx fy))
 
-  pub xors : (x y : ℤ) → FitsWord x → FitsWord y → bit_xor (unsigned y) (unsigned x) ≡ unsigned (signed (bit_xor (unsigned x) (unsigned y)))
-  xors x y fx fy = xor_comm (unsigned y) (unsigned x) ∙ sym (c.rows.words.forth (bit_xor (unsigned x) (unsigned y)) (xor_of_16 (unsigned x) (unsigned y) (unsigned_fits x fx) (unsigned_fits y fy)))
+  pub logic_turned : (op : LogicOp) (x y : ℤ) → FitsWord x → FitsWord y → logic_word op (unsigned y) (unsigned x) ≡ unsigned (signed (logic_word op (unsigned x) (unsigned y)))
+  logic_turned op x y fx fy = turned op (unsigned y) (unsigned x) ∙ logic_is op x y fx fy
+    where
+      turned : (op : LogicOp) (a b : ℕ) → logic_word op a b ≡ logic_word op b a
+      turned logic.Mask a b = and_comm a b
+      turned logic.Union a b = or_comm a b
+      turned logic.Differ a b = xor_comm a b
 
   pub lesses : (x y : ℤ) → FitsWord x → FitsWord y → word_difference (unsigned x) (unsigned y) ≡ unsigned (signed (difference_of_words (unsigned x) (unsigned y)))
   lesses x y fx fy =
@@ -206,17 +215,6 @@ module _ (c : Setting) (memory : List ℤ) (input output : List ℕ) where
     fits_at : (n : ℕ) → n < c.program.limits.area → FitsWord (word_at memory n)
     fits_at n lt = all n (pos 0) (omega arith)
 
-    -- at an address that is none of the area nothing is asked
-    at_word : (p : Watched) (limit to : ℕ) (loaded : Bool) (f : ℕ → Words → Outcome) (a : ℤ) (w : Words)
-        → ((n : ℕ) → a ≡ pos n → n < c.program.limits.area → DoesHere c memory input output limit to loaded 0 p (unrefused (f n w)))
-        → DoesHere c memory input output limit to loaded 0 p (unrefused (at_address c.program.limits.area f a w))
-    at_word p limit to loaded f a w on = cases a (is_below a c.program.limits.area) refl refl
-      where
-        cases : (z : ℤ) (b : Bool) → a ≡ z → is_below z c.program.limits.area ≡ b → DoesHere c memory input output limit to loaded 0 p (unrefused (through b f z w))
-        cases z false same is = tt
-        cases (negsuc n) true same is = absurd (false≢true is)
-        cases (pos n) true same is = on n same (ltb-true n c.program.limits.area is)
-
     pub loads_part : {p : Watched} {at : ℕ} (value : Filling) (to t b : ℕ) (is_signed : Bool) (operands : List Operand) → at + length (blanks (load_part t b is_signed)) ≡ to → 1 ≤ t → t + b ≤ 16
         → operand_words operands < level c.acts → All OperandFits operands → HasPieces c.image value at (load_part t b is_signed) → LandedWith c memory input output at true operands p
         → DoesHere c memory input output 7 to true 0 p (unrefused (perform c.program.limits.area (Fetch (part t b (not is_signed))) (words operands memory input output)))
@@ -225,7 +223,8 @@ module _ (c : Setting) (memory : List ℤ) (input output : List ℕ) where
       where
         does : (x : ℤ) (rest : List Operand) → FitsWord x → One c memory input output at x rest p
             → DoesHere c memory input output 7 to true 0 p (unrefused (at_address c.program.limits.area (taking t b (not is_signed)) x (words rest memory input output)))
-        does x rest fx l = at_word p 7 to true (taking t b (not is_signed)) x (words rest memory input output) (λ n is within.
+        does x rest fx l =
+            through_address c.program.limits.area (taking t b (not is_signed)) x (words rest memory input output) (λ o. DoesHere c memory input output 7 to true 0 p (unrefused o)) tt (λ n is within.
             let low = c.low in
             let lt : n < 32768 = omega arith in
             let small : n < 65536 = omega arith in
@@ -249,7 +248,8 @@ module _ (c : Setting) (memory : List ℤ) (input output : List ℕ) where
 
         does : (z a : ℤ) (rest : List Operand) → FitsWord z → FitsWord a → Two c memory input output at z a rest p
             → DoesHere c memory input output 8 to false 0 p (unrefused (at_address c.program.limits.area (changing z) a (words rest memory input output)))
-        does z a rest fz fa l = at_word p 8 to false (changing z) a (words rest memory input output) (λ n is within.
+        does z a rest fz fa l =
+            through_address c.program.limits.area (changing z) a (words rest memory input output) (λ o. DoesHere c memory input output 8 to false 0 p (unrefused o)) tt (λ n is within.
             let low = c.low in
             let lt : n < 32768 = omega arith in
             let small : n < 65536 = omega arith in

@@ -33,7 +33,7 @@ use Rattle.cw_follow.proofs.States.{Given, Sound}
 use Rattle.cw_follow.proofs.InBlocks.{slice_drop, Each, each_of_both, one_before, none_before, Puts, never_refused, puts_word, loaded_then, loaded_silently}
 use Rattle.cw_follow.proofs.FrameBlocks.{fetches_word, assigns_word}
 use Rattle.cw_follow.proofs.Divisions.{divides_by_number}
-use Rattle.cw_follow.proofs.Steps.{Follow, setting, step_is, stuck_here, weight_is, block_code, block_ends, start_place, order_here, silent_in, moded_as, last_does, last_tells, FollowFrom, begins_block, begun_block}
+use Rattle.cw_follow.proofs.Steps.{Follow, setting, step_is, stuck_here, weight_is, block_code, block_ends, start_place, order_here, silent_in, moded_as, last_does, last_tells, FollowFrom, begins_block, begun_block, code_end}
 
 -- an operand whose address is not formed
 abbrev pub WithoutAddress : Simple → Type 0
@@ -73,10 +73,6 @@ module _ (known : Given) where
 
     pub within_block : (b : Block) (n : ℕ) → block_at 0 (drop s.from s.orders.list) ≡ b → orders_left b ≡ n → s.done ≤ n
     within_block b n is left = let inside = s.inside in let e : orders_left (block_at 0 (drop s.from s.orders.list)) ≡ orders_left b = ap orders_left is in omega arith
-
-    -- where the code of the block ends, where its last order is at work
-    abbrev pub code_end : ℕ
-    code_end = order_place (base_of p g) s.orders (place + 1)
 
     -- ---- the orders before the last one
 
@@ -170,7 +166,7 @@ module _ (known : Given) where
         let small : word < 65536 = omega arith in
         let paid : 1 ≤ weight p (at g place loaded acts w Running) = let x = weight_is known s order.Load here in omega arith in
         last_does known s true 0 (λ v. unrefused (perform p.limits.area (Fetch None) v)) 1 1 _ is_done e ends.begins (step_in true order.Load before.now here) paid
-        (fetches rows p image g acts code_end (st.value 2 f n (here_at + 3)) word 0 s.before low small (st.fills.bytes f n (here_at + 3)) ends.behind
+        (fetches rows p image g acts (code_end known s) (st.value 2 f n (here_at + 3)) word 0 s.before low small (st.fills.bytes f n (here_at + 3)) ends.behind
         (block_code known s (block.Fetch (cell.Word f n)) (order.Home f n) (order.Load ∷ rest) e is).0 (over_landed (begins_block known s) before.landed))
     fetch_last (cell.Frame n) rest is_done e is =
         let here = order_here known s 1 order.Load _ is_done e refl in
@@ -178,7 +174,7 @@ module _ (known : Given) where
         let before = modes false true true (order.FrameHome n) 0 (order.Load ∷ rest) is_done e refl refl refl in
         let paid : 2 ≤ weight p (at g place loaded acts w Running) = let x = weight_is known s order.Load here in omega arith in
         last_does known s true 0 (λ v. unrefused (perform p.limits.area (Fetch None) v)) 2 1 _ is_done e ends.begins (step_in true order.Load before.now here) paid
-        (fetches_word rows p image g code_end n acts s.before low (omega (arith, ends.behind, fetched_long n)) (block_code known s (block.Fetch (cell.Frame n)) (order.FrameHome n) (order.Load ∷ rest) e is) (over_landed (begins_block known s) before.landed))
+        (fetches_word rows p image g (code_end known s) n acts s.before low (omega (arith, ends.behind, fetched_long n)) (block_code known s (block.Fetch (cell.Frame n)) (order.FrameHome n) (order.Load ∷ rest) e is) (over_landed (begins_block known s) before.landed))
 
     pub fetch_follows : (x : Place) (rest : List Order) → drop s.from s.orders.list ≡ address_orders x ++ order.Load ∷ rest → block_at 0 (drop s.from s.orders.list) ≡ block.Fetch x
         → FollowFrom known (begun_block known s) (at g place loaded acts w Running) q
@@ -198,7 +194,7 @@ module _ (known : Given) where
         let paid : 1 ≤ weight p (at g place loaded acts w Running) = let x = weight_is known s order.Store here in omega arith in
         let v = s.before in
         last_does known s false 0 (λ v. unrefused (perform p.limits.area (Store None) v)) 1 2 _ is_done e ends.begins (step_in true order.Store before.now here) paid
-        (assigns rows p image g acts code_end (st.value 2 f n (here_at + 3)) word 0 v.operands v.memory v.input v.output low small (st.fills.bytes f n (here_at + 3)) ends.behind
+        (assigns rows p image g acts (code_end known s) (st.value 2 f n (here_at + 3)) word 0 v.operands v.memory v.input v.output low small (st.fills.bytes f n (here_at + 3)) ends.behind
         (block_code known s (block.Assign (cell.Word f n)) order.Save os e is).0 before.landed)
     assign_last (cell.Frame n) rest is_done e is =
         let os = order.FrameHome n ∷ order.Store ∷ rest in
@@ -207,7 +203,7 @@ module _ (known : Given) where
         let before = saved true 1 os is_done e refl in
         let paid : 2 ≤ weight p (at g place loaded acts w Running) = let x = weight_is known s order.Store here in omega arith in
         last_does known s false 0 (λ v. unrefused (perform p.limits.area (Store None) v)) 2 2 _ is_done e ends.begins (step_in true order.Store before.now here) paid
-        (assigns_word rows p image g code_end n acts s.before low (omega (arith, ends.behind, stored_long n)) (block_code known s (block.Assign (cell.Frame n)) order.Save os e is) before.landed)
+        (assigns_word rows p image g (code_end known s) n acts s.before low (omega (arith, ends.behind, stored_long n)) (block_code known s (block.Assign (cell.Frame n)) order.Save os e is) before.landed)
 
     pub assign_follows : (x : Place) (rest : List Order) → drop s.from s.orders.list ≡ order.Save ∷ (address_orders x ++ order.Store ∷ rest) → block_at 0 (drop s.from s.orders.list) ≡ block.Assign x
         → Follow known (at g place loaded acts w Running) q
@@ -224,7 +220,7 @@ module _ (known : Given) where
         let v = s.before in
         last_tells known s false (perform p.limits.area WriteByte) 1 1 _ is_done e ends.begins
         (step_in false order.WriteByte before.now here ∙ ap (λ x. after p.room 0 x g place false acts w) (write_unrefused p.limits.area w.operands w)) paid
-        (writes_top rows p image g acts code_end v.operands v.memory v.input v.output ends.behind
+        (writes_top rows p image g acts (code_end known s) v.operands v.memory v.input v.output ends.behind
         (block_code known s block.Write order.Save (order.WriteByte ∷ rest) e is).0 before.landed)
 
     pub write_top_follows : (rest : List Order) → drop s.from s.orders.list ≡ order.Save ∷ order.WriteByte ∷ rest → block_at 0 (drop s.from s.orders.list) ≡ block.Write → Follow known (at g place loaded acts w Running) q
@@ -249,8 +245,8 @@ module _ (known : Given) where
         let in_range = plain_divisor x plain in
         let v = s.before in
         last_does known s true line (perform p.limits.area (Divide (pos zero))) 3 2 _ is_done e ends.begins (step_in true o before.now here) paid
-        (subst (λ y. Does p image 3 code_end g true line acts v.output q (perform p.limits.area (Divide (pos zero)) (put y v))) (sym (small_number x in_range.1))
-        (divides_by_number (setting known s) v.memory v.input v.output code_end line x v.operands in_range.0 in_range.1 ends.behind room_in s.fits_before.operands
+        (subst (λ y. Does p image 3 (code_end known s) g true line acts v.output q (perform p.limits.area (Divide (pos zero)) (put y v))) (sym (small_number x in_range.1))
+        (divides_by_number (setting known s) v.memory v.input v.output (code_end known s) line x v.operands in_range.0 in_range.1 ends.behind room_in s.fits_before.operands
         (block_code known s (block.Divide x line) order.Save os e is) before.landed))
 
     pub divide_number_follows : (x line : ℕ) (rest : List Order) → drop s.from s.orders.list ≡ order.Save ∷ order.Const x ∷ order.Div (pos zero) line ∷ rest → is_plain_divisor x ≡ true

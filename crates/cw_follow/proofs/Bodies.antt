@@ -1,10 +1,9 @@
 -- The entry of a segment, and the way from its body to the next one, or to the end.
 use Rattle.std.proofs.Common.{◌≡◌, inl, ℕ, suc, ◌+◌, ◌-◌, ◌*◌, ◌%◌, ◌<◌, ◌≤◌, false, ℤ, List, [], ◌∷◌, length, Option, Some, None, refl, sym, ap, ◌∙◌, subst, arith, lit<, lit≤, Bool}
 use Rattle.std.specs.Prelude.{slice_get}
-use Rattle.std.proofs.lemmas.List.Elements.{All-nil}
 use Rattle.std.proofs.lemmas.Option.{slice_get_within}
 use Rattle.cw_run86.specs.Processor.{Told}
-use Rattle.cw_run86.specs.Views.{put_word}
+use Rattle.cw_run86.specs.Views.{put_word, View}
 use Rattle.cw_word.specs.Word.{unsigned}
 use Rattle.cw_unit.specs.Stop.{Running, Ended, Stuck}
 use Rattle.cw_unit.specs.Words.{word_at, with_operands, Words}
@@ -13,7 +12,6 @@ use Rattle.cw_order.specs.declared.order.Orders.{Orders}
 use Rattle.cw_order.specs.OrderProgram.{OrderProgram}
 use Rattle.cw_order.specs.OrderState.{OrderActivation, at}
 use Rattle.cw_order.specs.OrderMachine.{next_body, end_body, step}
-use Rattle.cw_order.specs.FittingWords.{ActivationFits}
 use Rattle.cw_tmpl.specs.Blocks.{left_at}
 use Rattle.cw_tmpl.specs.Library.{start_entry, start_place}
 use Rattle.cw_tmpl.specs.Pieces.{Filling}
@@ -27,7 +25,7 @@ use Rattle.cw_follow.proofs.Chains.{Is, Leads, view, seen, to_place, number, cal
 use Rattle.cw_follow.proofs.Routines.{Stacked, quiet_in, quiet_library, flags_of, arrives, returned, lifted, ends, leads_on, put_at}
 use Rattle.cw_follow.proofs.Stacks.{record_of, top_is}
 use Rattle.cw_follow.proofs.Orders.{Landed, further}
-use Rattle.cw_follow.proofs.States.{Given, Sound, Arrived, never_on, not_stuck}
+use Rattle.cw_follow.proofs.States.{Given, Sound, Arrived, never_on, not_stuck, before_block}
 use Rattle.cw_follow.proofs.Steps.{Arrives, Follow, leads_to, step_is, weight_is, fits_next, stands_next, Alone, code, under, under_low, under_is}
 
 -- a body begins, with the base record made and no operands
@@ -122,33 +120,35 @@ module _ (known : Given) where
     abbrev here : ℕ
     here = order_place (base_of p g) s.orders place
 
+    -- the word of the code that tells the place of the next body
+    abbrev next_word : ℕ
+    next_word = (all.stands g s.orders s.unit).value 9 0 0 (here + 3)
+
+    -- it comes to AX, and the code goes on there
+    leaves_body : {to n : ℕ} {T : Watched → Type 0} → slice_get s.orders.list place ≡ Some order.NextBody → next_word ≡ to % 65536
+        → ((r : Watched) → Is image to (view next_word a.landed.stacked.cx a.landed.stacked.dx a.landed.stacked.bx (2 * a.landed.top) (record_of acts) a.landed.stacked.si p.limits.area a.landed.stacked.overflow a.landed.cells a.landed.stack a.landed.input a.landed.told) r → Leads w.output n r T)
+        → Leads w.output (suc (suc n)) q T
+    leaves_body {to} e to_is on =
+        let l = a.landed in
+        let r = l.stacked in
+        let i = code known s a order.NextBody e in
+        let V : View = view next_word r.cx r.dx r.bx (2 * l.top) (record_of acts) r.si p.limits.area r.overflow l.cells l.stack l.input l.told in
+        more rows {to = here + 3} {w = V} r.is l.kept.wrote (number rows 0 next_word i.0 r.is) (λ q t. more rows {to = to} {w = V} t l.kept.wrote (jump_to rows 0 to to_is i.1.0 t) on)
+
     -- the next body, or the end
     ends_body : slice_get s.orders.list place ≡ Some order.NextBody → acts ≡ [] → (u : Option Orders) → slice_get p.units (g + 1) ≡ u → Follow known (at g place false acts w Running) q
     ends_body e none None is =
-        let st = all.stands g s.orders s.unit in
-        let l = a.landed in
-        let k = l.kept in
-        let r = l.stacked in
-        let i = code known s a order.NextBody e in
-        let n = st.value 9 0 0 (here + 3) in
         let same : suc g ≡ g + 1 = omega arith in
-        let to : n ≡ 3 = st.fills.next_is (here + 3) ∙ all.last g s.orders s.unit (ap (slice_get p.units) same ∙ is) in
+        let to : next_word ≡ 3 = (all.stands g s.orders s.unit).fills.next_is (here + 3) ∙ all.last g s.orders s.unit (ap (slice_get p.units) same ∙ is) in
         let goes : step p (at g place false acts w Running) ≡ at g place false [] w Ended = step_is known s (Some order.NextBody) e ∙ ap (λ x. end_body p g place false x w) none ∙ ap (λ x. next_body x g place false w) is in
         leads_to known g place false acts w (at g place false [] w Ended) 22 goes (weight_is known s order.NextBody e)
-        (further 3 (lit≤ tt) (lit< tt)
-        (more rows {to = here + 3} {w = view n r.cx r.dx r.bx (2 * l.top) (record_of acts) r.si p.limits.area r.overflow l.cells l.stack l.input l.told} r.is k.wrote (number rows 0 n i.0 r.is) (λ q t.
-        more rows {to = 3} {w = view n r.cx r.dx r.bx (2 * l.top) (record_of acts) r.si p.limits.area r.overflow l.cells l.stack l.input l.told} t k.wrote (jump_to rows 0 3 to i.1.0 t) (λ q t.
-        ends rows all.library refl k.kind k.wrote t))))
+        (further 3 (lit≤ tt) (lit< tt) (leaves_body {to = 3} e to (λ r t. ends rows all.library refl a.landed.kept.kind a.landed.kept.wrote t)))
     ends_body e none (Some u) is =
-        let st = all.stands g s.orders s.unit in
         let l = a.landed in
-        let k = l.kept in
         let r = l.stacked in
-        let i = code known s a order.NextBody e in
-        let n = st.value 9 0 0 (here + 3) in
         let same : suc g ≡ g + 1 = omega arith in
         let base = base_of p (g + 1) in
-        let to : n ≡ base = st.fills.next_is (here + 3) ∙ all.goes_on g s.orders u s.unit (ap (slice_get p.units) same ∙ is) ∙ ap (base_of p) same in
+        let to : next_word ≡ base = (all.stands g s.orders s.unit).fills.next_is (here + 3) ∙ all.goes_on g s.orders u s.unit (ap (slice_get p.units) same ∙ is) ∙ ap (base_of p) same in
         let su = all.stands (g + 1) u is in
         let within = su.entry.0.there.within in
         let fits = r.is.sees.fits in
@@ -160,12 +160,11 @@ module _ (known : Given) where
         let most : l.top ≤ 32764 = omega arith in
         leads_to known g place false acts w next_state 22 goes (weight_is known s order.NextBody e)
         (further 13 (lit≤ tt) (lit< tt)
-        (more rows {to = here + 3} {w = view n r.cx r.dx r.bx (2 * l.top) (record_of acts) r.si p.limits.area r.overflow l.cells l.stack l.input l.told} r.is k.wrote (number rows 0 n i.0 r.is) (λ q t.
-        more rows {to = base} {w = view n r.cx r.dx r.bx (2 * l.top) (record_of acts) r.si p.limits.area r.overflow l.cells l.stack l.input l.told} t k.wrote (jump_to rows 0 base (to ∙ below) i.1.0 t) (λ q t.
-        subst (λ x. Leads x 11 q (Arrives known next_state)) k.wrote
+        (leaves_body {to = base} e (to ∙ below) (λ q t.
+        subst (λ x. Leads x 11 q (Arrives known next_state)) l.kept.wrote
         (leads_on (λ r b. inl (begins goes is b))
-        (enters rows p (g + 1) su.next_place su.value base n r.cx r.dx r.bx (record_of acts) r.si p.limits.area (under l.top) r.overflow l.cells l.stack l.input l.told
-        all.library su.fills su.entry (few_next u is) (under_low l.top most) low coded.frames coded.depth (2 * l.top) (under_is l.top most) t))))))
+        (enters rows p (g + 1) su.next_place su.value base next_word r.cx r.dx r.bx (record_of acts) r.si p.limits.area (under l.top) r.overflow l.cells l.stack l.input l.told
+        all.library su.fills su.entry (few_next u is) (under_low l.top most) low coded.frames coded.depth (2 * l.top) (under_is l.top most) t)))))
       where
         few_next : (u : Orders) → slice_get p.units (g + 1) ≡ Some u → g + 1 < 255
         few_next u is = let lt = slice_get_within p.units (g + 1) u is in omega arith
@@ -178,33 +177,10 @@ module _ (known : Given) where
             let first : u.entry ≡ 0 = coded.entries (g + 1) u is in
             let place_is : base_of p (g + 1) + 11 ≡ order_place (base_of p (g + 1)) u 0 = omega arith in
             let there : base_of p (g + 1) + 11 ≡ order_place (base_of p (g + 1)) u u.entry = place_is ∙ ap (order_place (base_of p (g + 1)) u) (sym first) in
-            let fit = (fits_next known s (at (g + 1) u.entry false [] (with_operands w []) Running) goes).words in (
-              record {
-                orders = u;
-                unit = is;
-                from = u.entry;
-                done = 0;
-                before = with_operands w [];
-                loaded_before = false;
-                place_is = omega arith;
-                begins = ap (left_at 0 u.list) first;
-                inside = omega arith;
-                did = refl;
-                moded = refl;
-                room = omega arith;
-                room_before = omega arith;
-                wrote = refl;
-                stands = stands_next known s (at (g + 1) u.entry false [] (with_operands w []) Running) goes;
-                working = tt;
-                comes_back = tt;
-                fits_before = fit;
-                landed = begun_landed p (order_place (base_of p (g + 1)) u u.entry) w.memory w.input w.output there (few_next u is) coded.frames k.words k.long k.read k.wrote k.kind b;
-                fits = fit;
-                acts_fit = All-nil ActivationFits;
-                never = never_on p (at g place false acts w Running) (at (g + 1) u.entry false [] (with_operands w []) Running) goes s.never;
-              },
-              refl,
-            )
+            let t = at (g + 1) u.entry false [] (with_operands w []) Running in
+            before_block u is (ap (left_at 0 u.list) first)
+            (begun_landed p (order_place (base_of p (g + 1)) u u.entry) w.memory w.input w.output there (few_next u is) coded.frames k.words k.long k.read k.wrote k.kind b)
+            (fits_next known s t goes) (stands_next known s t goes) tt tt (never_on p (at g place false acts w Running) t goes s.never)
 
     pub ends_or_not : slice_get s.orders.list place ≡ Some order.NextBody → (others : List OrderActivation) → acts ≡ others → Follow known (at g place false acts w Running) q
     ends_or_not e [] is = ends_body e is (slice_get p.units (g + 1)) refl

@@ -3,9 +3,8 @@
 use Rattle.std.proofs.Common.{◌≡◌, ℕ, zero, suc, ◌+◌, ◌*◌, ◌<◌, ◌≤◌, Bool, true, false, ℤ, pos, negsuc, ◌+ℤ◌, ◌-ℤ◌, ◌*ℤ◌, List, [], ◌∷◌, ◌++◌, length, drop, Some, refl, sym, ap, ap₂, ◌∙◌, subst, arith, lit<, lit≤}
 use Rattle.std.specs.Prelude.{slice_get, int_le, nat_lt, ◌&&◌, ◌==◌, if◌then◌else◌, min}
 use borrow.Author.Tests.{ltb-true, eqb-true}
-use Rattle.std.proofs.Math.Nat.{min-eq_left, mul-le-mul_right}
+use Rattle.std.proofs.Math.Nat.{mul-le-mul_right}
 use Rattle.std.proofs.lemmas.Bool.{lt-ltb}
-use Rattle.std.proofs.lemmas.Bool.Decides.{nat_tests}
 use Rattle.std.proofs.lemmas.Int.{ints}
 use Rattle.std.proofs.lemmas.List.Elements.{All-head}
 use Rattle.std.specs.List.{All}
@@ -17,8 +16,8 @@ use Rattle.cw_run86.specs.Processor.{Told}
 use Rattle.cw_run86.specs.Views.{word_sum, word_difference, sum_overflows, product_low, with_number}
 use Rattle.cw_word.specs.FixedPoint.{FitsWord, fits_word}
 use Rattle.cw_word.specs.Word.{signed, unsigned}
-use Rattle.cw_unit.specs.Stop.{StopKind, AddressRange, IndexRange, Running}
-use Rattle.cw_unit.specs.Words.{Operand, Word, Held, Words, Outcome, Changed, Refused, put, put_if, with_operands, on_one, is_below}
+use Rattle.cw_unit.specs.Stop.{StopKind, IndexRange, Running}
+use Rattle.cw_unit.specs.Words.{Operand, Word, Held, Words, Outcome, Changed, Refused, put, put_if, with_operands, on_one}
 use Rattle.cw_unit.specs.Operation.{Indexed, Scaled, fitting, address_of}
 use Rattle.cw_order.specs.declared.order.Order.{Order}
 use Rattle.cw_order.specs.declared.order.Order.TheVariants as order
@@ -38,7 +37,7 @@ use Rattle.cw_tmpl.specs.declared.blocks.Block.TheVariants as block
 use Rattle.cw_tmpl.specs.declared.pieces.Coded.{Coded}
 use Rattle.cw_tmpl.specs.declared.pieces.Coded.TheVariants as coded
 use Rattle.cw_tmpl.specs.declared.pieces.Target.TheVariants as target
-use Rattle.cw_tmpl.specs.Blocks.{orders_to_form, form_order, form_within, entries_within, block_at}
+use Rattle.cw_tmpl.specs.Blocks.{orders_to_form, form_order, form_within, entries_within, block_at, orders_left}
 use Rattle.cw_tmpl.specs.Library.{bounds_entry}
 use Rattle.cw_tmpl.specs.Mnemonics.{set_word, multiply}
 use Rattle.cw_tmpl.specs.Pieces.{Filling, blanks}
@@ -50,8 +49,7 @@ use Rattle.cw_follow.proofs.Chains.{Is, Leads, view, last, done, subtract_number
 use Rattle.cw_follow.proofs.Acting.{act}
 use Rattle.cw_follow.proofs.Straight.{Number, Product, straight}
 use Rattle.cw_follow.proofs.Standing.{HasPieces, stand_both, Has}
-use Rattle.cw_follow.proofs.Shifts.{leads_then}
-use Rattle.cw_follow.proofs.Routines.{leads_on}
+use Rattle.cw_follow.proofs.Routines.{leads_on, leads_then}
 use Rattle.cw_follow.proofs.Stacks.{level, record_of}
 use Rattle.cw_follow.proofs.Orders.{Kept, Landed, Does, later, further}
 use Rattle.cw_follow.proofs.Operands.{Setting, One, one_there, LandedWith, DoesHere, result}
@@ -62,8 +60,9 @@ use Rattle.cw_follow.proofs.ElementTests.{many_between, within_span, order_there
 use Rattle.cw_follow.proofs.ElementOrders.{stops_follow}
 use Rattle.cw_follow.proofs.InBlocks.{silently, puts_word, chain}
 use Rattle.cw_follow.proofs.States.{Given, Sound}
-use Rattle.cw_follow.proofs.Steps.{Follow, setting, calls, by, order_here, weight_is, wrong_way, moded_as, did_as, block_code, block_ends, start_place, does}
-use Rattle.cw_follow.proofs.BlockOrders.{code_end, room_in, within_block, inner_follows, modes, step_in}
+use Rattle.cw_follow.proofs.Steps.{Follow, setting, calls, by, order_here, weight_is, wrong_way, moded_as, did_as, block_code, block_ends, start_place, does, code_end}
+use Rattle.cw_follow.proofs.BlockOrders.{room_in, within_block, inner_follows, modes, step_in}
+use Rattle.cw_tmpl.specs.declared.blocks.Block.{Block}
 
 -- ---- arithmetic
 
@@ -132,23 +131,13 @@ formed_entry : (area b n width word : ℕ) (v : Words) → area ≤ 32768 → b 
 formed_entry area b n width word v low within =
     ap (λ y. fitting (fits_word y) (fitting (fits_word (y +ℤ pos word)) (address_of (min area 32768) (signed b +ℤ (y +ℤ pos word)) v))) product
     ∙ ap (λ t. fitting t (fitting (fits_word (pos (n * width) +ℤ pos word)) (address_of (min area 32768) (signed b +ℤ (pos (n * width) +ℤ pos word)) v))) (lt-ltb (n * width) 32768 (omega arith))
-    ∙ ap (λ y. fitting (fits_word y) (address_of (min area 32768) (signed b +ℤ y) v)) total
-    ∙ ap₂ (λ m s. fitting (fits_word (pos (n * width + word))) (address_of m (s +ℤ pos (n * width + word)) v)) (min-eq_left low) signed_is
-    ∙ ap (λ t. fitting t (address_of area (pos b +ℤ pos (n * width + word)) v)) (lt-ltb (n * width + word) 32768 (omega arith))
-    ∙ ap (λ y. put_if (is_below y area) AddressRange y v) same
-    ∙ ap (λ t. put_if t AddressRange (pos (b + (n * width + word))) v) (lt-ltb (b + (n * width + word)) area within)
+    ∙ formed_between area b (n * width + word) (pos (n * width) +ℤ pos word) v low within total
   where
     product : pos n *ℤ pos width ≡ pos (n * width)
     product = omega (arith, ints)
 
     total : pos (n * width) +ℤ pos word ≡ pos (n * width + word)
     total = omega (arith, ints)
-
-    signed_is : signed b ≡ pos b
-    signed_is = grind (arith, nat_tests)
-
-    same : pos b +ℤ pos (n * width + word) ≡ pos (b + (n * width + word))
-    same = omega (arith, ints)
 
 -- the bytes of the code
 pub lower_long : (l : ℤ) → length (blanks (top_from_lower l)) ≡ top_lower_size l
@@ -239,6 +228,10 @@ module _ (c : Setting) (memory : List ℤ) (input output : List ℕ) (value : Fi
 -- ---- the orders
 
 -- a mode that is known, and its other name
+-- an index between bounds
+abbrev pub is_between : Bounds → ℤ → Bool
+is_between b x = int_le b.lower x && int_le x b.upper
+
 pub same_mode : (before now mode : Bool) → Some before ≡ Some now → before ≡ mode → now ≡ mode
 same_mode before now mode same is = cc
 
@@ -310,15 +303,12 @@ module _ (known : Given) where
     count_is : (b : Bounds) (family first : ℕ) (f : Form) (z : Known b family first f) → indexes_between (b.upper -ℤ b.lower) ≡ suc z.last
     count_is b family first f z = ap indexes_between z.last_is ∙ many_between z.last z.few
 
-    abbrev is_between : Bounds → ℤ → Bool
-    is_between b x = int_le b.lower x && int_le x b.upper
-
     -- ---- the code
 
     abbrev value_of : Filling
     value_of = (all.stands g s.orders s.unit).value
 
-    abbrev Top : (x : ℤ) (rest : List Operand) → Type 0
+    abbrev pub Top : (x : ℤ) (rest : List Operand) → Type 0
     Top x rest = One (setting known s) s.before.memory s.before.input s.before.output (start_place known s) x rest q
 
     abbrev test_at : Bounds → ℕ
@@ -386,12 +376,12 @@ module _ (known : Given) where
     -- ---- the words
 
     -- the top operand at the begin
-    top_there : (x : ℤ) (rest : List Operand) → s.before.operands ≡ Word x ∷ rest → Landed p image (start_place known s) g true acts s.before q → Top x rest
+    pub top_there : (x : ℤ) (rest : List Operand) → s.before.operands ≡ Word x ∷ rest → Landed p image (start_place known s) g true acts s.before q → Top x rest
     top_there x rest same l =
         one_there (setting known s) s.before.memory s.before.input s.before.output x rest (subst (λ xs. operand_words xs < level acts) same (room_in known s))
         (subst (λ xs. LandedWith (setting known s) s.before.memory s.before.input s.before.output (start_place known s) true xs q) same l)
 
-    top_fits : (x : ℤ) (rest : List Operand) → s.before.operands ≡ Word x ∷ rest → FitsWord x
+    pub top_fits : (x : ℤ) (rest : List Operand) → s.before.operands ≡ Word x ∷ rest → FitsWord x
     top_fits x rest same = All-head OperandFits (Word x) rest (subst (All OperandFits) same s.fits_before.operands)
 
     -- those before the address is made
@@ -440,7 +430,7 @@ module _ (known : Given) where
         let few_numbers = n.within in
         let inside = z.inside in
         ap (from_base p.limits.area (λ base. Indexed base b.lower)) d.is
-        ∙ formed_between p.limits.area (home_word p.addresses g family first) n.number b.lower d.index (with_operands s.before d.rest) low (omega arith) n.less
+        ∙ formed_between p.limits.area (home_word p.addresses g family first) n.number (d.index -ℤ b.lower) (with_operands s.before d.rest) low (omega arith) n.less
     formed_is b family first (form.Entry width word span line) z v d fx =
         let n = number_in b family first (form.Entry width word span line) z d.index fx d.holds in
         let most = past_most (form.Entry width word span line) n.number z.last n.within in
@@ -454,13 +444,14 @@ module _ (known : Given) where
 
     -- ---- the orders
 
-    -- the one that compares the index
-    compares_follow : (b : Bounded) (rest : List Order) (z : Known b.bounds b.family b.first b.form) → Parts b.bounds b.family b.first b.form → s.done ≡ 0 → drop s.from s.orders.list ≡ listed b.bounds b.family b.first b.form rest
-        → block_at 0 (drop s.from s.orders.list) ≡ block.Bounded b → Follow known (at_order g place loaded acts w Running) q
-    compares_follow b rest z h is_done list is = cases s.loaded_before refl
+    -- one that compares the top operand with its bounds at the begin of a block
+    pub comparing_follows : (b : Bounds) (d : Block) (os : List Order) → s.done ≡ 0 → drop s.from s.orders.list ≡ order.InBounds b.lower b.upper b.line ∷ os → block_at 0 (drop s.from s.orders.list) ≡ d → 1 ≤ orders_left d
+        → ((x : ℤ) (under : List Operand) → Top x under → FitsWord x → is_between b x ≡ false → (m : Bool) → DoesHere (setting known s) s.before.memory s.before.input s.before.output 22 0 m b.line q (Refused IndexRange))
+        → Follow known (at_order g place loaded acts w Running) q
+    comparing_follows b d os is_done list is more stopped = cases s.loaded_before refl
       where
         o : Order
-        o = order.InBounds b.bounds.lower b.bounds.upper b.bounds.line
+        o = order.InBounds b.lower b.upper b.line
 
         here : slice_get s.orders.list place ≡ Some o
         here = order_here known s 0 o _ is_done list refl
@@ -471,19 +462,18 @@ module _ (known : Given) where
         before_is : s.before ≡ w
         before_is = let same : Changed s.before ≡ Changed w = did_as known s 0 _ is_done list in cc
 
-        tested : (x : ℤ) (under : List Operand) → s.before.operands ≡ Word x ∷ under → Landed p image (start_place known s) g true acts s.before q → (t : Bool) → is_between b.bounds x ≡ t → (m : Bool) (kind : StopKind)
-            → put_if t IndexRange x (with_operands s.before under) ≡ Refused kind → Does p image 22 0 g m b.bounds.line acts s.before.output q (Refused kind)
+        tested : (x : ℤ) (under : List Operand) → s.before.operands ≡ Word x ∷ under → Landed p image (start_place known s) g true acts s.before q → (t : Bool) → is_between b x ≡ t → (m : Bool) (kind : StopKind)
+            → put_if t IndexRange x (with_operands s.before under) ≡ Refused kind → Does p image 22 0 g m b.line acts s.before.output q (Refused kind)
         tested x under same l true holds m kind refused = absurd (cc)
         tested x under same l false fails m kind refused =
             let kind_is : IndexRange ≡ kind = cc in
-            subst (λ k. Does p image 22 0 g m b.bounds.line acts s.before.output q (Refused k)) kind_is
-            (bounds_stop b.bounds b.family b.first b.form z x under (top_there x under same l) (top_fits x under same) h fails 0 m)
+            subst (λ k. Does p image 22 0 g m b.line acts s.before.output q (Refused k)) kind_is (stopped x under (top_there x under same l) (top_fits x under same) fails m)
 
         stops : (ops : List Operand) → s.before.operands ≡ ops → Landed p image (start_place known s) g true acts s.before q → (m : Bool) (kind : StopKind)
-            → on_one (λ i v. put_if (int_le b.bounds.lower i && int_le i b.bounds.upper) IndexRange i v) ops s.before ≡ Refused kind → Does p image 22 0 g m b.bounds.line acts s.before.output q (Refused kind)
+            → on_one (λ i v. put_if (int_le b.lower i && int_le i b.upper) IndexRange i v) ops s.before ≡ Refused kind → Does p image 22 0 g m b.line acts s.before.output q (Refused kind)
         stops [] same l m kind refused = absurd (cc)
         stops (Held c ∷ under) same l m kind refused = absurd (cc)
-        stops (Word x ∷ under) same l m kind refused = tested x under same l (is_between b.bounds x) refl m kind refused
+        stops (Word x ∷ under) same l m kind refused = tested x under same l (is_between b x) refl m kind refused
 
         cases : (m : Bool) → s.loaded_before ≡ m → Follow known (at_order g place loaded acts w Running) q
         cases false free =
@@ -491,7 +481,13 @@ module _ (known : Given) where
             absurd (wrong_way known s o here (ap (loaded_after o) now))
         cases true full =
             let l : Landed p image (start_place known s) g true acts s.before q = subst (λ m. Landed p image (start_place known s) g m acts s.before q) full s.landed in
-            stops_follow known s o b.bounds.line 0 _ (block.Bounded b) (lit≤ tt) is_done list refl (λ m. refl) (λ m kind refused. stops s.before.operands refl l m kind (ap (puts_word p g acts o) before_is ∙ refused)) is (lit≤ tt)
+            stops_follow known s o b.line 0 _ d (lit≤ tt) is_done list refl (λ m. refl) (λ m kind refused. stops s.before.operands refl l m kind (ap (puts_word p g acts o) before_is ∙ refused)) is more
+
+    -- the one that compares the index
+    compares_follow : (b : Bounded) (rest : List Order) (z : Known b.bounds b.family b.first b.form) → Parts b.bounds b.family b.first b.form → s.done ≡ 0 → drop s.from s.orders.list ≡ listed b.bounds b.family b.first b.form rest
+        → block_at 0 (drop s.from s.orders.list) ≡ block.Bounded b → Follow known (at_order g place loaded acts w Running) q
+    compares_follow b rest z h is_done list is =
+        comparing_follows b.bounds (block.Bounded b) _ is_done list is (lit≤ tt) (λ x under l fx fails m. bounds_stop b.bounds b.family b.first b.form z x under l fx h fails 0 m)
 
     -- the one that makes the address
     forms_follow : (b : Bounded) (rest : List Order) (z : Known b.bounds b.family b.first b.form) → Parts b.bounds b.family b.first b.form → s.done ≡ 3 → drop s.from s.orders.list ≡ listed b.bounds b.family b.first b.form rest

@@ -1,5 +1,5 @@
 -- Calls, control arguments, and jumps to the body of the segment.
-use Rattle.std.proofs.Common.{◌≡◌, inl, inr, ⊎_elim, ℕ, ◌+◌, ◌-◌, ◌%◌, ◌≤◌, Bool, true, false, List, [], ◌∷◌, ◌++◌, length, drop, Option, Some, None, refl, sym, ap, ◌∙◌, subst, arith, lit≤}
+use Rattle.std.proofs.Common.{◌≡◌, inl, inr, ⊎_elim, ℕ, ◌+◌, ◌-◌, ◌%◌, ◌≤◌, Bool, true, false, List, [], ◌∷◌, ◌++◌, length, drop, Option, Some, None, refl, sym, ap, ◌∙◌, subst, arith, lit≤, ◌⊎◌}
 use Rattle.std.specs.Prelude.{slice_get, nat_le, ◌&&◌}
 use Rattle.std.proofs.lemmas.Bool.{leb-true, false≢true}
 use Rattle.cw_i86.specs.declared.instr.Instr.TheVariants as i86
@@ -30,7 +30,7 @@ use Rattle.cw_follow.proofs.Chains.{to_place}
 use Rattle.cw_follow.proofs.Named.{shared_label_named, shared_switch_named}
 use Rattle.cw_follow.proofs.Stacks.{record_of, code_place, control_place, OwnerIs}
 use Rattle.cw_follow.proofs.Orders.{Landed, Leading, CalledAt, LandedAt}
-use Rattle.cw_follow.proofs.States.{Given, ComesBack, Sound, Arrived, has_unit, not_stuck, went_on, stand_below, come_back_below}
+use Rattle.cw_follow.proofs.States.{Given, ComesBack, Sound, Arrived, has_unit, not_stuck, went_on, stand_below, come_back_below, before_block}
 use Rattle.cw_follow.proofs.Calls.{calls}
 use Rattle.cw_follow.proofs.Leaving.{controls, goes_main}
 use Rattle.cw_follow.proofs.Naming.{taken_dropped, both_true, some_same, mark_listed, procedure_is, start_is, begins_there}
@@ -50,34 +50,7 @@ module _ (known : Given) where
         → Landed p image (order_place (base_of p g') o to) g' m acts' v r → Arrived p image g' to m acts' v r
     sound_in g' to m acts' v r o unit begins e working comes_back l =
         let t = at g' to m acts' v Running in
-        let fit = fits_next known s t e in
-        let stands = stands_next known s t e in (
-          record {
-            orders = o;
-            unit = unit;
-            from = to;
-            done = 0;
-            before = v;
-            loaded_before = m;
-            place_is = omega arith;
-            begins = begins;
-            inside = omega arith;
-            did = refl;
-            moded = refl;
-            landed = l;
-            fits = fit.words;
-            acts_fit = fit.activations;
-            fits_before = fit.words;
-            room = stands.room;
-            room_before = stands.room;
-            wrote = refl;
-            stands = stands;
-            working = working;
-            comes_back = comes_back;
-            never = never_next known s t e;
-          },
-          refl,
-        )
+        before_block o unit begins l (fits_next known s t e) (stands_next known s t e) working comes_back (never_next known s t e)
 
     -- words are put, with room
     pub puts_with : {first : Watched} (o : Order) (m : Bool) (v : Words) (limit : ℕ) → slice_get s.orders.list place ≡ Some o → step p S ≡ after p.room 0 (Changed v) g place m acts w → limit ≤ weight p S
@@ -177,23 +150,7 @@ module _ (known : Given) where
                 })) (d (c x) refl refl refl (taken_dropped x.arguments w.operands) room))
               where
                 arrived : (r : Watched) → {to' : ℕ} {place' : ℕ} → CalledAt p image place' (c x) acts w r → place' ≡ to' % 65536 → CalledAt p image to' (c x) acts (with_operands w []) r
-                arrived r l e = record {
-                  ax = l.ax;
-                  cx = l.cx;
-                  bx = l.bx;
-                  si = l.si;
-                  overflow = l.overflow;
-                  top = l.top;
-                  cells = l.cells;
-                  stack = l.stack;
-                  input = l.input;
-                  told = l.told;
-                  is = to_place (omega (arith, e)) l.is;
-                  small = l.small;
-                  back = l.back;
-                  operands = l.operands;
-                  kept = l.kept;
-                }
+                arrived r l e = record { called = l.called; is = to_place (omega (arith, e)) l.is }
 
                 beginning_of : StateStands p (at to k false (c x ∷ acts) (with_operands w []) Running) → Beginning p to k (c x) acts []
                 beginning_of h = ⊎_elim (λ (a : ActivationsStand p to (c x ∷ acts)). absurd (false≢true a.0)) (λ (b : Beginning p to k (c x) acts []). b) h.last
@@ -273,48 +230,64 @@ module _ (known : Given) where
         holds_control o e c 3 (step_is known s (Some o) e ∙ acts_as) (let x : 3 ≤ weight p F = omega arith in x) (λ room.
         controls rows p image g (order_place (base_of p g) s.orders (place + 1)) ((all.stands g s.orders s.unit).value 4 d 0 (here + 1 + 3)) acts c w room end (filled ∙ there) owner i (landed_here known s by_itself))
 
-    -- what is not defined, or of another sort
-    pub labels_common : (d : ℕ) → slice_get s.orders.list place ≡ Some (order.LabelCommon d) → (x : Option (ℕ × Def)) → defined_at p g d ≡ x → FollowFrom known (begun_here known s) F q
-    labels_common d e x is = cases x is
-      where
-        held_as : (x : Option (ℕ × Def)) → defined_at p g d ≡ x
-            → carry_out p (Some (order.LabelCommon d)) g place false acts w ≡ after p.room 0 (unrefused (held (with_label_owner (length acts) (label_of_def x)) w)) g place false acts w
-        held_as x is = ap (λ x. after p.room 0 (unrefused (held (with_label_owner (length acts) (label_of_def x)) w)) g place false acts w) is
+    -- what is defined, as a control argument
+    abbrev control_of : ℕ × Def → Control
+    control_of (to, def.Label l) = LabelControl to l (length acts)
+    control_of (to, def.Switch n) = SwitchControl to n (length acts)
+    control_of (to, def.Proc n) = ProcedureControl to n
 
-        cases : (x : Option (ℕ × Def)) → defined_at p g d ≡ x → FollowFrom known (begun_here known s) F q
-        cases (Some (to, def.Label l)) is =
-            controls_common (LabelControl to l (length acts)) (order.LabelCommon d) d e (held_as (Some (to, def.Label l)) is) (lit≤ tt) refl (ap (definition_place p) is) (owned s by_itself, λ o unit. shared_label_named o l (coded.shared g d to (def.Label l) o is unit)) (code known s by_itself (order.LabelCommon d) e)
-        cases (Some (to, def.Proc n)) is = absurd (stuck_here known s (step_is known s (Some (order.LabelCommon d)) e ∙ held_as (Some (to, def.Proc n)) is))
-        cases (Some (to, def.Switch n)) is = absurd (stuck_here known s (step_is known s (Some (order.LabelCommon d)) e ∙ held_as (Some (to, def.Switch n)) is))
-        cases None is = absurd (stuck_here known s (step_is known s (Some (order.LabelCommon d)) e ∙ held_as None is))
+    control_defined : (d : ℕ) (x : ℕ × Def) → defined_at p g d ≡ Some x → (definition_place p (defined_at p g d) ≡ control_place p (control_of x)) × OwnerIs p acts (control_of x) (record_of acts)
+    control_defined d (to, def.Label l) is = (ap (definition_place p) is, (owned s by_itself, λ o unit. shared_label_named o l (coded.shared g d to (def.Label l) o is unit)))
+    control_defined d (to, def.Switch n) is = (ap (definition_place p) is, (owned s by_itself, λ o unit. shared_switch_named o n (coded.shared g d to (def.Switch n) o is unit)))
+    control_defined d (to, def.Proc n) is = (ap (definition_place p) is, tt)
 
-    pub switches_common : (d : ℕ) → slice_get s.orders.list place ≡ Some (order.SwitchCommon d) → (x : Option (ℕ × Def)) → defined_at p g d ≡ x → FollowFrom known (begun_here known s) F q
-    switches_common d e x is = cases x is
-      where
-        held_as : (x : Option (ℕ × Def)) → defined_at p g d ≡ x
-            → carry_out p (Some (order.SwitchCommon d)) g place false acts w ≡ after p.room 0 (unrefused (held (with_switch_owner (length acts) (switch_of_def x)) w)) g place false acts w
-        held_as x is = ap (λ x. after p.room 0 (unrefused (held (with_switch_owner (length acts) (switch_of_def x)) w)) g place false acts w) is
+    -- an order takes what is defined and of its sort, and nothing else
+    abbrev OfSort : (Option (ℕ × Def) → Option Control) → Option (ℕ × Def) → Type 0
+    OfSort sort x = (sort x ≡ None) ⊎ ((y : ℕ × Def) × (x ≡ Some y) × (sort x ≡ Some (control_of y)))
 
-        cases : (x : Option (ℕ × Def)) → defined_at p g d ≡ x → FollowFrom known (begun_here known s) F q
-        cases (Some (to, def.Switch n)) is =
-            controls_common (SwitchControl to n (length acts)) (order.SwitchCommon d) d e (held_as (Some (to, def.Switch n)) is) (lit≤ tt) refl (ap (definition_place p) is) (owned s by_itself, λ o unit. shared_switch_named o n (coded.shared g d to (def.Switch n) o is unit)) (code known s by_itself (order.SwitchCommon d) e)
-        cases (Some (to, def.Proc n)) is = absurd (stuck_here known s (step_is known s (Some (order.SwitchCommon d)) e ∙ held_as (Some (to, def.Proc n)) is))
-        cases (Some (to, def.Label l)) is = absurd (stuck_here known s (step_is known s (Some (order.SwitchCommon d)) e ∙ held_as (Some (to, def.Label l)) is))
-        cases None is = absurd (stuck_here known s (step_is known s (Some (order.SwitchCommon d)) e ∙ held_as None is))
+    label_or_none : (x : Option (ℕ × Def)) → OfSort (λ y. with_label_owner (length acts) (label_of_def y)) x
+    label_or_none (Some (to, def.Label l)) = inr ((to, def.Label l), refl, refl)
+    label_or_none (Some (to, def.Switch n)) = inl refl
+    label_or_none (Some (to, def.Proc n)) = inl refl
+    label_or_none None = inl refl
 
-    pub procedures_common : (d : ℕ) → slice_get s.orders.list place ≡ Some (order.ProcCommon d) → (x : Option (ℕ × Def)) → defined_at p g d ≡ x → FollowFrom known (begun_here known s) F q
-    procedures_common d e x is = cases x is
-      where
-        held_as : (x : Option (ℕ × Def)) → defined_at p g d ≡ x
-            → carry_out p (Some (order.ProcCommon d)) g place false acts w ≡ after p.room 0 (unrefused (held (as_procedure (procedure_of_def x)) w)) g place false acts w
-        held_as x is = ap (λ x. after p.room 0 (unrefused (held (as_procedure (procedure_of_def x)) w)) g place false acts w) is
+    switch_or_none : (x : Option (ℕ × Def)) → OfSort (λ y. with_switch_owner (length acts) (switch_of_def y)) x
+    switch_or_none (Some (to, def.Label l)) = inl refl
+    switch_or_none (Some (to, def.Switch n)) = inr ((to, def.Switch n), refl, refl)
+    switch_or_none (Some (to, def.Proc n)) = inl refl
+    switch_or_none None = inl refl
 
-        cases : (x : Option (ℕ × Def)) → defined_at p g d ≡ x → FollowFrom known (begun_here known s) F q
-        cases (Some (to, def.Proc n)) is =
-            controls_common (ProcedureControl to n) (order.ProcCommon d) d e (held_as (Some (to, def.Proc n)) is) (lit≤ tt) refl (ap (definition_place p) is) tt (code known s by_itself (order.ProcCommon d) e)
-        cases (Some (to, def.Switch n)) is = absurd (stuck_here known s (step_is known s (Some (order.ProcCommon d)) e ∙ held_as (Some (to, def.Switch n)) is))
-        cases (Some (to, def.Label l)) is = absurd (stuck_here known s (step_is known s (Some (order.ProcCommon d)) e ∙ held_as (Some (to, def.Label l)) is))
-        cases None is = absurd (stuck_here known s (step_is known s (Some (order.ProcCommon d)) e ∙ held_as None is))
+    procedure_or_none : (x : Option (ℕ × Def)) → OfSort (λ y. as_procedure (procedure_of_def y)) x
+    procedure_or_none (Some (to, def.Label l)) = inl refl
+    procedure_or_none (Some (to, def.Switch n)) = inl refl
+    procedure_or_none (Some (to, def.Proc n)) = inr ((to, def.Proc n), refl, refl)
+    procedure_or_none None = inl refl
+
+    common_follows : (o : Order) (d : ℕ) (sort : Option (ℕ × Def) → Option Control) → slice_get s.orders.list place ≡ Some o
+        → carry_out p (Some o) g place false acts w ≡ after p.room 0 (unrefused (held (sort (defined_at p g d)) w)) g place false acts w → 3 ≤ weight_of o → size_by (is_short (reach_of s.orders)) place block.Single o ≡ 5
+        → HasFrom (begins_here known s) image (order_place (base_of p g) s.orders place)
+        (i86.Push 5 ∷ i86.MovImm 0 (imm.Word ((all.stands g s.orders s.unit).value 4 d 0 (order_place (base_of p g) s.orders place + 1 + 3))) ∷ i86.Push 0 ∷ [])
+        → OfSort sort (defined_at p g d) → FollowFrom known (begun_here known s) F q
+    common_follows o d sort e acts_as cheap size i (inl none) =
+        absurd (stuck_here known s (step_is known s (Some o) e ∙ acts_as ∙ ap (λ c. after p.room 0 (unrefused (held c w)) g place false acts w) none))
+    common_follows o d sort e acts_as cheap size i (inr x) =
+        let there = control_defined d x.0 x.1 in
+        controls_common (control_of x.0) o d e (acts_as ∙ ap (λ c. after p.room 0 (unrefused (held c w)) g place false acts w) x.2) cheap size there.0 there.1 i
+
+    pub labels_common : (d : ℕ) → slice_get s.orders.list place ≡ Some (order.LabelCommon d) → FollowFrom known (begun_here known s) F q
+    labels_common d e =
+        let o = order.LabelCommon d in
+        common_follows o d (λ x. with_label_owner (length acts) (label_of_def x)) e refl (lit≤ tt) refl (code known s by_itself o e) (label_or_none (defined_at p g d))
+
+    pub switches_common : (d : ℕ) → slice_get s.orders.list place ≡ Some (order.SwitchCommon d) → FollowFrom known (begun_here known s) F q
+    switches_common d e =
+        let o = order.SwitchCommon d in
+        common_follows o d (λ x. with_switch_owner (length acts) (switch_of_def x)) e refl (lit≤ tt) refl (code known s by_itself o e) (switch_or_none (defined_at p g d))
+
+    pub procedures_common : (d : ℕ) → slice_get s.orders.list place ≡ Some (order.ProcCommon d) → FollowFrom known (begun_here known s) F q
+    procedures_common d e =
+        let o = order.ProcCommon d in
+        common_follows o d (λ x. as_procedure (procedure_of_def x)) e refl (lit≤ tt) refl (code known s by_itself o e) (procedure_or_none (defined_at p g d))
 
     -- ---- jumps to the body of the segment
 

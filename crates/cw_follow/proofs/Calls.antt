@@ -2,7 +2,6 @@
 use Rattle.std.proofs.Common.{◌≡◌, ℕ, zero, suc, ◌+◌, ◌-◌, ◌*◌, ◌%◌, ◌<◌, ◌≤◌, Bool, true, false, List, [], ◌∷◌, ◌++◌, length, refl, sym, ap, ◌∙◌, subst, arith, lit<, lit≤}
 use Rattle.std.specs.Prelude.{nat_lt, nat_le}
 use Rattle.std.proofs.lemmas.Bool.Decides.{nat_tests}
-use Rattle.cw_track.proofs.Paths.{join}
 use Rattle.cw_i86.specs.declared.instr.Instr.TheVariants as i86
 use Rattle.cw_i86.specs.declared.instr.Imm.TheVariants as imm
 use Rattle.cw_run86.specs.Processor.{Processor, Told}
@@ -14,32 +13,13 @@ use Rattle.cw_order.specs.OrderState.{OrderActivation, operand_words, stack_word
 use Rattle.cw_tmpl.specs.Library.{enter_place, enter_stop_place}
 use Rattle.cw_routines.specs.Results as results
 use Rattle.cw_routines.specs.Results.{Begins, begin}
-use Rattle.cw_follow.proofs.Watched.{Watched, watched_machine, fresh}
+use Rattle.cw_follow.proofs.Watched.{Watched, fresh}
 use Rattle.cw_follow.proofs.Rows.{Rows}
 use Rattle.cw_follow.proofs.Chains.{Is, Leads, view, seen, to_place, number, call, more, last, IsAt}
 use Rattle.cw_follow.proofs.Routines.{Over, quiet_in, quiet_library, quiet_all, there_all, flags_of, arrives, returned, lifted, over, put_at}
 use Rattle.cw_follow.proofs.Stacks.{level, record_of, code_place, base_word, words_behind, StackIs, Piled, words_split, words_append, top_is, SameFrom, same_put, same_above, stack_same, piled_same}
-use Rattle.cw_follow.proofs.Orders.{Kept, kept_under, kept_same, Landed, Leading, CalledAt, further, LandedAt}
+use Rattle.cw_follow.proofs.Orders.{Kept, kept_under, kept_same, Landed, Leading, CalledAt, further, LandedAt, Few, and_few}
 use Rattle.cw_follow.proofs.Standing.{Has, HasAll, HasWord, Image, Ignores, HasFrom}
-
--- no more than so many instructions
-pub record Few (output : List ℕ) (limit : ℕ) (p : Watched) (Target : Watched → Type 0) : Type 0 where
-  pub spent : ℕ
-  pub within : spent ≤ limit
-  pub leads : Leads output spent p Target
-
--- some instructions, and then no more than so many
-pub and_few : {output : List ℕ} {p : Watched} {T U : Watched → Type 0} (n limit bound : ℕ) → 0 < n → n + limit ≤ bound → Leads output n p T → ((q : Watched) → T q → Few output limit q U)
-    → Leading output bound p U
-and_few {p = p} n limit bound some le l on =
-    let d = on l.reached l.there in
-    let within = d.within in
-    record {
-      spent = n + d.spent;
-      some = omega arith;
-      within = omega arith;
-      leads = record { reached = d.leads.reached; path = join _ watched_machine n d.spent (n + d.spent) p l.reached d.leads.reached refl l.path d.leads.path; there = d.leads.there };
-    }
 
 -- the tests of the machine of orders are those of the library
 left_tests : (n depth : ℕ) → nat_lt 0 (depth - n) ≡ nat_lt n depth
@@ -66,21 +46,18 @@ module _ (rows : Rows) (prog : OrderProgram) (image : Image) where
       let there : (at + 3 + 3 + by) % 65536 ≡ to % 65536 = (let e : (at + 3 + 3 + by) % 65536 ≡ (at + 6 + by) % 65536 = omega arith in e) ∙ arrives_at in
       more rows {to = at + 3} {w = view ax cx line bx (2 * suc n) (record_of acts) si prog.limits.area overflow cells stack left told} s k.wrote (number rows 2 line i.0 s) (λ q u.
       last rows u k.wrote (record {
-        ax = ax;
-        cx = cx;
-        bx = bx;
-        si = si;
-        overflow = overflow;
-        top = n;
-        cells = cells;
-        stack = new;
-        input = left;
-        told = told;
+        called = record {
+          ax = ax;
+          cx = cx;
+          bx = bx;
+          si = si;
+          around = record { overflow = overflow; top = n; cells = cells; stack = new; left = left; told = told };
+          small = omega arith;
+          back = put_at stack n place;
+          operands = stack_same prog acts stack new (suc n) xs (same_put stack n place (suc n) (omega arith)) h;
+          kept = kept_under n place (omega arith) k;
+        };
         is = seen refl (ap (λ d. view ax cx d bx (2 * n) (record_of acts) si prog.limits.area overflow cells new left told) (sym line_is)) (to_place there (call rows by n place lt top back' i.1.0 u));
-        small = omega arith;
-        back = put_at stack n place;
-        operands = stack_same prog acts stack new (suc n) xs (same_put stack n place (suc n) (omega arith)) h;
-        kept = kept_under n place (omega arith) k;
       }))
 
   pub calls : {q : Watched} {first : Bool} {at : ℕ} (to by line : ℕ) (a : OrderActivation) (acts : List OrderActivation) (w : Words) → a.line ≡ line → line < 65536 → stack_words [] (a ∷ acts) ≤ 32000
@@ -263,9 +240,9 @@ module _ (rows : Rows) (prog : OrderProgram) (image : Image) where
           let sp_top : 2 * suc (r + 4) ≡ 2 * suc (r + 4) % 65536 = omega arith in
           let below : r + 4 < 32768 = omega arith in
           let past : (at + 3 + 4) % 65536 ≡ (at + 7) % 65536 = omega arith in
-          let start : Is image at (view c.ax c.cx a.line c.bx (2 * suc (r + 4)) bp c.si area c.overflow c.cells c.stack c.input c.told) q =
-          seen refl (ap (λ n. view c.ax c.cx a.line c.bx (2 * n) bp c.si area c.overflow c.cells c.stack c.input c.told) top_at) c.is in
-          and_few {T = Is image enter_place (view c.ax c.cx a.line c.bx (2 * (r + 4)) bp c.si area c.overflow c.cells stack c.input c.told)} 1 18 21 (lit< tt) (lit≤ tt)
+          let start : Is image at (view c.ax c.cx a.line c.bx (2 * suc (r + 4)) bp c.si area c.overflow c.cells c.stack c.left c.told) q =
+          seen refl (ap (λ n. view c.ax c.cx a.line c.bx (2 * n) bp c.si area c.overflow c.cells c.stack c.left c.told) top_at) c.is in
+          and_few {T = Is image enter_place (view c.ax c.cx a.line c.bx (2 * (r + 4)) bp c.si area c.overflow c.cells stack c.left c.told)} 1 18 21 (lit< tt) (lit≤ tt)
           (last rows start c.kept.wrote (to_place arrives_at (call rows by (r + 4) (at + 3) below sp_top behind i start)))
           (λ q u.
           routine (at + 3) (at + 7) c.ax c.cx c.bx c.si c.overflow library low small depth_low c.small (put_at c.stack (r + 4) (at + 3)) size_there (subst (HasWord image (at + 3 + 2)) number_is number_there) past return h k u)
@@ -292,11 +269,11 @@ module _ (rows : Rows) (prog : OrderProgram) (image : Image) where
           let six : suc c.top ≡ r + 6 = omega arith in
           let h : StackIs prog acts c.stack (r + 6) xs = subst (λ n. StackIs prog acts c.stack n xs) six c.operands in
           let return : c.stack (r + 5) ≡ code_place prog a.segment a.place = ap c.stack five ∙ c.back in
-          let start : Is image at (view c.ax c.cx a.line c.bx (2 * suc (r + 4)) bp c.si area c.overflow c.cells c.stack c.input c.told) q =
-          seen refl (ap (λ n. view c.ax c.cx a.line c.bx (2 * n) bp c.si area c.overflow c.cells c.stack c.input c.told) top_at) c.is in
+          let start : Is image at (view c.ax c.cx a.line c.bx (2 * suc (r + 4)) bp c.si area c.overflow c.cells c.stack c.left c.told) q =
+          seen refl (ap (λ n. view c.ax c.cx a.line c.bx (2 * n) bp c.si area c.overflow c.cells c.stack c.left c.told) top_at) c.is in
           let law = rows.routines.beginning (quiet_in q.places) image.bytes library (quiet_library start.ignores) at size place (g + 1) by arrives_at named
           (quiet_all start.ignores at (begin size place by) i) (there_all image at (begin size place by) i) r a.line l (a.segment + 1) calls_left (base_word prog acts) rest
-          c.ax c.cx c.bx bp c.si area (flags_of q) c.cells c.stack c.input c.told q.processor
+          c.ax c.cx c.bx bp c.si area (flags_of q) c.cells c.stack c.left c.told q.processor
           (omega arith) c.small (omega arith) (omega arith) small (omega arith) low (caller_is (omega arith) c.kept) (arrives start) in
           subst (λ o. Leading o 21 q (EntersTo shallow fits (at + 34))) c.kept.wrote
           (and_few {T = λ u. Few c.told.output 20 u (EntersTo shallow fits (at + 34))} 1 20 21 (lit< tt) (lit≤ tt)
@@ -306,7 +283,7 @@ module _ (rows : Rows) (prog : OrderProgram) (image : Image) where
             within = d.within;
             leads = lifted rows {n = d.spent} {p = fresh q.places q.area t} {U = EntersTo shallow fits (at + 34)} refl refl d.leads (λ v e.
                 tested v q (at + 34)
-                (ends (results.Entered image.bytes (at + 34) r bp (g + 1) (calls_left - 1) (2 * (area - rest) % 65536) (rest - size) area c.cells c.stack c.input c.told) q (nat_lt 0 calls_left) (nat_le size rest) (at + 34) c.told.output c.kept.wrote
+                (ends (results.Entered image.bytes (at + 34) r bp (g + 1) (calls_left - 1) (2 * (area - rest) % 65536) (rest - size) area c.cells c.stack c.left c.told) q (nat_lt 0 calls_left) (nat_le size rest) (at + 34) c.told.output c.kept.wrote
                 (entered q (at + 34) (at + 34) refl start.ignores return h c.kept) e));
           }))
           (λ u f. f))

@@ -51,7 +51,7 @@ use Rattle.cw_follow.proofs.Orders.{Landed, jumps, chooses, short_jumps}
 use Rattle.cw_tmpl.proofs.Shapes.{IsBlock, front_is, shape}
 use Rattle.cw_follow.proofs.InBlocks.{begins_at, left_split, slice_drop}
 use Rattle.cw_follow.proofs.States.{Given, Sound, Starting, LastStarts, length_in, left}
-use Rattle.cw_follow.proofs.Steps.{FollowFrom, Follow, waits, passes_on, moves, Arrives, is_codeless, order_is, step_is, weight_is, stuck_here, wrong_way, sound_at, start, chosen, Alone, alone, code, behind, begins_next, begins_here, begins_block, begun_block, landed_here, silent, two_roomy, reaches_alone, short_alone}
+use Rattle.cw_follow.proofs.Steps.{FollowFrom, Follow, waits, passes_on, moves, Arrives, is_codeless, order_is, step_is, weight_is, stuck_here, wrong_way, sound_at, start, chosen, Alone, alone, code, behind, begins_next, begins_here, begins_block, begun_block, landed_here, silent, reaches_alone, short_alone}
 use Rattle.cw_follow.proofs.Bodies.{ends_or_not}
 use Rattle.cw_follow.proofs.Beginning.{begins_activation}
 use Rattle.cw_follow.proofs.SwitchWays.{way_follows}
@@ -76,7 +76,7 @@ use Rattle.cw_follow.proofs.Opening.{fetch_both_opens, compare_word_opens, singl
 use Rattle.cw_follow.proofs.Owed.{block_goes}
 use Rattle.cw_follow.proofs.Routines.{Over}
 use Rattle.cw_follow.proofs.StatementPlaces.{statement_here}
-use Rattle.cw_follow.proofs.Strong.{may_of, pieces_below}
+use Rattle.cw_follow.proofs.Strong.{may_of, pieces_below, begins_statement}
 use Rattle.cw_tmpl.proofs.Reaching.{short_arrives}
 use Rattle.cw_order.specs.declared.order.Comparator.{Comparator}
 
@@ -106,28 +106,6 @@ codeless_alone (order.Start n) is h = h
 codeless_alone order.Drop is h = h
 codeless_alone (order.Take t b) is h = h
 codeless_alone _ is h = absurd (false≢true is)
-
-begins_statement : (o : Order) → may_begin o ≡ true → BeginsStatement o
-begins_statement (order.Const w) may = tt
-begins_statement (order.Home f n) may = tt
-begins_statement (order.FrameHome n) may = tt
-begins_statement order.ReadByte may = tt
-begins_statement order.WriteByte may = tt
-begins_statement (order.Jump m) may = tt
-begins_statement (order.GoMain m) may = tt
-begins_statement (order.GoCommon d) may = tt
-begins_statement (order.GoSpecial k) may = tt
-begins_statement (order.CallProc q line) may = tt
-begins_statement (order.CallCommon d line) may = tt
-begins_statement (order.CallSpecial k line) may = tt
-begins_statement (order.LabelOut l) may = tt
-begins_statement (order.LabelCommon d) may = tt
-begins_statement (order.SwitchOut n) may = tt
-begins_statement (order.SwitchCommon d) may = tt
-begins_statement (order.ProcOut q) may = tt
-begins_statement (order.ProcCommon d) may = tt
-begins_statement (order.SpecialOut k) may = tt
-begins_statement _ may = absurd (false≢true may)
 
 quiet_parts : {O E : Type 0} (a b : O) (o : O × List E) → Quiet (a, []) (b, []) o → Unnoted (Quiet a b) o
 quiet_parts a b o (inl e) = (inl (ap (λ x. x.0) e), ap (λ x. x.1) e)
@@ -214,10 +192,10 @@ module _ (known : Given) where
             → HasPiecesFrom (first_of (order.Jump m) (behind_start s.orders.list place)) image (all.stands g s.orders s.unit).value (order_place (base_of p g) s.orders place) (template_by short (names_of s.orders) own place (order.Jump m))
             → FollowFrom known (over (first_of (order.Jump m) (begins_here known s)) (watch q)) (at g place loaded acts w Running) (watch q)
         cases true close i =
-            chosen known s loaded 0 (ToMark m w) 1 (begins_next known s a (order.Jump m) e) s.room (step_is known s (Some (order.Jump m)) e) (weight_is known s (order.Jump m) e)
+            chosen known s loaded 0 (ToMark m w) 1 (begins_next known s a (order.Jump m) e) (step_is known s (Some (order.Jump m)) e) (weight_is known s (order.Jump m) e)
             (short_jumps rows p image g acts (start known s m) (short_distance (own + 2) to) loaded w (short_arrives (base_of p g) own 2 to (close refl)) i.0 (landed_here known s a))
         cases false close i =
-            chosen known s loaded 0 (ToMark m w) 1 (begins_next known s a (order.Jump m) e) s.room (step_is known s (Some (order.Jump m)) e) (weight_is known s (order.Jump m) e)
+            chosen known s loaded 0 (ToMark m w) 1 (begins_next known s a (order.Jump m) e) (step_is known s (Some (order.Jump m)) e) (weight_is known s (order.Jump m) e)
             (jumps rows p image g acts (start known s m) (distance (own + 3) to) loaded w (jump_arrives (base_of p g) own 3 to) i.0 (landed_here known s a))
 
     jump_if_by : (s : Sound p image g place true acts w (watch q)) (a : Alone p image g place true acts w (watch q) s.orders) (c : Comparator) (m : ℕ) → slice_get s.orders.list place ≡ Some (order.JumpIf c m)
@@ -237,139 +215,81 @@ module _ (known : Given) where
             → HasPieces image (all.stands g s.orders s.unit).value (order_place (base_of p g) s.orders place) (template_by short (names_of s.orders) own place (order.JumpIf c m)) → FollowFrom known (over (first_of (order.JumpIf c m) (begins_here known s)) (watch q)) (at g place true acts w Running) (watch q)
         cases true close ends i =
             let paid : 4 ≤ weight p (at g place true acts w Running) = let x = weight_is known s (order.JumpIf c m) e in omega arith in
-            chosen known s false 0 (way_of_two (λ x y v. to_mark_if (holds (comparison c) x y) m v) w) 4 (begins_next known s a (order.JumpIf c m) e) (two_roomy acts p.room m c w.operands w s.room) (step_is known s (Some (order.JumpIf c m)) e) paid
+            chosen known s false 0 (way_of_two (λ x y v. to_mark_if (holds (comparison c) x y) m v) w) 4 (begins_next known s a (order.JumpIf c m) e) (step_is known s (Some (order.JumpIf c m)) e) paid
             (chooses rows p image g acts true (order_place (base_of p g) s.orders (place + 1)) (short_distance (own + 5) to) (start known s) c m w.operands w.memory w.input w.output ends
             (short_arrives (base_of p g) own 5 to (close refl)) s.fits.operands i a.landed)
         cases false close ends i =
             let paid : 4 ≤ weight p (at g place true acts w Running) = let x = weight_is known s (order.JumpIf c m) e in omega arith in
-            chosen known s false 0 (way_of_two (λ x y v. to_mark_if (holds (comparison c) x y) m v) w) 4 (begins_next known s a (order.JumpIf c m) e) (two_roomy acts p.room m c w.operands w s.room) (step_is known s (Some (order.JumpIf c m)) e) paid
+            chosen known s false 0 (way_of_two (λ x y v. to_mark_if (holds (comparison c) x y) m v) w) 4 (begins_next known s a (order.JumpIf c m) e) (step_is known s (Some (order.JumpIf c m)) e) paid
             (chooses rows p image g acts false (order_place (base_of p g) s.orders (place + 1)) (distance (own + 8) to) (start known s) c m w.operands w.memory w.input w.output ends
             (jump_arrives (base_of p g) own 8 to) s.fits.operands i a.landed)
 
     -- an order, where the accumulator is as it wants it; where it is the other way the orders would be stuck
     follow_order : (loaded : Bool) (s : Sound p image g place loaded acts w (watch q)) (a : Alone p image g place loaded acts w (watch q) s.orders) (o : Order) → slice_get s.orders.list place ≡ Some o → FollowFrom known (over (first_of o (begins_here known s)) (watch q)) (at g place loaded acts w Running) (watch q)
-    follow_order loaded s a order.Mark e = silent known s a order.Mark loaded w e (step_is known s (Some order.Mark) e) s.room refl refl (λ at l. l)
+    follow_order loaded s a order.Mark e = silent known s a order.Mark loaded w e (step_is known s (Some order.Mark) e) refl refl (λ at l. l)
     follow_order loaded s a (order.Jump m) e = jump_by loaded s a m e (short_alone known s a (order.Jump m)) (reaches_alone known s a (order.Jump m) m e refl) (code known s a (order.Jump m) e)
-    follow_order loaded s a (order.Start n) e = silent known s a (order.Start n) loaded w e (step_is known s (Some (order.Start n)) e) s.room refl refl (λ at l. l)
+    follow_order loaded s a (order.Start n) e = silent known s a (order.Start n) loaded w e (step_is known s (Some (order.Start n)) e) refl refl (λ at l. l)
     follow_order true s a (order.Return n true) e = come_back known acts s a n e
-    follow_order false s a (order.Return n true) e = absurd (wrong_way known s (order.Return n true) e refl)
     follow_order false s a (order.Return n false) e = come_back known acts s a n e
-    follow_order true s a (order.Return n false) e = absurd (wrong_way known s (order.Return n false) e refl)
     follow_order true s a order.Save e = save_follows known s a e
-    follow_order false s a order.Save e = absurd (wrong_way known s order.Save e refl)
     follow_order false s a (order.Const n) e = const_follows known s a n e
-    follow_order true s a (order.Const n) e = absurd (wrong_way known s (order.Const n) e refl)
     follow_order false s a (order.Home family offset) e = home_follows known s a family offset e
-    follow_order true s a (order.Home family offset) e = absurd (wrong_way known s (order.Home family offset) e refl)
     follow_order false s a (order.FrameHome n) e = frame_home known acts s a n e
-    follow_order true s a (order.FrameHome n) e = absurd (wrong_way known s (order.FrameHome n) e refl)
     follow_order true s a order.Load e = load_follows known s a e
-    follow_order false s a order.Load e = absurd (wrong_way known s order.Load e refl)
     follow_order true s a order.Store e = store_follows known s a e
-    follow_order false s a order.Store e = absurd (wrong_way known s order.Store e refl)
     follow_order true s a (order.LoadPart t b is_signed) e = load_part_follows known s a t b is_signed e
-    follow_order false s a (order.LoadPart t b is_signed) e = absurd (wrong_way known s (order.LoadPart t b is_signed) e refl)
     follow_order true s a (order.StorePart t b) e = store_part_follows known s a t b e
-    follow_order false s a (order.StorePart t b) e = absurd (wrong_way known s (order.StorePart t b) e refl)
     follow_order true s a (order.Rescale from to line) e = rescale_follows known s a from to line e
-    follow_order false s a (order.Rescale from to line) e = absurd (wrong_way known s (order.Rescale from to line) e refl)
     follow_order true s a (order.Add line) e = add_follows known s a line e
-    follow_order false s a (order.Add line) e = absurd (wrong_way known s (order.Add line) e refl)
     follow_order true s a (order.Sub line) e = subtract_follows known s a line e
-    follow_order false s a (order.Sub line) e = absurd (wrong_way known s (order.Sub line) e refl)
     follow_order true s a (order.Neg line) e = negate_follows known s a line e
-    follow_order false s a (order.Neg line) e = absurd (wrong_way known s (order.Neg line) e refl)
     follow_order true s a (order.Mul power line) e = multiply_follows known s a power line e
-    follow_order false s a (order.Mul power line) e = absurd (wrong_way known s (order.Mul power line) e refl)
     follow_order true s a (order.Div power line) e = divide_follows known s a power line e
-    follow_order false s a (order.Div power line) e = absurd (wrong_way known s (order.Div power line) e refl)
     follow_order true s a order.And e = and_follows known s a e
-    follow_order false s a order.And e = absurd (wrong_way known s order.And e refl)
     follow_order true s a order.Or e = or_follows known s a e
-    follow_order false s a order.Or e = absurd (wrong_way known s order.Or e refl)
     follow_order true s a order.Xor e = xor_follows known s a e
-    follow_order false s a order.Xor e = absurd (wrong_way known s order.Xor e refl)
     follow_order true s a (order.Take t b) e = take_follows known s a t b e
-    follow_order false s a (order.Take t b) e = absurd (wrong_way known s (order.Take t b) e refl)
     follow_order true s a order.Less e = less_follows known s a e
-    follow_order false s a order.Less e = absurd (wrong_way known s order.Less e refl)
     follow_order true s a order.Drop e = drop_follows known s a e
-    follow_order false s a order.Drop e = absurd (wrong_way known s order.Drop e refl)
     follow_order true s a (order.IndexLess lower line) e = index_less_follows known s a lower line e
-    follow_order false s a (order.IndexLess lower line) e = absurd (wrong_way known s (order.IndexLess lower line) e refl)
     follow_order true s a (order.Element lower span line) e = element_follows known s a lower span line e
-    follow_order false s a (order.Element lower span line) e = absurd (wrong_way known s (order.Element lower span line) e refl)
     follow_order true s a (order.ElementOfTwo lower second width line) e = element_of_two_follows known s a lower second width line e
-    follow_order false s a (order.ElementOfTwo lower second width line) e = absurd (wrong_way known s (order.ElementOfTwo lower second width line) e refl)
     follow_order true s a (order.ElementInside lower second width span) e = element_inside_follows known s a lower second width span e
-    follow_order false s a (order.ElementInside lower second width span) e = absurd (wrong_way known s (order.ElementInside lower second width span) e refl)
     follow_order true s a (order.Entry width word span line) e = entry_follows known s a width word span line e
-    follow_order false s a (order.Entry width word span line) e = absurd (wrong_way known s (order.Entry width word span line) e refl)
     follow_order true s a (order.InArea line) e = in_area_follows known s a line e
-    follow_order false s a (order.InArea line) e = absurd (wrong_way known s (order.InArea line) e refl)
     follow_order true s a (order.InBounds lower upper line) e = in_bounds_follows known s a lower upper line e
-    follow_order false s a (order.InBounds lower upper line) e = absurd (wrong_way known s (order.InBounds lower upper line) e refl)
     follow_order false s a order.ReadByte e = read_follows known s a e
-    follow_order true s a order.ReadByte e = absurd (wrong_way known s order.ReadByte e refl)
     follow_order false s a order.WriteByte e = write_follows known s a e
-    follow_order true s a order.WriteByte e = absurd (wrong_way known s order.WriteByte e refl)
     follow_order true s a (order.JumpIf c m) e =
         jump_if_by s a c m e (short_alone known s a (order.JumpIf c m)) (reaches_alone known s a (order.JumpIf c m) m e refl) (behind known s a (order.JumpIf c m) e) (code known s a (order.JumpIf c m) e)
-    follow_order false s a (order.JumpIf c m) e = absurd (wrong_way known s (order.JumpIf c m) e refl)
     follow_order true s a (order.Exhausted m) e = limit_follows known s a m e
-    follow_order false s a (order.Exhausted m) e = absurd (wrong_way known s (order.Exhausted m) e refl)
     follow_order true s a (order.SetVariable line) e = set_follows known s a line e
-    follow_order false s a (order.SetVariable line) e = absurd (wrong_way known s (order.SetVariable line) e refl)
     follow_order true s a (order.AddStep line) e = step_follows known s a line e
-    follow_order false s a (order.AddStep line) e = absurd (wrong_way known s (order.AddStep line) e refl)
     follow_order true s a (order.PutVariable line) e = put_follows known s a line e
-    follow_order false s a (order.PutVariable line) e = absurd (wrong_way known s (order.PutVariable line) e refl)
     follow_order false s a (order.NextStep x line m) e = turn_follows known s a x line m e
-    follow_order true s a (order.NextStep x line m) e = absurd (wrong_way known s (order.NextStep x line m) e refl)
     follow_order true s a (order.LoopWay marks) e = loop_follows known s a marks e
-    follow_order false s a (order.LoopWay marks) e = absurd (wrong_way known s (order.LoopWay marks) e refl)
     follow_order true s a (order.SwitchWay marks line) e = way_follows known s a marks line e
-    follow_order false s a (order.SwitchWay marks line) e = absurd (wrong_way known s (order.SwitchWay marks line) e refl)
     follow_order false s a order.NextBody e = ends_or_not known s a e acts refl
-    follow_order true s a order.NextBody e = absurd (wrong_way known s order.NextBody e refl)
     follow_order false s a (order.CallProc n line) e = calls_own known s a n line e
-    follow_order true s a (order.CallProc n line) e = absurd (wrong_way known s (order.CallProc n line) e refl)
     follow_order false s a (order.CallCommon d line) e = calls_common known s a d line e (defined_at p g d) refl
-    follow_order true s a (order.CallCommon d line) e = absurd (wrong_way known s (order.CallCommon d line) e refl)
     follow_order false s a (order.CallSpecial k line) e = call_special known acts s a k line e
-    follow_order true s a (order.CallSpecial k line) e = absurd (wrong_way known s (order.CallSpecial k line) e refl)
     follow_order false s a (order.Enter size) e = enter_again known acts s size e
-    follow_order true s a (order.Enter size) e = absurd (wrong_way known s (order.Enter size) e refl)
     follow_order false s a (order.Bind k family offset) e = bind_static known acts s a k family offset e
-    follow_order true s a (order.Bind k family offset) e = absurd (wrong_way known s (order.Bind k family offset) e refl)
     follow_order false s a (order.BindFrame k offset) e = bind_frame known acts s a k offset e
-    follow_order true s a (order.BindFrame k offset) e = absurd (wrong_way known s (order.BindFrame k offset) e refl)
     follow_order false s a (order.LabelOut l) e = controls_own known s a (LabelControl g l (length acts)) (order.LabelOut l) (λ o. label_start (names_of o) l) e refl (lit≤ tt) refl refl (owned known s a, λ o unit. own_label known s l (order.LabelOut l) e refl o unit) (code known s a (order.LabelOut l) e)
-    follow_order true s a (order.LabelOut l) e = absurd (wrong_way known s (order.LabelOut l) e refl)
-    follow_order false s a (order.LabelCommon d) e = labels_common known s a d e (defined_at p g d) refl
-    follow_order true s a (order.LabelCommon d) e = absurd (wrong_way known s (order.LabelCommon d) e refl)
+    follow_order false s a (order.LabelCommon d) e = labels_common known s a d e
     follow_order false s a (order.SwitchOut n) e = controls_own known s a (SwitchControl g n (length acts)) (order.SwitchOut n) (λ o. switch_start (names_of o) n) e refl (lit≤ tt) refl refl (owned known s a, λ o unit. own_switch known s n (order.SwitchOut n) e refl o unit) (code known s a (order.SwitchOut n) e)
-    follow_order true s a (order.SwitchOut n) e = absurd (wrong_way known s (order.SwitchOut n) e refl)
-    follow_order false s a (order.SwitchCommon d) e = switches_common known s a d e (defined_at p g d) refl
-    follow_order true s a (order.SwitchCommon d) e = absurd (wrong_way known s (order.SwitchCommon d) e refl)
+    follow_order false s a (order.SwitchCommon d) e = switches_common known s a d e
     follow_order false s a (order.ProcOut n) e = controls_own known s a (ProcedureControl g n) (order.ProcOut n) (λ o. procedure_start (names_of o) n) e refl (lit≤ tt) refl refl tt (code known s a (order.ProcOut n) e)
-    follow_order true s a (order.ProcOut n) e = absurd (wrong_way known s (order.ProcOut n) e refl)
-    follow_order false s a (order.ProcCommon d) e = procedures_common known s a d e (defined_at p g d) refl
-    follow_order true s a (order.ProcCommon d) e = absurd (wrong_way known s (order.ProcCommon d) e refl)
+    follow_order false s a (order.ProcCommon d) e = procedures_common known s a d e
     follow_order false s a (order.SpecialOut k) e = hand_on known acts s a k e
-    follow_order true s a (order.SpecialOut k) e = absurd (wrong_way known s (order.SpecialOut k) e refl)
     follow_order false s a (order.GoMain m) e = goes_to_main known s a m e
-    follow_order true s a (order.GoMain m) e = absurd (wrong_way known s (order.GoMain m) e refl)
     follow_order false s a (order.GoCommon d) e = goes_common known s a d e (defined_at p g d) refl
-    follow_order true s a (order.GoCommon d) e = absurd (wrong_way known s (order.GoCommon d) e refl)
     follow_order false s a (order.GoSpecial k) e = go_special known acts s a k e
-    follow_order true s a (order.GoSpecial k) e = absurd (wrong_way known s (order.GoSpecial k) e refl)
     follow_order true s a (order.GoSwitch n line) e = switches_own known s a n line e
-    follow_order false s a (order.GoSwitch n line) e = absurd (wrong_way known s (order.GoSwitch n line) e refl)
     follow_order true s a (order.GoSwitchCommon d line) e = switches_by_descriptor known s a d line e (defined_at p g d) refl
-    follow_order false s a (order.GoSwitchCommon d line) e = absurd (wrong_way known s (order.GoSwitchCommon d line) e refl)
     follow_order true s a (order.GoSwitchSpecial k line) e = switch_special known acts s a k line e
-    follow_order false s a (order.GoSwitchSpecial k line) e = absurd (wrong_way known s (order.GoSwitchSpecial k line) e refl)
+    follow_order _ s a o e = absurd (wrong_way known s o e refl)
 
   module _ {q : Processor} {g place : ℕ} {loaded : Bool} {acts : List OrderActivation} {w : Words} (s : Sound p image g place loaded acts w (watch q)) where
     -- the order with which the block at work begins
@@ -564,7 +484,7 @@ module _ (known : Given) where
         let size = behind known m a o e in
         let to : order_place (base_of p g) m.orders place ≡ order_place (base_of p g) m.orders (place + 1) = omega arith in
         let landed : Landed p image (order_place (base_of p g) m.orders (place + 1)) g loaded acts w (watch q) = subst (λ k. Landed p image k g loaded acts w (watch q)) to a.landed in
-        let there = sound_at known m (place + 1) loaded w (watch q) (begins_next known m a o e) m.room goes landed in
+        let there = sound_at known m (place + 1) loaded w (watch q) (begins_next known m a o e) goes landed in
         let nothing : owed_by (slice_get list m.from) q ≡ [] = ap (λ k. owed_by (slice_get list k) q) from ∙ ap (λ y. owed_by y q) e in
         let b = coded.begins g place n (order_is known m (Some o) e) in
         let listed : slice_get list (place + 1) ≡ Some b.0 = sym (ap (λ u. order_in u (place + 1)) m.unit) ∙ b.1 in

@@ -47,17 +47,16 @@ use Rattle.cw_follow.proofs.Chains.{Is, view, last, move as moved_to}
 use Rattle.cw_run86.specs.Views.{put_word}
 use Rattle.cw_follow.proofs.Acting.{act}
 use Rattle.cw_follow.proofs.Standing.{HasPieces, order_place, stand_both, appended_long, Has, HasPiecesFrom, stand_behind, first_of}
-use Rattle.cw_follow.proofs.Shifts.{leads_then}
 use Rattle.cw_follow.proofs.Stacks.{level, record_of, StackIs, OperandsAre}
-use Rattle.cw_follow.proofs.Routines.{leads_on}
+use Rattle.cw_follow.proofs.Routines.{leads_on, leads_then}
 use Rattle.cw_follow.proofs.Operating.{word_named}
 use Rattle.cw_follow.proofs.Orders.{Landed, Does, Chooses, later, further, landed, kept_stored}
 use Rattle.cw_follow.proofs.OperandCode.{OneOperation}
 use Rattle.cw_follow.proofs.UseBlocks as UseBlocks
 use Rattle.cw_follow.proofs.States.{Given, Sound}
 use Rattle.cw_follow.proofs.CheckedBlocks.{checked_block}
-use Rattle.cw_follow.proofs.Steps.{Follow, setting, order_here, weight_is, line_fits, start_place, block_code, block_ends, did_as, does, chosen, start, two_roomy, FollowFrom, begins_block, begun_block, reaches_mark}
-use Rattle.cw_follow.proofs.BlockOrders.{code_end, room_in, within_block, inner_follows, modes, saved, step_in}
+use Rattle.cw_follow.proofs.Steps.{Follow, setting, order_here, weight_is, line_fits, start_place, block_code, block_ends, did_as, does, chosen, start, FollowFrom, begins_block, begun_block, reaches_mark, code_end}
+use Rattle.cw_follow.proofs.BlockOrders.{room_in, within_block, inner_follows, modes, saved, step_in}
 use Rattle.cw_follow.proofs.InBlocks.{loaded_then, loaded_silently, silently}
 use Rattle.cw_follow.proofs.Indexed.{element_steps, few_element}
 use Rattle.cw_follow.proofs.Operands.{words, with_cells}
@@ -353,7 +352,7 @@ module _ (known : Given) where
         y : ℤ
         y = word_at s.before.memory at
 
-        cases : (ops : List Operand) → s.before.operands ≡ ops → Does p image 24 (UseBlocks.block_end known s) g true line acts s.before.output q (perform p.limits.area (Multiply (pos 0)) (put y (words ops s.before.memory s.before.input s.before.output)))
+        cases : (ops : List Operand) → s.before.operands ≡ ops → Does p image 24 (code_end known s) g true line acts s.before.output q (perform p.limits.area (Multiply (pos 0)) (put y (words ops s.before.memory s.before.input s.before.output)))
         cases [] same = tt
         cases (Held d ∷ rest) same = tt
         cases (Word x ∷ rest) same =
@@ -375,12 +374,12 @@ module _ (known : Given) where
             let tail_there = subst (HasPieces image st.value (start + 2)) (append_assoc (element_address e) last_pieces (check_pieces e line)) h.1 in
             let size = product_size e in
             let check = UseBlocks.product_checked known s (simple.Element e) line (behind + 2 + 2) checks ends (omega arith) rest_there.1.1 in
-            later p image 15 (UseBlocks.block_end known s) g true line acts (1 + (element_steps e e.test + 1)) 24 (put_value (scaled_product x y (pos 0)) (words rest s.before.memory s.before.input s.before.output)) (omega arith)
+            later p image 15 (code_end known s) g true line acts (1 + (element_steps e e.test + 1)) 24 (put_value (scaled_product x y (pos 0)) (words rest s.before.memory s.before.input s.before.output)) (omega arith)
             (leads_then (last rows a.is l.kept.wrote moved) (λ t b.
             leads_then (leads false true l (last_pieces ++ check_pieces e line) (start + 2) r.above l.stacked.ax l.stacked.ax t b tail_there) (λ u d.
             last rows {Target = AtProduct l (behind + 2) (l.cells at) l.stacked.ax r.above} d.is l.kept.wrote (record { dx = b.dx; bx = d.bx; si = 2 * at; overflow = d.overflow; is = (act rows (Into 0 at_si (InData at) (l.cells at)) (lit< tt) rest_there.0 ((refl, refl, half, refl), refl) d.is).is }))))
             (λ t d.
-            UseBlocks.other_multiplies (setting known s) s.before.memory s.before.input s.before.output x rest fx room k (UseBlocks.block_end known s) line small y fy
+            UseBlocks.other_multiplies (setting known s) s.before.memory s.before.input s.before.output x rest fx room k (code_end known s) line small y fy
             (subst (λ n. Is image (behind + 2) (view n (unsigned x) d.dx d.bx (2 * l.top) (record_of acts) d.si p.limits.area d.overflow l.cells l.stack l.input l.told) t) (l.kept.words at within)
             (subst (λ n. Is image (behind + 2) (view (l.cells at) n d.dx d.bx (2 * l.top) (record_of acts) d.si p.limits.area d.overflow l.cells l.stack l.input l.told) t) k.operands.0
             (subst (λ n. Is image (behind + 2) (view (l.cells at) l.stacked.ax d.dx d.bx (2 * n) (record_of acts) d.si p.limits.area d.overflow l.cells l.stack l.input l.told) t) (sym r.is) d.is)))
@@ -445,7 +444,7 @@ module _ (known : Given) where
         let y = word_at s.before.memory made.at in
         let t = address_there e (uses.Compare c m) tt code in
         let d = UseBlocks.compares_with known s (simple.Element e) c m y (memory_fits made.at made.within) ends.behind code (reaches_mark known s b order.Save os m list is refl) (word_from_element e t.tail before.landed made.at made.within made.leads t.stands) in
-        chosen known s false 0 (UseBlocks.way_of known s c m w) 10 ends.begins (two_roomy acts p.room m c w.operands w s.room) (step_in known s true (order.JumpIf c m) before.now here) paid
+        chosen known s false 0 (UseBlocks.way_of known s c m w) 10 ends.begins (step_in known s true (order.JumpIf c m) before.now here) paid
         (subst (λ v. Chooses p image 10 (code_end known s) (start known s) g false 0 acts w.output q (UseBlocks.way_of known s c m v)) (sym made.is)
         (subst (λ o. Chooses p image 10 (code_end known s) (start known s) g false 0 acts o q (UseBlocks.way_of known s c m (put y s.before))) s.wrote d))
 

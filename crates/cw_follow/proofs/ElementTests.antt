@@ -5,7 +5,7 @@ use borrow.Author.Tests.{ltb-true}
 use Rattle.cw_word.specs.FixedPoint.{FitsWord}
 use Rattle.cw_word.specs.Word.{signed, unsigned}
 use Rattle.cw_unit.specs.Stop.{AddressRange, IndexRange}
-use Rattle.cw_unit.specs.Words.{Operand, Word, Held, Words, Outcome, Changed, Refused, Impossible, put, put_if, word_at, through, is_below, number_of}
+use Rattle.cw_unit.specs.Words.{Operand, Word, Held, Words, Outcome, Changed, Refused, Impossible, put, put_if, word_at, is_below}
 use Rattle.cw_unit.specs.Operation.{Fetch, Indexed, perform}
 use Rattle.cw_order.specs.declared.order.Order.{Order}
 use Rattle.cw_order.specs.declared.order.Order.TheVariants as order
@@ -38,15 +38,15 @@ use Rattle.cw_follow.specs.Placing.{base_of}
 use Rattle.cw_follow.proofs.Watched.{Watched}
 use Rattle.cw_follow.proofs.Chains.{Leads, view, IsAt}
 use Rattle.cw_follow.proofs.Standing.{HasPieces, order_place, stand_both, HasPiecesFrom, stand_behind}
-use Rattle.cw_follow.proofs.Shifts.{leads_then}
 use Rattle.cw_follow.proofs.Stacks.{level, record_of, OperandsAre, top_is}
-use Rattle.cw_follow.proofs.Orders.{Landed, below_area, later}
+use Rattle.cw_follow.proofs.Orders.{Landed, later, through_word}
 use Rattle.cw_follow.proofs.States.{Given, Sound}
 use Rattle.cw_follow.proofs.Steps.{setting, calls}
 use Rattle.cw_follow.proofs.InBlocks.{slice_drop, chain, loaded_silently, puts_word, silently}
 use Rattle.cw_follow.proofs.FrameBlocks.{frame_word_inside}
 use Rattle.cw_follow.proofs.Indexed.{below_of, formed_by_one, BetweenBounds, from_word, between_bounds, past_bounds, formed_between, Addressed, Summed, index_steps, loaded_steps, loaded_size, lower_steps, few_index, few_loaded, few_lower, loaded_long, lower_long, loaded_index, sum_by_word, sum_by_frame, test_passes, test_stops, index_by_word, index_by_frame, less_lower, index_passes, index_stops}
 use Rattle.cw_follow.proofs.Operands.{allowed, DoesHere}
+use Rattle.cw_follow.proofs.Routines.{leads_then}
 
 chain_chain : (x : Outcome) (f g : Words → Outcome) → chain (chain x f) g ≡ chain x (λ v. chain (f v) g)
 chain_chain (Changed v) f g = refl
@@ -195,20 +195,12 @@ module _ (known : Given) where
     pub index_read : (x : Place) (v : Words) → (index_of x v ≡ Impossible) ⊎ IndexRead x v
     index_read x v = cases (place_address p g acts x) refl
       where
-        within : (a : ℕ) (b : Bool) → place_address p g acts x ≡ Some a → is_below (signed a) p.limits.area ≡ b → (index_of x v ≡ Impossible) ⊎ IndexRead x v
-        within a false e is = inl (ap (λ y. chain (put_address y v) (λ u. unrefused (perform p.limits.area (Fetch None) u))) e ∙ ap (λ y. unrefused (through y (λ i u. Changed (put (word_at u.memory i) u)) (signed a) v)) is)
-        within a true e is =
-            let b = below_area rows.words p.limits.area a low (place_small x a e) is in
-            inr (record {
-              at = number_of (signed a);
-              within = b.within;
-              stands = e ∙ ap Some (sym b.same);
-              is = ap (λ y. chain (put_address y v) (λ u. unrefused (perform p.limits.area (Fetch None) u))) e ∙ ap (λ y. unrefused (through y (λ i u. Changed (put (word_at u.memory i) u)) (signed a) v)) is;
-            })
-
         cases : (a : Option ℕ) → place_address p g acts x ≡ a → (index_of x v ≡ Impossible) ⊎ IndexRead x v
         cases None e = inl (ap (λ y. chain (put_address y v) (λ u. unrefused (perform p.limits.area (Fetch None) u))) e)
-        cases (Some a) e = within a (is_below (signed a) p.limits.area) e refl
+        cases (Some a) e =
+            through_word rows.words p.limits.area a low (place_small x a e) (λ k u. Changed (put (word_at u.memory k) u)) v (λ o. index_of x v ≡ unrefused o → (index_of x v ≡ Impossible) ⊎ IndexRead x v)
+            (λ is. inl is) (λ k within same is. inr (record { at = k; within = within; stands = e ∙ ap Some (sym same); is = is }))
+            (ap (λ y. chain (put_address y v) (λ u. unrefused (perform p.limits.area (Fetch None) u))) e)
 
     -- ---- the address
 
@@ -370,7 +362,7 @@ module _ (known : Given) where
         let few_numbers = n.within in
         let inside = z.inside in
         ap (from_base p.limits.area (λ base. Indexed base e.lower)) f.is
-        ∙ formed_between p.limits.area (home_word p.addresses g e.family e.first) n.number e.lower (word_at s.before.memory f.read.at) s.before low (omega arith) n.less
+        ∙ formed_between p.limits.area (home_word p.addresses g e.family e.first) n.number (word_at s.before.memory f.read.at -ℤ e.lower) s.before low (omega arith) n.less
 
     -- ---- the code of the address
 

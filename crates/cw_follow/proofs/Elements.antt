@@ -4,7 +4,6 @@ use borrow.Author.Tests.{ltb-true, eqb-true}
 use Rattle.std.proofs.Math.Nat.{min-eq_left}
 use Rattle.std.proofs.lemmas.Bool.{lt-ltb, le-ltb, false≢true}
 use Rattle.std.proofs.lemmas.Int.{ints}
-use Rattle.std.proofs.lemmas.List.Elements.{All-head, All-tail}
 use Rattle.std.specs.List.{All}
 use Rattle.std.specs.Prelude.{◌==◌, if◌then◌else◌}
 use Rattle.cw_i86.specs.Encoding.{bytes_of}
@@ -14,7 +13,7 @@ use Rattle.cw_run86.specs.Views.{View, word_sum, word_difference, sum_overflows,
 use Rattle.cw_word.specs.FixedPoint.{FitsWord, fits_word}
 use Rattle.cw_word.specs.Word.{unsigned}
 use Rattle.cw_unit.specs.Stop.{AddressRange}
-use Rattle.cw_unit.specs.Words.{Operand, Word, Held, Words, Outcome, Changed, Refused, on_one, put, put_if, is_below}
+use Rattle.cw_unit.specs.Words.{Operand, Word, Words, Outcome, Changed, Refused, on_one, put, put_if, is_below}
 use Rattle.cw_unit.specs.Operation.{Addressing, Indexed, Indexed2, Scaled, fitting, address_of, form_address}
 use Rattle.cw_order.specs.FittingWords.{OperandFits}
 use Rattle.cw_order.specs.OrderChanges.{from_base}
@@ -30,10 +29,10 @@ use Rattle.cw_follow.proofs.Watched.{Watched}
 use Rattle.cw_follow.proofs.Standing.{HasPieces}
 use Rattle.cw_follow.proofs.Chains.{Is, view, seen, done}
 use Rattle.cw_follow.proofs.Straight.{Act, Move, Pop, Number, Product, Sum, SumNumber, DifferenceNumber, Needs, instruction, after, straight}
-use Rattle.cw_follow.proofs.Routines.{with_ax}
+use Rattle.cw_follow.proofs.Routines.{with_ax, Around}
 use Rattle.cw_follow.proofs.Stacks.{level, record_of, StackIs, top_is}
 use Rattle.cw_follow.proofs.Orders.{Kept, later, further}
-use Rattle.cw_follow.proofs.Operands.{Setting, words, allowed, Two, two_there, LandedWith, DoesHere, guards, result}
+use Rattle.cw_follow.proofs.Operands.{Setting, words, allowed, Two, LandedWith, DoesHere, guards, result, taking_two, taking_three, accessing_three}
 use Rattle.cw_follow.proofs.Called.{Then}
 use Rattle.cw_follow.proofs.Numbers.{sum_overflows_is, difference_overflows_is, sum_is, difference_is, fits_tested, unsigned_pos}
 use Rattle.cw_follow.proofs.Facts.{fits_true, not_below}
@@ -74,12 +73,8 @@ module _ (c : Setting) (memory : List ℤ) (input output : List ℕ) (value : Fi
   record Midway (at : ℕ) (z : ℤ) (cx si : ℕ) (rest : List Operand) (p : Watched) : Type 0 where
     pub dx : ℕ
     pub bx : ℕ
-    pub overflow : Bool
-    pub top : ℕ
-    pub cells : ℕ → ℕ
-    pub stack : ℕ → ℕ
-    pub left : List ℕ
-    pub told : Told
+    pub around : Around
+    pub open around use *
     pub fits : FitsWord z
     pub low : top < level c.acts
     pub is : Is c.image at (view (unsigned z) cx dx bx (2 * suc top) (record_of c.acts) si c.program.limits.area overflow cells stack left told) p
@@ -122,7 +117,7 @@ module _ (c : Setting) (memory : List ℤ) (input output : List ℕ) (value : Fi
       (λ f q t.
       let fits = fits_tested z f in
       on (at + 2 + 3 + 2) q (record { stands = h.1.1.1; ends = end })
-      (record { dx = dx; bx = bx; overflow = overflow; top = top; cells = cells; stack = stack; left = left; told = told; fits = fits; low = low; is = seen there refl (with_ax (is_z fits) t); under = under; kept = kept })))
+      (record { dx = dx; bx = bx; around = record { overflow = overflow; top = top; cells = cells; stack = stack; left = left; told = told }; fits = fits; low = low; is = seen there refl (with_ax (is_z fits) t); under = under; kept = kept })))
 
   -- an instruction that leaves a number in AX where it does not overflow, and its test
   operates : {p : Watched} {at cx si : ℕ} (act : Act) (a : ℕ) (f : Bool) (m : ℕ) (z z' : ℤ) (rest : List Operand) (qs : List Coded) (o : Outcome)
@@ -226,7 +221,7 @@ module _ (c : Setting) (memory : List ℤ) (input output : List ℕ) (value : Fi
       (λ at q code i.
       let h = code.stands in
       in_area_tested c memory input output to (value 7 address_entry 0 (at + 2 + 2 + 3)) line small code.ends (arrives (at + 2 + 2 + 3)) (h.0, (h.1.0, (h.1.1.0, (h.1.1.1.0, tt)))) (z +ℤ base) (is_below (z +ℤ base) area) rest refl i.fits
-      (record { cx = cx; dx = i.dx; bx = i.bx; si = unsigned base; overflow = i.overflow; top = i.top; cells = i.cells; stack = i.stack; left = i.left; told = i.told; low = i.low; is = i.is; under = i.under; kept = i.kept }))))
+      (record { beside = record { cx = cx; dx = i.dx; bx = i.bx; si = unsigned base; around = i.around }; low = i.low; is = i.is; under = i.under; kept = i.kept }))))
 
   -- the base in SI, and the operand below it in AX
   base_by : {p : Watched} {at : ℕ} (m : ℕ) (x base : ℤ) (rest : List Operand) (qs : List Coded) (o : Outcome) → FitsWord x → Code at (base_kept ++ qs) → Two c memory input output at x base rest p
@@ -238,7 +233,7 @@ module _ (c : Setting) (memory : List ℤ) (input output : List ℕ) (value : Fi
       later c.program c.image m to c.g true line c.acts 2 (2 + m) o (omega arith)
       (straight c.rows (Move 6 0 ∷ Pop 0 (suc l.top) (unsigned x) ∷ []) l.kept.wrote (h.0, (h.1.0, tt)) (tt, (l.next, tt)) l.is (λ q t. done t))
       (λ q t. on l.cx (at + 2 + 1) q (record { stands = h.1.1; ends = end })
-      (record { dx = l.dx; bx = l.bx; overflow = l.overflow; top = suc l.top; cells = l.cells; stack = l.stack; left = l.left; told = l.told; fits = fx; low = l.low; is = t; under = l.under; kept = l.kept }))
+      (record { dx = l.dx; bx = l.bx; around = record (l.around) { top = suc l.top }; fits = fx; low = l.low; is = t; under = l.under; kept = l.kept }))
 
   -- the number in CX, and the operand below in AX
   place_by : {p : Watched} {at cx si : ℕ} (m : ℕ) (z x : ℤ) (rest : List Operand) (qs : List Coded) (o : Outcome) → FitsWord x → Code at (coded.Whole (move 1 0) ∷ coded.Whole (i86.Pop 0) ∷ qs)
@@ -255,7 +250,7 @@ module _ (c : Setting) (memory : List ℤ) (input output : List ℕ) (value : Fi
       later c.program c.image m to c.g true line c.acts 2 (2 + m) o (omega arith)
       (straight c.rows (Move 1 0 ∷ Pop 0 (suc i.top) (unsigned x) ∷ []) i.kept.wrote (h.0, (h.1.0, tt)) (tt, ((room, sp, i.under.0), tt)) i.is (λ q t. done t))
       (λ q t. on (at + 2 + 1) q (record { stands = h.1.1; ends = end })
-      (record { dx = i.dx; bx = i.bx; overflow = i.overflow; top = suc i.top; cells = i.cells; stack = i.stack; left = i.left; told = i.told; fits = fx; low = low; is = t; under = i.under.1; kept = i.kept }))
+      (record { dx = i.dx; bx = i.bx; around = record (i.around) { top = suc i.top }; fits = fx; low = low; is = t; under = i.under.1; kept = i.kept }))
 
   -- ---- where all numbers fit
 
@@ -274,7 +269,7 @@ module _ (c : Setting) (memory : List ℤ) (input output : List ℕ) (value : Fi
       (straight c.rows (act ∷ []) i.kept.wrote (h.0, tt) (needs _, tt) i.is (λ q t. done t))
       (λ q t.
       on (at + size) q (record { stands = h.1; ends = end })
-      (record { dx = i.dx; bx = i.bx; overflow = f; top = i.top; cells = i.cells; stack = i.stack; left = i.left; told = i.told; fits = fits; low = i.low; is = with_ax is_z (seen refl seen_so t); under = i.under; kept = i.kept }))
+      (record { dx = i.dx; bx = i.bx; around = record (i.around) { overflow = f }; fits = fits; low = i.low; is = with_ax is_z (seen refl seen_so t); under = i.under; kept = i.kept }))
 
   -- an index less the lower bound
   from_bound : {p : Watched} {at cx si : ℕ} (m : ℕ) (lower z : ℤ) (rest : List Operand) (qs : List Coded) (o : Outcome) → FitsWord lower → FitsWord (z -ℤ lower)
@@ -309,7 +304,7 @@ module _ (c : Setting) (memory : List ℤ) (input output : List ℕ) (value : Fi
           (straight c.rows (Number 3 width ∷ Product 3 ∷ []) i.kept.wrote (s.0, (s.1.0, tt)) (tt, (tt, tt)) i.is (λ q t. done t))
           (λ q t.
           on (at + 3 + 2) q (record { stands = s.1.1; ends = end })
-          (record { dx = _; bx = width; overflow = _; top = i.top; cells = i.cells; stack = i.stack; left = i.left; told = i.told; fits = fits; low = i.low; is = with_ax (times_is c.rows z i.fits width most fits) t; under = i.under; kept = i.kept }))
+          (record { dx = _; bx = width; around = record (i.around) { overflow = _ }; fits = fits; low = i.low; is = with_ax (times_is c.rows z i.fits width most fits) t; under = i.under; kept = i.kept }))
 
   -- the base added, which ends the code
   base_added : {p : Watched} {at cx : ℕ} (base z : ℤ) (rest : List Operand) → FitsWord base → FitsWord (z +ℤ base) → Code at (coded.Whole (add 0 6) ∷ []) → Midway at z cx (unsigned base) rest p
@@ -334,62 +329,50 @@ module _ (c : Setting) (memory : List ℤ) (input output : List ℕ) (value : Fi
 
   pub forms_element : {p : Watched} {at : ℕ} (lower : ℤ) (operands : List Operand) → FitsWord lower → operand_words operands < level c.acts → All OperandFits operands
       → Code at (element line lower) → LandedWith c memory input output at true operands p → Forms 21 (λ base. Indexed base lower) operands p
-  forms_element {p} {at} lower operands fl room fits code l = whole_area p 21 (λ base. Indexed base lower) operands (cases operands room fits l)
-    where
-      cases : (operands : List Operand) → operand_words operands < level c.acts → All OperandFits operands → LandedWith c memory input output at true operands p
-          → Reaches 21 (on_one (λ base v. form_address c.program.limits.area (Indexed base lower) v) operands (words operands memory input output)) p
-      cases [] room fits l = tt
-      cases (Held d ∷ rest) room fits l = tt
-      cases (Word b ∷ []) room fits l = tt
-      cases (Word b ∷ Held d ∷ rest) room fits l = tt
-      cases (Word b ∷ Word x ∷ rest) room fits l =
-          let fb = All-head OperandFits (Word b) (Word x ∷ rest) fits in
-          let fx = All-head OperandFits (Word x) rest (All-tail OperandFits (Word b) (Word x ∷ rest) fits) in
-          let last : Outcome = address_of c.program.limits.area (b +ℤ (x -ℤ lower)) (words rest memory input output) in
-          base_by 19 x b rest (less_bound line lower ++ based line) (fitting (fits_word (x -ℤ lower)) last) fx code (two_there c memory input output x b rest room l) (λ cx at q code i.
-          less 17 lower x rest (based line) last (lit≤ tt) fl code i (λ at q code i.
-          based_by b (x -ℤ lower) rest fb code i))
+  forms_element {p} lower operands fl room fits code l =
+      whole_area p 21 (λ base. Indexed base lower) operands
+      (taking_two c memory input output 21 to true line (λ x b v. fitting (fits_word (x -ℤ lower)) (address_of c.program.limits.area (b +ℤ (x -ℤ lower)) v)) (λ x b rest fx fb two.
+      let last : Outcome = address_of c.program.limits.area (b +ℤ (x -ℤ lower)) (words rest memory input output) in
+      base_by 19 x b rest (less_bound line lower ++ based line) (fitting (fits_word (x -ℤ lower)) last) fx code two (λ cx at q code i.
+      less 17 lower x rest (based line) last (lit≤ tt) fl code i (λ at q code i.
+      based_by b (x -ℤ lower) rest fb code i))) operands room fits l)
 
   -- the place in the row is tested first
   moved : (row begins place : Bool) (o : Outcome) → fitting place (fitting row (fitting begins o)) ≡ fitting row (fitting begins (fitting place o))
   moved row begins true o = refl
   moved row begins false o = sym (ap (fitting row) (refused_too begins) ∙ refused_too row)
 
+  -- what an element of two dimensions does
+  abbrev of_two : (lower second : ℤ) (width : ℕ) → ℤ → ℤ → ℤ → Words → Outcome
+  of_two lower second width x j b v =
+      fitting (fits_word (x -ℤ lower)) (fitting (fits_word ((x -ℤ lower) *ℤ pos width)) (fitting (fits_word (j -ℤ second))
+      (fitting (fits_word ((x -ℤ lower) *ℤ pos width +ℤ (j -ℤ second))) (address_of c.program.limits.area (b +ℤ ((x -ℤ lower) *ℤ pos width +ℤ (j -ℤ second))) v))))
+
   pub forms_element_of_two : {p : Watched} {at : ℕ} (lower second : ℤ) (width : ℕ) (operands : List Operand) → FitsWord lower → FitsWord second → width ≤ 32768 → operand_words operands < level c.acts → All OperandFits operands
       → Code at (element_of_two line lower second width) → LandedWith c memory input output at true operands p → Forms 31 (λ base. Indexed2 base lower second width) operands p
-  forms_element_of_two {p} {at} lower second width operands fl fs most room fits code l = whole_area p 31 (λ base. Indexed2 base lower second width) operands (cases operands room fits l)
-    where
-      cases : (operands : List Operand) → operand_words operands < level c.acts → All OperandFits operands → LandedWith c memory input output at true operands p
-          → Reaches 31 (on_one (λ base v. form_address c.program.limits.area (Indexed2 base lower second width) v) operands (words operands memory input output)) p
-      cases [] room fits l = tt
-      cases (Held d ∷ rest) room fits l = tt
-      cases (Word b ∷ []) room fits l = tt
-      cases (Word b ∷ Held d ∷ rest) room fits l = tt
-      cases (Word b ∷ Word j ∷ []) room fits l = tt
-      cases (Word b ∷ Word j ∷ Held d ∷ rest) room fits l = tt
-      cases (Word b ∷ Word j ∷ Word x ∷ rest) room fits l =
-          let below = All-tail OperandFits (Word b) (Word j ∷ Word x ∷ rest) fits in
-          let fb = All-head OperandFits (Word b) (Word j ∷ Word x ∷ rest) fits in
-          let fj = All-head OperandFits (Word j) (Word x ∷ rest) below in
-          let fx = All-head OperandFits (Word x) rest (All-tail OperandFits (Word j) (Word x ∷ rest) below) in
-          let row : ℤ = x -ℤ lower in
-          let begins : ℤ = row *ℤ pos width in
-          let place : ℤ = j -ℤ second in
-          let last : Outcome = address_of c.program.limits.area (b +ℤ (begins +ℤ place)) (words rest memory input output) in
-          let summed : Outcome = fitting (fits_word (begins +ℤ place)) last in
-          let from_row : Outcome = fitting (fits_word row) (fitting (fits_word begins) summed) in
-          let ends : List Coded = in_row line ++ based line in
-          let row_code : List Coded = less_bound line lower ++ (times address_entry line width ++ ends) in
-          let place_code : List Coded = coded.Whole (move cx ax) ∷ coded.Whole (i86.Pop ax) ∷ row_code in
-          subst (λ o. Reaches 31 o p) (moved (fits_word row) (fits_word begins) (fits_word place) summed)
-          (base_by 29 j b (Word x ∷ rest) (less_bound line second ++ place_code) (fitting (fits_word place) from_row) fj code (two_there c memory input output j b (Word x ∷ rest) room l) (λ cx at q code i.
-          less 27 second j (Word x ∷ rest) place_code from_row (lit≤ tt) fs code i (λ at q code i.
-          let fp = i.fits in
-          place_by 25 place x rest row_code from_row fx code i (λ at q code i.
-          less 23 lower x rest (times address_entry line width ++ ends) (fitting (fits_word begins) summed) (lit≤ tt) fl code i (λ at q code i.
-          times_by 19 width row rest ends summed (lit≤ tt) most code i (λ at q code i.
-          adds_register 1 17 place begins rest (based line) last (λ dx bx sp bp di overflow cells stack left told. refl) (lit≤ tt) fp code i (λ at q code i.
-          based_by b (begins +ℤ place) rest fb code i)))))))
+  forms_element_of_two {p} lower second width operands fl fs most room fits code l =
+      whole_area p 31 (λ base. Indexed2 base lower second width) operands
+      (taking_three c memory input output 31 to true line
+      (of_two lower second width)
+      (λ x j b rest fx fj fb two.
+      let row : ℤ = x -ℤ lower in
+      let begins : ℤ = row *ℤ pos width in
+      let place : ℤ = j -ℤ second in
+      let last : Outcome = address_of c.program.limits.area (b +ℤ (begins +ℤ place)) (words rest memory input output) in
+      let summed : Outcome = fitting (fits_word (begins +ℤ place)) last in
+      let from_row : Outcome = fitting (fits_word row) (fitting (fits_word begins) summed) in
+      let ends : List Coded = in_row line ++ based line in
+      let row_code : List Coded = less_bound line lower ++ (times address_entry line width ++ ends) in
+      let place_code : List Coded = coded.Whole (move cx ax) ∷ coded.Whole (i86.Pop ax) ∷ row_code in
+      subst (λ o. Reaches 31 o p) (moved (fits_word row) (fits_word begins) (fits_word place) summed)
+      (base_by 29 j b (Word x ∷ rest) (less_bound line second ++ place_code) (fitting (fits_word place) from_row) fj code two (λ cx at q code i.
+      less 27 second j (Word x ∷ rest) place_code from_row (lit≤ tt) fs code i (λ at q code i.
+      let fp = i.fits in
+      place_by 25 place x rest row_code from_row fx code i (λ at q code i.
+      less 23 lower x rest (times address_entry line width ++ ends) (fitting (fits_word begins) summed) (lit≤ tt) fl code i (λ at q code i.
+      times_by 19 width row rest ends summed (lit≤ tt) most code i (λ at q code i.
+      adds_register 1 17 place begins rest (based line) last (λ dx bx sp bp di overflow cells stack left told. refl) (lit≤ tt) fp code i (λ at q code i.
+      based_by b (begins +ℤ place) rest fb code i)))))))) operands room fits l)
 
   -- the three operands of an element of two dimensions, as the processor has them
   module _ {p : Watched} {at : ℕ} (lower second : ℤ) (width : ℕ) (b j x : ℤ) (rest : List Operand) (fb : FitsWord b) (fj : FitsWord j) (fx : FitsWord x) (two : Two c memory input output at j b (Word x ∷ rest) p) where
@@ -442,40 +425,21 @@ module _ (c : Setting) (memory : List ℤ) (input output : List ℕ) (value : Fi
       → Code at (element_inside lower second width) → LandedWith c memory input output at true operands p
       → Reaches 10 (unrefused (from_base c.program.limits.area (λ base. Indexed2 base lower second width) (words operands memory input output))) p
   forms_element_inside {p} {at} lower second width operands fl fs most room fits code l =
-      subst (λ n. Reaches 10 (unrefused (on_one (λ base v. form_address n (Indexed2 base lower second width) v) operands (words operands memory input output))) p) (sym (min-eq_left c.low)) (cases operands room fits l)
-    where
-      cases : (operands : List Operand) → operand_words operands < level c.acts → All OperandFits operands → LandedWith c memory input output at true operands p
-          → Reaches 10 (unrefused (on_one (λ base v. form_address c.program.limits.area (Indexed2 base lower second width) v) operands (words operands memory input output))) p
-      cases [] room fits l = tt
-      cases (Held d ∷ rest) room fits l = tt
-      cases (Word b ∷ []) room fits l = tt
-      cases (Word b ∷ Held d ∷ rest) room fits l = tt
-      cases (Word b ∷ Word j ∷ []) room fits l = tt
-      cases (Word b ∷ Word j ∷ Held d ∷ rest) room fits l = tt
-      cases (Word b ∷ Word j ∷ Word x ∷ rest) room fits l =
-          let below = All-tail OperandFits (Word b) (Word j ∷ Word x ∷ rest) fits in
-          let fb = All-head OperandFits (Word b) (Word j ∷ Word x ∷ rest) fits in
-          let fj = All-head OperandFits (Word j) (Word x ∷ rest) below in
-          let fx = All-head OperandFits (Word x) rest (All-tail OperandFits (Word j) (Word x ∷ rest) below) in
-          formed_inside lower second width b j x rest fb fj fx (two_there c memory input output j b (Word x ∷ rest) room l) fl fs most code
+      subst (λ n. Reaches 10 (unrefused (on_one (λ base v. form_address n (Indexed2 base lower second width) v) operands (words operands memory input output))) p) (sym (min-eq_left c.low))
+      (accessing_three c memory input output 10 to true line
+      (of_two lower second width)
+      (λ x j b rest fx fj fb two. formed_inside lower second width b j x rest fb fj fx two fl fs most code) operands room fits l)
 
   pub forms_entry : {p : Watched} {at : ℕ} (width word : ℕ) (operands : List Operand) → width ≤ 32768 → word < 32768 → operand_words operands < level c.acts → All OperandFits operands
       → Code at (entry line width word) → LandedWith c memory input output at true operands p → Forms 25 (λ base. Scaled base width word) operands p
-  forms_entry {p} {at} width word operands most lt room fits code l = whole_area p 25 (λ base. Scaled base width word) operands (cases operands room fits l)
-    where
-      cases : (operands : List Operand) → operand_words operands < level c.acts → All OperandFits operands → LandedWith c memory input output at true operands p
-          → Reaches 25 (on_one (λ base v. form_address c.program.limits.area (Scaled base width word) v) operands (words operands memory input output)) p
-      cases [] room fits l = tt
-      cases (Held d ∷ rest) room fits l = tt
-      cases (Word b ∷ []) room fits l = tt
-      cases (Word b ∷ Held d ∷ rest) room fits l = tt
-      cases (Word b ∷ Word x ∷ rest) room fits l =
-          let fb = All-head OperandFits (Word b) (Word x ∷ rest) fits in
-          let fx = All-head OperandFits (Word x) rest (All-tail OperandFits (Word b) (Word x ∷ rest) fits) in
-          let begins : ℤ = x *ℤ pos width in
-          let last : Outcome = address_of c.program.limits.area (b +ℤ (begins +ℤ pos word)) (words rest memory input output) in
-          let placed : Outcome = fitting (fits_word (begins +ℤ pos word)) last in
-          base_by 23 x b rest (times_width line width ++ (plus_word line word ++ based line)) (fitting (fits_word begins) placed) fx code (two_there c memory input output x b rest room l) (λ cx at q code i.
-          times_width_by 19 width x rest (plus_word line word ++ based line) placed (lit≤ tt) most code i (λ at q code i.
-          plus 17 word begins rest (based line) last (lit≤ tt) lt code i (λ at q code i.
-          based_by b (begins +ℤ pos word) rest fb code i)))
+  forms_entry {p} width word operands most lt room fits code l =
+      whole_area p 25 (λ base. Scaled base width word) operands
+      (taking_two c memory input output 25 to true line
+      (λ x b v. fitting (fits_word (x *ℤ pos width)) (fitting (fits_word (x *ℤ pos width +ℤ pos word)) (address_of c.program.limits.area (b +ℤ (x *ℤ pos width +ℤ pos word)) v))) (λ x b rest fx fb two.
+      let begins : ℤ = x *ℤ pos width in
+      let last : Outcome = address_of c.program.limits.area (b +ℤ (begins +ℤ pos word)) (words rest memory input output) in
+      let placed : Outcome = fitting (fits_word (begins +ℤ pos word)) last in
+      base_by 23 x b rest (times_width line width ++ (plus_word line word ++ based line)) (fitting (fits_word begins) placed) fx code two (λ cx at q code i.
+      times_width_by 19 width x rest (plus_word line word ++ based line) placed (lit≤ tt) most code i (λ at q code i.
+      plus 17 word begins rest (based line) last (lit≤ tt) lt code i (λ at q code i.
+      based_by b (begins +ℤ pos word) rest fb code i)))) operands room fits l)

@@ -1,5 +1,5 @@
 -- Words behind BX, as operands of the instructions of blocks name them, and arguments behind BP: in the shortest form.
-use Rattle.std.proofs.Common.{◌≡◌, ℕ, zero, suc, ◌+◌, ◌*◌, ◌%◌, ◌<◌, Bool, true, false, List, length, refl, ap, ◌∙◌, arith, lit<}
+use Rattle.std.proofs.Common.{◌≡◌, ℕ, zero, suc, ◌+◌, ◌*◌, ◌%◌, ◌<◌, Bool, true, false, List, length, refl, ap, ◌∙◌, arith, lit<, ◌≤◌}
 use Rattle.std.specs.Prelude.{nat_lt, if◌then◌else◌, slice_index}
 use Rattle.std.proofs.lemmas.Bool.{ltb-true}
 use Rattle.cw_i86.specs.Encoding.{IsRm, bytes_of}
@@ -10,6 +10,15 @@ use Rattle.cw_tmpl.specs.Mnemonics.{field, argument, load, memory}
 
 pub doubled_small : (n : ℕ) → 2 * n % 65536 < 65536
 doubled_small n = omega arith
+
+-- where BX has twice the first word of a frame, a word of the frame is this one of the data area
+pub record FrameWord (base n k : ℕ) : Type 0 where
+  pub low : k < 32768
+  pub small : 2 * base % 65536 < 65536
+  pub there : (2 * base % 65536 + 2 * n % 65536) % 65536 ≡ 2 * k
+
+pub frame_word_at : (area base n k : ℕ) → area ≤ 32768 → k < area → k ≡ base + n → FrameWord base n k
+frame_word_at area base n k few within same = record { low = omega arith; small = omega arith; there = omega arith }
 
 -- where BX has the bytes of a base, such an operand denotes a word of the data area
 pub field_denotes : (code rs : List ℕ) (by k : ℕ) → k < 32768 → slice_index rs 3 < 65536 → (slice_index rs 3 + by) % 65536 ≡ 2 * k → Denotes code rs (field by) (InData k)

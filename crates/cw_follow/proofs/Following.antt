@@ -39,7 +39,7 @@ use Rattle.cw_follow.proofs.Chains.{Is, Leads, view, seen, near, more}
 use Rattle.cw_follow.proofs.Routines.{in_library, leads_on}
 use Rattle.cw_follow.proofs.Bodies.{Begun, begun_landed, enters}
 use Rattle.cw_order.specs.Activations.{OperandStands}
-use Rattle.cw_follow.proofs.States.{Given, Arrived, left, not_stuck, never_on}
+use Rattle.cw_follow.proofs.States.{Given, Arrived, left, not_stuck, never_on, before_block}
 use Rattle.cw_follow.proofs.Dispatch.{watch, MatchesOwing, simulates, watched_way}
 
 -- ---- the start
@@ -87,33 +87,11 @@ following rows p code words memory input s places there is stand coded begins ne
         let from : Is image 0 (view 0 0 0 0 0 0 0 0 false (slice_index words) (λ k. 0) input nothing_told) begin = record { sees = rows.starts code words input s is.fits short_words starts_so; ignores = ignores; overlooks = refl; silent = refl } in
         let at_entry : (q : Watched) → Begun image (base_of p 0 + 11) 1 p.limits.depth p.limits.frames p.limits.area (slice_index words) input nothing_told q → Arrived p image 0 first false [] begun q = λ q b.
         let place_is : base_of p 0 + 11 ≡ order_place (base_of p 0) u 0 = omega arith in
-        let there : base_of p 0 + 11 ≡ order_place (base_of p 0) u first = place_is ∙ ap (order_place (base_of p 0) u) (sym is_zero) in (
-          record {
-            orders = u;
-            unit = some;
-            from = first;
-            done = 0;
-            before = begun;
-            loaded_before = false;
-            place_is = omega arith;
-            begins = ap (left_at 0 u.list) is_zero;
-            inside = omega arith;
-            did = refl;
-            moded = refl;
-            room = omega arith;
-            room_before = omega arith;
-            wrote = refl;
-            fits_before = record { operands = All-nil OperandFits; memory = memory_fits rows.words p words memory begins; input = bytes };
-            landed = begun_landed p (order_place (base_of p 0) u first) memory input [] there (lit< tt) coded.frames (cells_begin rows.words p words memory begins) begins.long refl refl refl b;
-            acts_fit = All-nil ActivationFits;
-            fits = record { operands = All-nil OperandFits; memory = memory_fits rows.words p words memory begins; input = bytes };
-            stands = record { room = omega arith; last = tt; operands = All-nil (OperandStands p 0 []) };
-            working = tt;
-            comes_back = tt;
-            never = never;
-          },
-          refl,
-        ) in
+        let there : base_of p 0 + 11 ≡ order_place (base_of p 0) u first = place_is ∙ ap (order_place (base_of p 0) u) (sym is_zero) in
+        before_block u some (ap (left_at 0 u.list) is_zero)
+        (begun_landed p (order_place (base_of p 0) u first) memory input [] there (lit< tt) coded.frames (cells_begin rows.words p words memory begins) begins.long refl refl refl b)
+        (record { words = record { operands = All-nil OperandFits; memory = memory_fits rows.words p words memory begins; input = bytes }; activations = All-nil ActivationFits })
+        (record { room = omega arith; last = tt; operands = All-nil (OperandStands p 0 []) }) tt tt never in
         let base_is : 438 ≡ base_of p 0 = refl in
         let way : Leads [] 12 begin (Arrived p image 0 first false [] begun) =
         more rows {to = base_of p 0} {w = view 0 0 0 0 0 0 0 0 false (slice_index words) (λ k. 0) input nothing_told} from refl (seen base_is refl (near rows 435 (in_library ignores 0 (i86.Jump 435) (lit< tt) all.library.0.0) from)) (λ q t.

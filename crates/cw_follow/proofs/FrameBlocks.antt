@@ -5,10 +5,10 @@ use borrow.Author.Tests.{ltb-true}
 use Rattle.cw_i86.specs.Encoding.{bytes_of}
 use Rattle.cw_tmpl.specs.Templates.{frame_size}
 use Rattle.cw_tmpl.proofs.Lengths.{field_loaded, field_stored}
-use Rattle.cw_follow.proofs.Fields.{doubled_small}
+use Rattle.cw_follow.proofs.Fields.{frame_word_at}
 use Rattle.cw_follow.proofs.Watched.{Watched}
 use Rattle.cw_word.specs.Word.{signed, unsigned}
-use Rattle.cw_unit.specs.Words.{Operand, Word, Held, Words, Changed, with_memory, put, through, is_below, number_of, word_at}
+use Rattle.cw_unit.specs.Words.{Operand, Word, Held, Words, Changed, with_memory, put, word_at}
 use Rattle.cw_unit.specs.Operation.{Fetch, Store, perform}
 use Rattle.cw_order.specs.OrderProgram.{OrderProgram}
 use Rattle.cw_order.specs.OrderChanges.{put_address}
@@ -19,8 +19,8 @@ use Rattle.cw_follow.proofs.Rows.{Rows}
 use Rattle.cw_follow.proofs.Chains.{done}
 use Rattle.cw_follow.proofs.Straight.{LoadSlot, LoadWord, StoreField, straight, straight_from}
 use Rattle.cw_follow.proofs.Routines.{with_ax}
-use Rattle.cw_follow.proofs.Stacks.{level, record_of}
-use Rattle.cw_follow.proofs.Orders.{kept_stored, Landed, landed, Does, below_area, further, LandedAt}
+use Rattle.cw_follow.proofs.Stacks.{level, base_there}
+use Rattle.cw_follow.proofs.Orders.{kept_stored, Landed, landed, Does, further, LandedAt, through_word}
 use Rattle.cw_follow.proofs.InBlocks.{chain}
 use Rattle.cw_follow.proofs.Standing.{HasAll, Image, HasFrom}
 
@@ -37,32 +37,14 @@ module _ (rows : Rows) (prog : OrderProgram) (image : Image) where
   fetches_frame : {q : Watched} {first : Bool} {at : ℕ} (g to n : ℕ) (a : OrderActivation) (acts : List OrderActivation) (w : Words) → prog.limits.area ≤ 32768 → a.frame_base + n < prog.limits.area → at + (frame_size n + 5) ≡ to
       → HasFrom first image at (load bx (slot base_slot) ∷ load ax (field (2 * n % 65536)) ∷ []) → LandedAt first prog image at g false (a ∷ acts) w q
       → Does prog image 2 to g true 0 (a ∷ acts) w.output q (unrefused (perform prog.limits.area (Fetch None) (put (signed (a.frame_base + n)) w)))
-  fetches_frame {q} {first} {at} g to n a acts w low inside e i l = cases (is_below (signed m) prog.limits.area) refl
-    where
-      m : ℕ
-      m = a.frame_base + n
-
-      cases : (b : Bool) → is_below (signed m) prog.limits.area ≡ b
-          → Does prog image 2 to g true 0 (a ∷ acts) w.output q (unrefused (through b (λ j v. Changed (put (word_at v.memory j) v)) (signed m) w))
-      cases false is = tt
-      cases true is =
-          let s = l.stacked in
-          let c = l.kept in
-          let r = level (a ∷ acts) in
-          let bp = record_of (a ∷ acts) in
-          let f = below_area rows.words prog.limits.area m low (omega arith) is in
-          let k = number_of (signed m) in
-          let within = f.within in
-          let same = f.same in
-          let k_low : k < 32768 = omega arith in
-          let base : r + 1 < 32768 = omega arith in
-          let slot_base : (bp + 65530) % 65536 ≡ 2 * (r + 1) = omega arith in
-          let address : (2 * a.frame_base % 65536 + 2 * n % 65536) % 65536 ≡ 2 * k = omega arith in
-          let end : at + 3 + length (bytes_of (load ax (field (2 * n % 65536)))) ≡ to = omega (arith, e, field_loaded ax (2 * n % 65536)) in
-          further 2 (lit≤ tt) (lit< tt)
-          (straight_from rows (LoadSlot 3 0xFA (r + 1) (2 * a.frame_base % 65536)) (LoadWord 0 (2 * n % 65536) k (unsigned (word_at w.memory k)) ∷ []) {n = 0} c.wrote i
-          ((base, slot_base, c.piled.0.base_is), ((k_low, doubled_small a.frame_base, address, c.words k within), tt)) s.is (λ q u.
-          done (landed rows prog image g (a ∷ acts) true to l.top (Word (word_at w.memory k) ∷ w.operands) w.memory w.input w.output end (refl, l.operands) c u)))
+  fetches_frame {q} {at = at} g to n a acts w low inside e i l =
+      through_word rows.words prog.limits.area (a.frame_base + n) low (omega arith) (λ k v. Changed (put (word_at v.memory k) v)) w (λ o. Does prog image 2 to g true 0 (a ∷ acts) w.output q (unrefused o)) tt (λ k within same.
+      let d = frame_word_at prog.limits.area a.frame_base n k low within same in
+      let end : at + 3 + length (bytes_of (load ax (field (2 * n % 65536)))) ≡ to = omega (arith, e, field_loaded ax (2 * n % 65536)) in
+      further 2 (lit≤ tt) (lit< tt)
+      (straight_from rows (LoadSlot 3 0xFA (level (a ∷ acts) + 1) (2 * a.frame_base % 65536)) (LoadWord 0 (2 * n % 65536) k (unsigned (word_at w.memory k)) ∷ []) {n = 0} l.kept.wrote i
+      (base_there prog (a ∷ acts) refl l.kept.piled.0, ((d.low, d.small, d.there, l.kept.words k within), tt)) l.stacked.is (λ q u.
+      done (landed rows prog image g (a ∷ acts) true to l.top (Word (word_at w.memory k) ∷ w.operands) w.memory w.input w.output end (refl, l.operands) l.kept u))))
 
   -- the top operand goes to the word
   assigns_frame : {q : Watched} {at : ℕ} (g to n : ℕ) (a : OrderActivation) (acts : List OrderActivation) (operands : List Operand) (memory : List ℤ) (input output : List ℕ) → prog.limits.area ≤ 32768
@@ -72,32 +54,15 @@ module _ (rows : Rows) (prog : OrderProgram) (image : Image) where
       → Does prog image 2 to g false 0 (a ∷ acts) output q (unrefused (perform prog.limits.area (Store None) (record { operands = Word (signed (a.frame_base + n)) ∷ operands; memory = memory; input = input; output = output })))
   assigns_frame g to n a acts [] memory input output low inside e i l = tt
   assigns_frame g to n a acts (Held c ∷ rest) memory input output low inside e i l = tt
-  assigns_frame {q} {at} g to n a acts (Word z ∷ rest) memory input output low inside e i l = cases (is_below (signed m) prog.limits.area) refl
-    where
-      m : ℕ
-      m = a.frame_base + n
-
-      cases : (b : Bool) → is_below (signed m) prog.limits.area ≡ b
-          → Does prog image 2 to g false 0 (a ∷ acts) output q (unrefused (through b (λ j t. Changed (with_memory t (set t.memory j z))) (signed m) (record { operands = rest; memory = memory; input = input; output = output })))
-      cases false is = tt
-      cases true is =
-          let s = l.stacked in
-          let c = l.kept in
-          let r = level (a ∷ acts) in
-          let bp = record_of (a ∷ acts) in
-          let f = below_area rows.words prog.limits.area m low (omega arith) is in
-          let k = number_of (signed m) in
-          let within = f.within in
-          let same = f.same in
-          let k_low : k < 32768 = omega arith in
-          let base : r + 1 < 32768 = omega arith in
-          let slot_base : (bp + 65530) % 65536 ≡ 2 * (r + 1) = omega arith in
-          let address : (2 * a.frame_base % 65536 + 2 * n % 65536) % 65536 ≡ 2 * k = omega arith in
-          let end : at + 3 + length (bytes_of (store (field (2 * n % 65536)) ax)) ≡ to = omega (arith, e, field_stored ax (2 * n % 65536)) in
-          further 2 (lit≤ tt) (lit< tt)
-          (straight rows (LoadSlot 3 0xFA (r + 1) (2 * a.frame_base % 65536) ∷ StoreField 0 (2 * n % 65536) k ∷ []) {n = 0} c.wrote i
-          ((base, slot_base, c.piled.0.base_is), ((k_low, doubled_small a.frame_base, address), tt)) (with_ax l.operands.0 s.is) (λ q u.
-          done (landed rows prog image g (a ∷ acts) false to l.top rest (set memory k z) input output end l.operands.1 (kept_stored k z within c) u)))
+  assigns_frame {q} {at} g to n a acts (Word z ∷ rest) memory input output low inside e i l =
+      through_word rows.words prog.limits.area (a.frame_base + n) low (omega arith) (λ k t. Changed (with_memory t (set t.memory k z))) (record { operands = rest; memory = memory; input = input; output = output })
+      (λ o. Does prog image 2 to g false 0 (a ∷ acts) output q (unrefused o)) tt (λ k within same.
+      let d = frame_word_at prog.limits.area a.frame_base n k low within same in
+      let end : at + 3 + length (bytes_of (store (field (2 * n % 65536)) ax)) ≡ to = omega (arith, e, field_stored ax (2 * n % 65536)) in
+      further 2 (lit≤ tt) (lit< tt)
+      (straight rows (LoadSlot 3 0xFA (level (a ∷ acts) + 1) (2 * a.frame_base % 65536) ∷ StoreField 0 (2 * n % 65536) k ∷ []) {n = 0} l.kept.wrote i
+      (base_there prog (a ∷ acts) refl l.kept.piled.0, ((d.low, d.small, d.there), tt)) (with_ax l.operands.0 l.stacked.is) (λ q u.
+      done (landed rows prog image g (a ∷ acts) false to l.top rest (set memory k z) input output end l.operands.1 (kept_stored k z within l.kept) u))))
 
   -- a segment's body has no frame, and a word that is not in the data area is none of a frame
   pub fetches_word : {q : Watched} {first : Bool} {at : ℕ} (g to n : ℕ) (acts : List OrderActivation) (w : Words) → prog.limits.area ≤ 32768 → at + (frame_size n + 5) ≡ to

@@ -39,12 +39,12 @@ use Rattle.cw_rows86.specs.Locations.{InData, InRegister}
 use Rattle.cw_rows86.specs.Operations.{Add, Subtract, Compare}
 use Rattle.cw_rows86.specs.Acts.{Operate, OperateNumberOnto, Into}
 use Rattle.cw_follow.proofs.Acting.{act}
-use Rattle.cw_follow.proofs.Shifts.{leads_then}
 use Rattle.cw_follow.proofs.Straight.{LoadSlot, Number, straight_from}
-use Rattle.cw_follow.proofs.Stacks.{level, record_of, base_word}
+use Rattle.cw_follow.proofs.Stacks.{level, record_of, base_word, base_there}
 use Rattle.cw_follow.proofs.Orders.{Kept, further}
 use Rattle.cw_follow.proofs.Operands.{Setting, allowed, DoesHere, calls_stop}
 use Rattle.cw_follow.proofs.Facts.{not_below}
+use Rattle.cw_follow.proofs.Routines.{leads_then}
 
 -- ---- arithmetic
 
@@ -227,10 +227,9 @@ past_count (pos n) (negsuc i) fu fx is = omega (arith, fu.sfits, fx.sfits)
 past_count (negsuc n) x fu fx is = omega arith
 
 -- what the source does with such an index, where its word is in the area
-pub formed_between : (area b d : ℕ) (lower i : ℤ) (v : Words) → area ≤ 32768 → b + d < area → i -ℤ lower ≡ pos d
-    → fitting (fits_word (i -ℤ lower)) (address_of (min area 32768) (signed b +ℤ (i -ℤ lower)) v) ≡ Changed (put (pos (b + d)) v)
-formed_between area b d lower i v low within less =
-    ap (λ y. fitting (fits_word y) (address_of (min area 32768) (signed b +ℤ y) v)) less
+pub formed_between : (area b d : ℕ) (z : ℤ) (v : Words) → area ≤ 32768 → b + d < area → z ≡ pos d → fitting (fits_word z) (address_of (min area 32768) (signed b +ℤ z) v) ≡ Changed (put (pos (b + d)) v)
+formed_between area b d z v low within is =
+    ap (λ y. fitting (fits_word y) (address_of (min area 32768) (signed b +ℤ y) v)) is
     ∙ ap₂ (λ m s. fitting (fits_word (pos d)) (address_of m (s +ℤ pos d) v)) (min-eq_left low) signed_is
     ∙ ap (λ t. fitting t (address_of area (pos b +ℤ pos d) v)) (lt-ltb d 32768 (omega arith))
     ∙ ap (λ y. put_if (is_below y area) AddressRange y v) same
@@ -371,15 +370,10 @@ module _ (c : Setting) (memory : List ℤ) (input output : List ℕ) where
         → Leads output 3 p (Summed (at + 3 + 3 + length (bytes_of (operate 0 si_register (field (2 * n % 65536))))) ax cx dx (word_sum z (unsigned i)) top cells stack left told)
     sum_by_frame n a under acts_are index h =
         let word = value 1 family zero_at (at + 3 + 3) in
-        let r = level c.acts in
-        let bp = record_of c.acts in
-        let base : r + 1 < 32768 = omega arith in
-        let slot_base : (bp + 65530) % 65536 ≡ 2 * (r + 1) = omega arith in
         let twice = 2 * a.frame_base % 65536 in
-        let base_is : base_word c.program c.acts ≡ twice = ap (base_word c.program) acts_are in
         let address : (twice + 2 * n % 65536) % 65536 ≡ 2 * k = omega arith in
         leads_then
-        (straight_from c.rows (LoadSlot bx_register 0xFA (r + 1) twice) (Number si_register word ∷ []) {n = 0} kept.wrote (h.0, (h.1.0, tt)) ((base, slot_base, kept.piled.0.base_is ∙ base_is), (tt, tt)) s
+        (straight_from c.rows (LoadSlot bx_register 0xFA (level c.acts + 1) twice) (Number si_register word ∷ []) {n = 0} kept.wrote (h.0, (h.1.0, tt)) (base_there c.program c.acts (ap (base_word c.program) acts_are) kept.piled.0, (tt, tt)) s
         (λ q t. done {Target = Is c.image (at + 3 + 3) (view ax cx dx twice (2 * suc top) (record_of c.acts) word c.program.limits.area overflow cells stack left told)} t))
         (λ q t.
         let added = act c.rows (Operate Add si_register (field (2 * n % 65536)) (InData k) (cells k)) (let some : 0 < length (bytes_of (operate 0 si_register (field (2 * n % 65536)))) = omega (arith, field_operated 0 si_register (2 * n % 65536)) in some) h.1.1.0 (field_denotes c.image.bytes (view ax cx dx twice (2 * suc top) (record_of c.acts) word c.program.limits.area overflow cells stack left told).registers (2 * n % 65536) k low (doubled_small a.frame_base) address, refl) t in
@@ -410,15 +404,10 @@ module _ (c : Setting) (memory : List ℤ) (input output : List ℕ) where
     pub index_by_frame : (n : ℕ) (a : OrderActivation) (under : List OrderActivation) → c.acts ≡ a ∷ under → k ≡ a.frame_base + n → HasPiecesFrom first c.image value at (index_loaded (cell.Frame n) ++ rest)
         → Leads output 2 p (Summed (at + 3 + length (bytes_of (load si_register (field (2 * n % 65536))))) ax cx dx (unsigned i) top cells stack left told)
     index_by_frame n a under acts_are index h =
-        let r = level c.acts in
-        let bp = record_of c.acts in
-        let base : r + 1 < 32768 = omega arith in
-        let slot_base : (bp + 65530) % 65536 ≡ 2 * (r + 1) = omega arith in
         let twice = 2 * a.frame_base % 65536 in
-        let base_is : base_word c.program c.acts ≡ twice = ap (base_word c.program) acts_are in
         let address : (twice + 2 * n % 65536) % 65536 ≡ 2 * k = omega arith in
         leads_then
-        (straight_from c.rows (LoadSlot bx_register 0xFA (r + 1) twice) [] {n = 0} kept.wrote (h.0, tt) ((base, slot_base, kept.piled.0.base_is ∙ base_is), tt) s
+        (straight_from c.rows (LoadSlot bx_register 0xFA (level c.acts + 1) twice) [] {n = 0} kept.wrote (h.0, tt) (base_there c.program c.acts (ap (base_word c.program) acts_are) kept.piled.0, tt) s
         (λ q t. done {Target = Is c.image (at + 3) (view ax cx dx twice (2 * suc top) (record_of c.acts) si c.program.limits.area overflow cells stack left told)} t))
         (λ q t.
         last c.rows t kept.wrote (record {

@@ -2,7 +2,6 @@
 use Rattle.std.proofs.Common.{Bool, ◌≡◌, ℕ, zero, suc, ◌+◌, ◌*◌, ◌%◌, ◌<◌, true, false, ℤ, pos, negsuc, List, [], ◌∷◌, drop, refl, sym, ap, ◌∙◌, subst, arith}
 use Rattle.std.specs.List.{All}
 use Rattle.std.proofs.lemmas.List.Elements.{All-head}
-use Rattle.cw_track.proofs.Paths.{join}
 use Rattle.cw_i86.specs.declared.instr.Instr.TheVariants as i86
 use Rattle.cw_run86.specs.Processor.{Told}
 use Rattle.cw_run86.specs.Views.{put_word}
@@ -13,9 +12,9 @@ use Rattle.cw_order.specs.OrderState.{operand_words}
 use Rattle.cw_order.specs.OrderMachine.{unrefused}
 use Rattle.cw_tmpl.specs.Library.{read_place}
 use Rattle.cw_routines.specs.Results.{next_word}
-use Rattle.cw_follow.proofs.Watched.{Watched, watched_machine}
+use Rattle.cw_follow.proofs.Watched.{Watched}
 use Rattle.cw_follow.proofs.Chains.{Is, Leads, view, to_place, call, last, IsAt}
-use Rattle.cw_follow.proofs.Routines.{leads_on, put_at, quiet_in, quiet_library, flags_of, arrives}
+use Rattle.cw_follow.proofs.Routines.{leads_on, put_at, quiet_in, quiet_library, flags_of, arrives, joined}
 use Rattle.cw_follow.proofs.Stacks.{level, record_of, StackIs, top_is, same_put, stack_same}
 use Rattle.cw_follow.proofs.Orders.{Kept, kept_under, Landed, landed, Leading, LandedAt}
 use Rattle.cw_follow.proofs.Operands.{Setting, words, DoesHere}
@@ -82,5 +81,5 @@ module _ (c : Setting) (memory : List ℤ) (output : List ℕ) where
             spent = 1 + read.spent;
             some = omega arith;
             within = omega arith;
-            leads = record { reached = behind.reached; path = join _ watched_machine 1 read.spent (1 + read.spent) p q behind.reached refl lead.path behind.path; there = behind.there };
+            leads = joined lead behind;
           }

@@ -10,7 +10,7 @@ use Rattle.cw_unit.specs.Words.{LabelControl, SwitchControl, ProcedureControl, O
 use Rattle.cw_unit.specs.Step.{label_of_def, with_label_owner}
 use Rattle.cw_order.specs.declared.order.Order.TheVariants as order
 use Rattle.cw_order.specs.declared.order.Orders.{Orders}
-use Rattle.cw_order.specs.OrderProgram.{LabelEntry, OrderProgram, place_of, label_at, defined_at}
+use Rattle.cw_order.specs.OrderProgram.{LabelEntry, place_of, label_at, defined_at}
 use Rattle.cw_order.specs.OrderState.{OrderActivation, at, argument_behind, control_in}
 use Rattle.cw_order.specs.OrderMachine.{leave_for, dropped_by, go_to_entry, go_to, step, weight}
 use Rattle.cw_order.specs.Activations.{segment_below, OwnsLabel}
@@ -20,33 +20,18 @@ use Rattle.cw_tmpl.specs.ReferenceCode.{mark_starts, names_of}
 use Rattle.cw_follow.specs.Placing.{base_of, label_place, definition_place}
 use Rattle.cw_tmpl.proofs.Sizes.{own_place, mark_start, jump_arrives}
 use Rattle.cw_follow.proofs.Watched.{Watched}
-use Rattle.cw_follow.proofs.Standing.{order_place, Image}
+use Rattle.cw_follow.proofs.Standing.{order_place}
 use Rattle.cw_follow.proofs.Chains.{Is, Leads, view, to_place, near, more}
-use Rattle.cw_follow.proofs.Routines.{leads_on}
+use Rattle.cw_follow.proofs.Routines.{leads_on, leads_then}
 use Rattle.cw_tmpl.specs.Named.{is_named_label}
 use Rattle.cw_follow.proofs.Named.{shared_label_named, label_lands}
 use Rattle.cw_follow.proofs.Stacks.{LabelNamed, drop_all, record_of}
-use Rattle.cw_follow.proofs.Orders.{Kept, Landed, further}
+use Rattle.cw_follow.proofs.Orders.{Kept, Landed, further, landed_at}
 use Rattle.cw_follow.proofs.States.{Given, Sound}
-use Rattle.cw_follow.proofs.Leaving.{argument_of, past, kept_below, restores, goes_special}
+use Rattle.cw_follow.proofs.Leaving.{argument_of, kept_below, restores, goes_special}
 use Rattle.cw_follow.proofs.Calling.{left_for}
 use Rattle.cw_follow.proofs.Naming.{argument_stands, label_listed, label_start_is, mark_listed, start_is}
 use Rattle.cw_follow.proofs.Steps.{step_is, weight_is, stuck_here, Alone, code, FollowFrom, begun_here, landed_here}
-
-pub landed_at : {p : OrderProgram} {image : Image} {at to g : ℕ} {loaded : Bool} {acts : List OrderActivation} {w : Words} {q : Watched} → at % 65536 ≡ to % 65536
-    → Landed p image at g loaded acts w q → Landed p image to g loaded acts w q
-landed_at e l =
-    let s = l.stacked in
-    record {
-      top = l.top;
-      cells = l.cells;
-      stack = l.stack;
-      input = l.input;
-      told = l.told;
-      stacked = record { ax = s.ax; cx = s.cx; dx = s.dx; bx = s.bx; si = s.si; overflow = s.overflow; is = to_place e s.is };
-      operands = l.operands;
-      kept = l.kept;
-    }
 
 module _ (known : Given) where
   open known use {rows, p, image, all, coded, few, low}
@@ -82,7 +67,7 @@ module _ (known : Given) where
   goes_to_landing {first} {q} {g} {place} {loaded} {acts} {w} s by_itself steps to l n e named body is goes paid way =
       left_for known s by_itself to e.mark (length acts) (steps + 5) goes paid (λ k o unit there within.
       further (steps + 5) (let x : steps + 5 ≤ steps + 5 = omega arith in x) (let x : 0 < steps + 5 = omega arith in x)
-      (past way (λ r d.
+      (leads_then way (λ r d.
       let m = length (drop n acts) in
       let ending : drop m (drop n acts) ≡ drop (length acts) acts = drop_all (drop n acts) ∙ sym (drop_all acts) in
       let g' = segment_below m (segment_below n g acts) (drop n acts) in

@@ -3,7 +3,6 @@ use Rattle.std.proofs.Common.{◌≡◌, ◌≢◌, ℕ, zero, suc, ◌+◌, ◌
 use Rattle.cw_i86.specs.declared.instr.Instr.TheVariants as i86
 use Rattle.cw_i86.specs.declared.instr.Imm.TheVariants as imm
 use Rattle.cw_i86.specs.declared.instr.Rm.TheVariants as rms
-use Rattle.cw_track.proofs.Paths.{join}
 use Rattle.cw_run86.specs.Processor.{Told}
 use Rattle.cw_run86.specs.Views.{put_word, word_difference, difference_overflows}
 use Rattle.cw_unit.specs.Words.{Control, LabelControl, Operand, Held, Words, with_operands}
@@ -14,20 +13,14 @@ use Rattle.cw_i86.specs.Encoding.{bytes_of}
 use Rattle.cw_tmpl.specs.Mnemonics.{slot, segment_slot, argument, load}
 use Rattle.cw_tmpl.specs.Templates.{argument_load_size}
 use Rattle.cw_tmpl.proofs.Lengths.{argument_loaded}
-use Rattle.cw_follow.proofs.Watched.{Watched, watched_step, watched_machine}
+use Rattle.cw_follow.proofs.Watched.{Watched, watched_step}
 use Rattle.cw_follow.proofs.Rows.{Rows}
 use Rattle.cw_follow.proofs.Chains.{Is, Leads, view, seen, to_place, store_slot, jump_to, near, more, last, done, IsAt}
 use Rattle.cw_follow.proofs.Straight.{Number, Move, Push, LoadArgument, Difference, straight, straight_from}
-use Rattle.cw_follow.proofs.Routines.{put_at, put_off}
+use Rattle.cw_follow.proofs.Routines.{put_at, put_off, leads_then}
 use Rattle.cw_follow.proofs.Stacks.{level, record_of, code_place, control_place, ArgumentIs, OwnerIs, StackIs, words_split, words_append, top_is, SameFrom, same_put, same_then, same_above, stack_same, argument_words, piled_below, control_small, owner_same, owner_above, drop_all}
-use Rattle.cw_follow.proofs.Orders.{Kept, kept_under, Landed, landed, CalledAt, Leading, further, LandedAt}
+use Rattle.cw_follow.proofs.Orders.{Kept, kept_under, Landed, landed, CalledAt, Leading, further, LandedAt, around_at}
 use Rattle.cw_follow.proofs.Standing.{Has, HasAll, Image, HasFrom}
-
--- one way after another
-pub past : {output : List ℕ} {q : Watched} {T U : Watched → Type 0} {m n : ℕ} → Leads output m q T → ((r : Watched) → T r → Leads output n r U) → Leads output (m + n) q U
-past {m = m} {n = n} l on =
-    let d = on l.reached l.there in
-    record { reached = d.reached; path = join _ watched_machine m n (m + n) _ l.reached d.reached refl l.path d.path; there = d.there }
 
 -- what is kept without the last activations
 pub kept_below : {p : OrderProgram} {g : ℕ} {acts : List OrderActivation} {memory : List ℤ} {input output : List ℕ} {cells stack : ℕ → ℕ} {left : List ℕ} {told : Told} (n : ℕ)
@@ -41,6 +34,22 @@ argument_of prog {a = a} {acts = acts} {stack = stack} k x kept is = argument_wo
 
 module _ (rows : Rows) (prog : OrderProgram) (image : Image) where
   -- ---- control arguments
+
+  -- the two words of a control argument on the stack: the record of its owner, and below it the place
+  held_there : {r : Watched} {at ax cx dx bx si : ℕ} {overflow : Bool} {cells stack : ℕ → ℕ} {left : List ℕ} {told : Told} (g to n place owner : ℕ) (acts : List OrderActivation) (c : Control) (w : Words) → at ≡ to → place ≡ control_place prog c
+      → OwnerIs prog acts c owner → StackIs prog acts stack (suc (suc n)) w.operands → suc n < level acts → Kept prog g acts w.memory w.input w.output cells stack left told
+      → Is image at (view ax cx dx bx (2 * n) (record_of acts) si prog.limits.area overflow cells (put_word (put_word stack (suc n) owner) n place) left told) r
+      → Landed prog image to g false acts (with_operands w (Held c ∷ w.operands)) r
+  held_there {stack = stack} g to n place owner acts c w end is owned h under kept s =
+      let s1 : ℕ → ℕ = put_word stack (suc n) owner in
+      let s2 : ℕ → ℕ = put_word s1 n place in
+      let same1 : SameFrom (suc (suc n)) stack s1 = same_put stack (suc n) owner (suc (suc n)) (omega arith) in
+      let same2 : SameFrom (suc n) s1 s2 = same_put s1 n place (suc n) (omega arith) in
+      let both : SameFrom (suc (suc n)) stack s2 = same_then stack s1 s2 (suc (suc n)) same1 (same_above s1 s2 (suc n) (suc (suc n)) (omega arith) same2) in
+      let owner_there : s2 (suc n) ≡ owner = same2 (suc n) (omega arith) ∙ put_at stack (suc n) owner in
+      landed rows prog image g acts false to n (Held c ∷ w.operands) w.memory w.input w.output end
+      (put_at s1 n place ∙ is, owner_same prog acts c owner (s2 (suc n)) owner_there owned, stack_same prog acts stack s2 (suc (suc n)) w.operands both h)
+      (kept_under n place (omega arith) (kept_under (suc n) owner under kept)) s
 
   -- the record at work, and a place
   pub controls : {q : Watched} {first : Bool} {at : ℕ} (g to place : ℕ) (acts : List OrderActivation) (c : Control) (w : Words) → stack_words (Held c ∷ w.operands) acts ≤ 32000 → at + 5 ≡ to
@@ -62,18 +71,10 @@ module _ (rows : Rows) (prog : OrderProgram) (image : Image) where
           let low' : n < 32768 = omega arith in
           let top : 2 * suc (suc n) ≡ 2 * suc (suc n) % 65536 = omega arith in
           let top' : 2 * suc n ≡ 2 * suc n % 65536 = omega arith in
-          let s1 : ℕ → ℕ = put_word l.stack (suc n) bp in
-          let s2 : ℕ → ℕ = put_word s1 n place in
-          let same1 : SameFrom (suc (suc n)) l.stack s1 = same_put l.stack (suc n) bp (suc (suc n)) (omega arith) in
-          let same2 : SameFrom (suc n) s1 s2 = same_put s1 n place (suc n) (omega arith) in
-          let both : SameFrom (suc (suc n)) l.stack s2 = same_then l.stack s1 s2 (suc (suc n)) same1 (same_above s1 s2 (suc n) (suc (suc n)) (omega arith) same2) in
-          let owner_there : s2 (suc n) ≡ bp = same2 (suc n) (omega arith) ∙ put_at l.stack (suc n) bp in
           let end : at + 1 + 3 + 1 ≡ to = omega arith in
           further 3 (lit≤ tt) (lit< tt)
           (straight_from rows (Push 5 (suc n)) (Number 0 place ∷ Push 0 n ∷ []) {n = 0} l.kept.wrote i ((low, top), (tt, ((low', top'), tt))) start (λ q u.
-          done (landed rows prog image g acts false to n (Held c ∷ w.operands) w.memory w.input w.output end
-          (put_at s1 n place ∙ is, owner_same prog acts c bp (s2 (suc n)) owner_there owner, stack_same prog acts l.stack s2 (suc (suc n)) w.operands both h)
-          (kept_under n place (omega arith) (kept_under (suc n) bp (omega arith) l.kept)) u)))
+          done (held_there g to n place bp acts c w end is owner h (omega arith) l.kept u)))
 
   -- a control parameter that is handed on
   pub hands_on : {q : Watched} {first : Bool} {at : ℕ} (g to k : ℕ) (a : OrderActivation) (acts : List OrderActivation) (c : Control) (w : Words) → stack_words (Held c ∷ w.operands) (a ∷ acts) ≤ 32000
@@ -107,20 +108,12 @@ module _ (rows : Rows) (prog : OrderProgram) (image : Image) where
           let low' : n < 32768 = omega arith in
           let top : 2 * suc (suc n) ≡ 2 * suc (suc n) % 65536 = omega arith in
           let top' : 2 * suc n ≡ 2 * suc n % 65536 = omega arith in
-          let s1 : ℕ → ℕ = put_word l.stack (suc n) owner in
-          let s2 : ℕ → ℕ = put_word s1 n place in
-          let same1 : SameFrom (suc (suc n)) l.stack s1 = same_put l.stack (suc n) owner (suc (suc n)) (omega arith) in
-          let same2 : SameFrom (suc n) s1 s2 = same_put s1 n place (suc n) (omega arith) in
-          let both : SameFrom (suc (suc n)) l.stack s2 = same_then l.stack s1 s2 (suc (suc n)) same1 (same_above s1 s2 (suc n) (suc (suc n)) (omega arith) same2) in
-          let place_there : s1 (r + 6 + k) ≡ place = same1 (r + 6 + k) (omega arith) ∙ arg.0 in
-          let owner_there : s2 (suc n) ≡ owner = same2 (suc n) (omega arith) ∙ put_at l.stack (suc n) owner in
+          let place_there : put_word l.stack (suc n) owner (r + 6 + k) ≡ place = same_put l.stack (suc n) owner (suc (suc n)) (omega arith) (r + 6 + k) (omega arith) ∙ arg.0 in
           let end : at + length (bytes_of (load 0 (argument (k + 1)))) + 1 + length (bytes_of (load 0 (argument k))) + 1 ≡ to = omega (arith, e, argument_loaded 0 (k + 1), argument_loaded 0 k) in
           let pieces = Push 0 (suc n) ∷ LoadArgument 0 k (r + 6 + k) place ∷ Push 0 n ∷ [] in
           further 4 (lit≤ tt) (lit< tt)
           (straight_from rows (LoadArgument 0 (k + 1) (suc (r + 6 + k)) owner) pieces {n = 0} l.kept.wrote i ((la', there', refl), ((low, top), ((la, there, place_there), ((low', top'), tt)))) start (λ q u.
-          done (landed rows prog image g all false to n (Held c ∷ w.operands) w.memory w.input w.output end
-          (put_at s1 n place, owner_same prog all c owner (s2 (suc n)) owner_there (owner_above prog a acts a.segment c owner stands arg.1), stack_same prog all l.stack s2 (suc (suc n)) w.operands both h)
-          (kept_under n place (omega arith) (kept_under (suc n) owner (omega arith) l.kept)) u)))
+          done (held_there g to n place owner all c w end refl (owner_above prog a acts a.segment c owner stands arg.1) h (omega arith) l.kept u)))
 
   -- ---- jumps to the body of a segment
 
@@ -218,7 +211,7 @@ module _ (rows : Rows) (prog : OrderProgram) (image : Image) where
       let small = control_small prog c in
       let whole : place ≡ place % 65536 = omega arith in
       straight_from rows (LoadArgument 3 k (r + 6 + k) place) (LoadArgument 5 (k + 1) (suc (r + 6 + k)) (record_of left) ∷ []) {n = 4} kept.wrote (i.0, (i.1.0, tt)) ((la, there, arg.0), ((la', there', owner_is), tt)) s.is (λ q s'.
-      past {m = 3} {n = 1} (drops_operands left kept.wrote (i.1.1.0, (i.1.1.1.0, (i.1.1.1.1.0, tt))) s') (λ q s'.
+      leads_then {n = 3} {m = 1} (drops_operands left kept.wrote (i.1.1.0, (i.1.1.1.0, (i.1.1.1.1.0, tt))) s') (λ q s'.
       last rows s' kept.wrote (record {
         top = level left;
         cells = d.cells;
@@ -278,19 +271,16 @@ module _ (rows : Rows) (prog : OrderProgram) (image : Image) where
           further 5 (lit≤ tt) (lit< tt)
           (straight_from rows (Number 2 a.line) pieces {n = 1} l.kept.wrote (i.0, (i.1.0, (i.1.1.0, (i.1.1.1.0, tt)))) (tt, ((la, there, arg.0), (tt, ((low, top), tt)))) start (λ q u.
           last rows u l.kept.wrote (record {
-            ax = to;
-            cx = s.cx;
-            bx = place;
-            si = s.si;
-            overflow = s.overflow;
-            top = n;
-            cells = l.cells;
-            stack = s1;
-            input = l.input;
-            told = l.told;
+            called = record {
+              ax = to;
+              cx = s.cx;
+              bx = place;
+              si = s.si;
+              around = record (around_at l n) { stack = s1 };
+              small = fits;
+              back = put_at l.stack n place ∙ return;
+              operands = stack_same prog (b ∷ acts) l.stack s1 (suc n) xs (same_put l.stack n place (suc n) (omega arith)) h;
+              kept = kept_under n place (omega arith) l.kept;
+            };
             is = jump_to rows 0 to whole i.1.1.1.1.0 u;
-            small = fits;
-            back = put_at l.stack n place ∙ return;
-            operands = stack_same prog (b ∷ acts) l.stack s1 (suc n) xs (same_put l.stack n place (suc n) (omega arith)) h;
-            kept = kept_under n place (omega arith) l.kept;
           })))

@@ -18,6 +18,7 @@ pub mod Numbers
 pub mod Facts
 pub mod Shifts
 pub mod Straight
+pub mod Sums
 pub mod Named
 pub mod Stacks
 pub mod Orders

@@ -43,21 +43,12 @@ module _ (c : Setting) (memory : List ℤ) (input output : List ℕ) where
         (reaches c memory input output exhausted_place by ((at + 3) % 65536) (Word x ∷ rest) l.top (omega arith) there refl i.0 l.operands.1 l.kept (with_ax l.operands.0 l.stacked.is)) (λ q r.
         let low = r.low in
         let area_low = c.low in
-        let back = (at + 3) % 65536 in (
-          r.told.output,
-          record {
-            watches = r.is.overlooks;
-            silent = r.is.silent;
-            wrote = r.kept.wrote;
-            U = _;
-            law =
-                subst (λ b. Within (Quiet (quiet_in q.places)) c.image.bytes r.told.output 15 q.processor (Back c.image.bytes (if b then back else (back + 3)) (2 * suc (suc r.top)) (record_of c.acts) c.program.limits.area r.cells r.stack r.left r.told (λ ax f. Unit {0}))) is
-                (c.rows.routines.exhausted (quiet_in q.places) c.image.bytes c.library (quiet_library r.is.ignores) c.program.limits.area n (record_of c.acts) r.top back r.cx l.stacked.dx l.stacked.bx r.si x
-                (flags_of q) r.cells r.stack r.left r.told memory q.processor
-                fx within (holds c memory input output all r.kept) (omega arith) r.way r.under.0 (omega arith) (arrives (with_ax (unsigned_pos n (omega arith)) r.is)));
-            means = λ u e. landed c.rows c.program c.image c.g c.acts false to (suc (suc r.top)) rest memory input output refl r.under.1 r.kept (to_place comes (returned q r.is.ignores e.is));
-          },
-        ))
+        let back = (at + 3) % 65536 in
+        subst (λ b. Within (Quiet (quiet_in q.places)) c.image.bytes r.told.output 15 q.processor (Back c.image.bytes (if b then back else (back + 3)) (2 * suc (suc r.top)) (record_of c.acts) c.program.limits.area r.cells r.stack r.left r.told (λ ax f. Unit {0}))) is
+        (c.rows.routines.exhausted (quiet_in q.places) c.image.bytes c.library (quiet_library r.is.ignores) c.program.limits.area n (record_of c.acts) r.top back r.cx l.stacked.dx l.stacked.bx r.si x
+        (flags_of q) r.cells r.stack r.left r.told memory q.processor
+        fx within (holds c memory input output all r.kept) (omega arith) r.way r.under.0 (omega arith) (arrives (with_ax (unsigned_pos n (omega arith)) r.is))))
+        (λ q r u e. landed c.rows c.program c.image c.g c.acts false to (suc (suc r.top)) rest memory input output refl r.under.1 r.kept (to_place comes (returned q r.is.ignores e.is)))
 
     chooses : (b : Bool) → past ≡ b → (to way m : ℕ) (start : ℕ → ℕ) → at + 6 ≡ to → (at + 6 + way) % 65536 ≡ start m % 65536 → LimitCode at by way
         → Chooses c.program c.image 17 to start c.g false 0 c.acts output q (to_mark_if b m (words rest memory input output))

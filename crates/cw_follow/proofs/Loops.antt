@@ -1,71 +1,31 @@
 -- Control variables, tests and ways of loops.
-use Rattle.std.proofs.Common.{◌≡◌, ℕ, ◌+◌, ◌-◌, ◌*◌, ◌%◌, ◌<◌, ◌≤◌, Bool, true, false, ℤ, List, [], ◌∷◌, length, Option, Some, None, refl, sym, subst, arith, lit<, lit≤}
+use Rattle.std.proofs.Common.{◌≡◌, ℕ, ◌+◌, ◌-◌, ◌*◌, ◌%◌, ◌<◌, ◌≤◌, Bool, true, false, List, [], ◌∷◌, length, Option, Some, None, refl, subst, arith, lit<, lit≤}
 use Rattle.std.specs.Prelude.{slice_get}
 use Rattle.cw_follow.proofs.Watched.{Watched}
 use Rattle.cw_unit.specs.Stop.{Running}
-use Rattle.cw_unit.specs.Operation.{is_past}
-use Rattle.cw_unit.specs.Words.{Operand, Word, Held, Words, with_operands, word_at, is_below, number_of}
+use Rattle.cw_unit.specs.Words.{Words, is_below, number_of}
 use Rattle.cw_order.specs.declared.order.Order.{Order}
 use Rattle.cw_order.specs.declared.order.Order.TheVariants as order
 use Rattle.cw_order.specs.declared.order.Place.{Place}
 use Rattle.cw_order.specs.declared.order.Place.TheVariants as cell
 use Rattle.cw_order.specs.OrderActions.{home_word}
-use Rattle.cw_order.specs.OrderChanges.{Way, Onward, ToMark, Barred, Nowhere, set_variable, add_step, put_variable, way_of_one, to_mark_in, mark_of_number, way_of_two, way_past_limit, next_step}
-use Rattle.cw_order.specs.OrderState.{OrderActivation, at, stack_words, frame_word}
+use Rattle.cw_order.specs.OrderChanges.{set_variable, add_step, put_variable, way_of_one, to_mark_in, mark_of_number, way_of_two, way_past_limit, next_step}
+use Rattle.cw_order.specs.OrderState.{OrderActivation, at, frame_word}
 use Rattle.cw_tmpl.specs.Library.{set_variable_entry, add_step_entry, put_variable_entry, exhausted_entry, next_step_entry}
 use Rattle.cw_tmpl.specs.Templates.{distance, mark_words, loop_way, template_by, is_close, short_distance, block_size}
 use Rattle.cw_tmpl.specs.ReferenceCode.{mark_starts, names_of}
 use Rattle.cw_follow.specs.Placing.{base_of}
 use Rattle.cw_tmpl.proofs.Sizes.{own_place, jump_arrives, listed as size_listed}
 use Rattle.cw_follow.proofs.Standing.{HasPieces, HasWord}
-use Rattle.cw_follow.proofs.Stacks.{words_split}
 use Rattle.cw_follow.proofs.States.{Given, Sound}
-use Rattle.cw_follow.proofs.Steps.{Follow, step_is, line_fits, has_code, start, chosen, does, by, calls, setting, cheap, low_room, Alone, here, next, code, behind, begins_next, Roomy, if_roomy, reaches_alone, short_alone}
+use Rattle.cw_follow.proofs.Steps.{Follow, step_is, line_fits, has_code, start, chosen, does, by, calls, setting, cheap, low_room, Alone, here, next, code, behind, begins_next, reaches_alone, short_alone}
 use Rattle.cw_follow.proofs.Orders.{Chooses}
-use Rattle.cw_follow.proofs.Operands.{Setting}
 use Rattle.cw_follow.proofs.Tables.{mark_word_is, loops, loops_once, loops_close}
 use Rattle.cw_follow.proofs.Variables.{sets_variable, adds_step, puts_variable}
 use Rattle.cw_follow.proofs.Limits.{exhausts}
-use Rattle.cw_follow.proofs.NextSteps.{Turns, next_turns, doubles_word, doubles_frame, takes_step}
+use Rattle.cw_follow.proofs.NextSteps.{doubles_word, doubles_frame, takes_step}
 use Rattle.cw_tmpl.proofs.Reaching.{short_arrives}
 use Rattle.cw_tmpl.specs.declared.blocks.Block.TheVariants as block
-
--- the words on the ways
-past_roomy : (acts : List OrderActivation) (room m : ℕ) (b : Bool) (x : ℤ) (a : ℕ) (v : Words) → stack_words v.operands acts ≤ room → Roomy acts room (way_past_limit b m x a v)
-past_roomy acts room m true x a v le = if_roomy acts room m (is_past (word_at v.memory (a + 1)) x (word_at v.memory (a + 2))) v le
-past_roomy acts room m false x a v le = tt
-
-limit_roomy : (acts : List OrderActivation) (room m area : ℕ) (operands : List Operand) (w : Words) → stack_words operands acts ≤ room
-    → Roomy acts room (way_of_two (λ x a v. way_past_limit (is_below a area) m x (number_of a) v) (with_operands w operands))
-limit_roomy acts room m area [] w le = tt
-limit_roomy acts room m area (Held c ∷ rest) w le = tt
-limit_roomy acts room m area (Word y ∷ []) w le = tt
-limit_roomy acts room m area (Word y ∷ Held c ∷ rest) w le = tt
-limit_roomy acts room m area (Word y ∷ Word x ∷ rest) w le =
-    let a = words_split (Word y ∷ Word x ∷ rest) acts in
-    let b = words_split rest acts in
-    past_roomy acts room m (is_below y area) x (number_of y) (with_operands w rest) (let f : stack_words rest acts ≤ room = omega arith in f)
-
-mark_roomy : (acts : List OrderActivation) (room : ℕ) (x : Option ℕ) (v : Words) → stack_words v.operands acts ≤ room → Roomy acts room (to_mark_in x v)
-mark_roomy acts room None v le = le
-mark_roomy acts room (Some m) v le = le
-
--- the operands stay
-turned_roomy : (c : Setting) (memory : List ℤ) (input output : List ℕ) (acts : List OrderActivation) (room m : ℕ) (operands : List Operand) (way : Way) → Turns c memory input output operands m way
-    → stack_words operands acts ≤ room → Roomy acts room way
-turned_roomy c memory input output acts room m operands (Onward v) keeps le = subst (λ u. stack_words u.operands acts ≤ room) (sym keeps) le
-turned_roomy c memory input output acts room m operands (ToMark k v) keeps le = subst (λ u. stack_words u.operands acts ≤ room) (sym keeps.1) le
-turned_roomy c memory input output acts room m operands (Barred kind) keeps le = tt
-turned_roomy c memory input output acts room m operands Nowhere keeps le = tt
-
-loop_roomy : (acts : List OrderActivation) (room : ℕ) (marks : List ℕ) (operands : List Operand) (w : Words) → stack_words operands acts ≤ room
-    → Roomy acts room (way_of_one (λ i v. to_mark_in (mark_of_number marks i) v) operands w)
-loop_roomy acts room marks [] w le = tt
-loop_roomy acts room marks (Held c ∷ rest) w le = tt
-loop_roomy acts room marks (Word y ∷ rest) w le =
-    let a = words_split (Word y ∷ rest) acts in
-    let b = words_split rest acts in
-    mark_roomy acts room (mark_of_number marks y) (with_operands w rest) (let f : stack_words rest acts ≤ room = omega arith in f)
 
 module _ (known : Given) where
   open known use {rows, p, image, all, coded, few, low}
@@ -104,8 +64,7 @@ module _ (known : Given) where
         let own = own_place s.orders place in
         let after = here known s a + 3 in
         chosen known s false 0 (way_of_two (λ x y v. way_past_limit (is_below y (p.limits.area - 2)) m x (number_of y) v) w) 17 (begins_next known s a o e)
-        (limit_roomy acts p.room m (p.limits.area - 2) w.operands w s.room) (step_is known s (Some o) e)
-        (cheap known s o 17 (lit≤ tt) e)
+        (step_is known s (Some o) e) (cheap known s o 17 (lit≤ tt) e)
         (exhausts (setting known s) w.memory w.input w.output (next known s a) (by known s exhausted_entry after) (distance (own + 6) (mark_starts s.orders m)) m (start known s) w.operands
         (behind known s a o e) (calls known s exhausted_entry after (lit< tt))
         (jump_arrives (base_of p g) own 6 (mark_starts s.orders m)) (low_room known s) s.fits.operands s.fits.memory (code known s a o e) a.landed)
@@ -133,7 +92,7 @@ module _ (known : Given) where
         let x : st.value 3 0 (mark_starts s.orders m % 65536) (here + 20 + 2 * k + 2) ≡ (base_of p g + mark_starts s.orders m) % 65536 = omega arith in
         x in
         let short : n < 32768 = has_code known s o e in
-        chosen known s false 0 (way_of_one (λ x v. to_mark_in (mark_of_number marks x) v) w.operands w) 6 (begins_next known s a o e) (loop_roomy acts p.room marks w.operands w s.room)
+        chosen known s false 0 (way_of_one (λ x v. to_mark_in (mark_of_number marks x) v) w.operands w) 6 (begins_next known s a o e)
         (step_is known s (Some o) e) (cheap known s o 6 (lit≤ tt) e)
         (loops rows p image g acts to by table (start known s) marks w.operands w.memory w.input w.output short table_is arrives
         (λ k m is. subst (HasWord image (here + 20 + 2 * k)) (start_word k m) (mark_word_is image st.value (names_of s.orders) (here + 20) marks k m words is))
@@ -152,23 +111,18 @@ module _ (known : Given) where
         cases : (short : Bool) → (short ≡ true → is_close (own + 3) (mark_starts s.orders m) ≡ true) → here known s a + block_size short block.Single o ≡ next known s a
             → HasPieces image (all.stands g s.orders s.unit).value (here known s a) (template_by short (names_of s.orders) own place o) → Follow known (at g place true acts w Running) q
         cases true close ends i =
-            chosen known s false 0 (way_of_one (λ x v. to_mark_in (mark_of_number (m ∷ []) x) v) w.operands w) 3 (begins_next known s a o e) (loop_roomy acts p.room (m ∷ []) w.operands w s.room)
+            chosen known s false 0 (way_of_one (λ x v. to_mark_in (mark_of_number (m ∷ []) x) v) w.operands w) 3 (begins_next known s a o e)
             (step_is known s (Some o) e) (cheap known s o 3 (lit≤ tt) e)
             (loops_close rows p image g acts (next known s a) (short_distance (own + 3) (mark_starts s.orders m)) (start known s) m w.operands w.memory w.input w.output ends
             (short_arrives (base_of p g) own 3 (mark_starts s.orders m) (close refl)) s.fits.operands i a.landed)
         cases false close ends i =
-            chosen known s false 0 (way_of_one (λ x v. to_mark_in (mark_of_number (m ∷ []) x) v) w.operands w) 3 (begins_next known s a o e) (loop_roomy acts p.room (m ∷ []) w.operands w s.room)
+            chosen known s false 0 (way_of_one (λ x v. to_mark_in (mark_of_number (m ∷ []) x) v) w.operands w) 3 (begins_next known s a o e)
             (step_is known s (Some o) e) (cheap known s o 3 (lit≤ tt) e)
             (loops_once rows p image g acts (next known s a) (distance (own + 6) (mark_starts s.orders m)) (start known s) m w.operands w.memory w.input w.output ends
             (jump_arrives (base_of p g) own 6 (mark_starts s.orders m)) s.fits.operands i a.landed)
     loop_follows (m ∷ n ∷ ms) e = by_table (m ∷ n ∷ ms) e (let z = size_listed (order.LoopWay (m ∷ n ∷ ms)) in let y = behind known s a (order.LoopWay (m ∷ n ∷ ms)) e in omega arith) (code known s a (order.LoopWay (m ∷ n ∷ ms)) e)
 
   module _ {q : Watched} {g place : ℕ} {acts : List OrderActivation} {w : Words} (s : Sound p image g place false acts w q) (a : Alone p image g place false acts w q s.orders) where
-    next_roomy : (m : ℕ) (x : Option ℕ) → Roomy acts p.room (next_step p.limits.area m x w)
-    next_roomy m x =
-        let c = setting known s in
-        turned_roomy c w.memory w.input w.output acts p.room m w.operands (next_step p.limits.area m x w) (next_turns c w.memory w.input w.output m x w.operands) s.room
-
     -- by the words of a loop in a storage family, and in the frame
     pub turn_follows : (x : Place) (line m : ℕ) → slice_get s.orders.list place ≡ Some (order.NextStep x line m) → Follow known (at g place false acts w Running) q
     turn_follows (cell.Word f n) line m e =
@@ -182,12 +136,12 @@ module _ (known : Given) where
         let filled : word ≡ 2 * home % 65536 = st.fills.bytes f n (here + 3) in
         let ends : here + 13 ≡ next known s a = behind known s a o e in
         let arrives : (here + 11 + distance (own + 11) (mark_starts s.orders m)) % 65536 ≡ start known s m % 65536 = jump_arrives (base_of p g) own 11 (mark_starts s.orders m) in
-        chosen known s false line (next_step p.limits.area m (Some home) w) 33 (begins_next known s a o e) (next_roomy m (Some home)) (step_is known s (Some o) e) (cheap known s o 33 (lit≤ tt) e)
+        chosen known s false line (next_step p.limits.area m (Some home) w) 33 (begins_next known s a o e) (step_is known s (Some o) e) (cheap known s o 33 (lit≤ tt) e)
         (takes_step (setting known s) w.memory w.input w.output 1 (next known s a) (by known s next_step_entry (here + 3 + 3)) (distance (own + 11) (mark_starts s.orders m)) line home m (start known s)
         w.operands (lit≤ tt) (omega arith) (calls known s next_step_entry (here + 3 + 3) (lit< tt)) (omega arith) (line_fits known s o e) s.fits.memory (low_room known s) i.1
         (λ inside. doubles_word (setting known s) w.memory w.input w.output home word w.operands (omega arith) i.0 a.landed))
     turn_follows (cell.Frame n) line m e =
-        chosen known s false line (next_step p.limits.area m (frame_word p.limits.area acts n) w) 33 (begins_next known s a o e) (next_roomy m (frame_word p.limits.area acts n)) (step_is known s (Some o) e)
+        chosen known s false line (next_step p.limits.area m (frame_word p.limits.area acts n) w) 33 (begins_next known s a o e) (step_is known s (Some o) e)
         (cheap known s o 33 (lit≤ tt) e) (takes (frame_word p.limits.area acts n) refl)
       where
         o : Order

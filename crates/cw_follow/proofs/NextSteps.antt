@@ -1,5 +1,5 @@
 -- What the code of the step of a loop does: a routine of the library adds it, and tells by the flags whether the body follows.
-use Rattle.std.proofs.Common.{◌≡◌, ℕ, suc, ◌+◌, ◌*◌, ◌%◌, ◌<◌, ◌≤◌, Bool, true, false, not, ℤ, List, [], ◌∷◌, Option, Some, None, refl, sym, ap, ◌∙◌, subst, arith, lit<, lit≤}
+use Rattle.std.proofs.Common.{◌≡◌, ℕ, suc, ◌+◌, ◌*◌, ◌%◌, ◌<◌, ◌≤◌, Bool, true, false, not, ℤ, List, [], ◌∷◌, Some, refl, sym, ap, ◌∙◌, subst, arith, lit<, lit≤}
 use Rattle.std.specs.Prelude.{nat_eq, nat_lt}
 use Rattle.std.specs.List.{All}
 use borrow.Author.Tests.{ltb-true}
@@ -7,7 +7,6 @@ use Rattle.cw_i86.specs.Effect.{holds}
 use Rattle.cw_i86.specs.declared.instr.Instr.TheVariants as i86
 use Rattle.cw_i86.specs.declared.instr.Imm.TheVariants as imm
 use Rattle.cw_i86.specs.declared.instr.Rm.TheVariants as rms
-use Rattle.cw_run86.specs.Processor.{Told}
 use Rattle.cw_run86.specs.Views.{sum_overflows}
 use Rattle.cw_rows86.specs.Locations.{InRegister}
 use Rattle.cw_rows86.specs.Operations.{Add}
@@ -27,9 +26,9 @@ use Rattle.cw_follow.proofs.Watched.{Watched, fresh}
 use Rattle.cw_follow.proofs.Chains.{Is, Leads, view, to_place, number, near, not_at_most, jump_if, pass_if, more, last}
 use Rattle.cw_follow.proofs.Acting.{act}
 use Rattle.cw_follow.proofs.Straight.{LoadSlot, straight}
-use Rattle.cw_follow.proofs.Routines.{Over, quiet_in, quiet_library, flags_of, arrives, returned, over}
+use Rattle.cw_follow.proofs.Routines.{Over, quiet_in, quiet_library, flags_of, arrives, returned, over, Around}
 use Rattle.cw_follow.proofs.Stacks.{level, record_of, base_word, StackIs}
-use Rattle.cw_follow.proofs.Orders.{Kept, Landed, Leading, Chooses, with_bx, landed, further, further_on, sooner}
+use Rattle.cw_follow.proofs.Orders.{Kept, Landed, Leading, Chooses, with_bx, landed, further, further_on, sooner, around_at}
 use Rattle.cw_follow.proofs.Operands.{Setting, words, LandedWith, tells}
 use Rattle.cw_follow.proofs.FrameBlocks.{frame_word_inside}
 use Rattle.cw_follow.proofs.Variables.{holds as holds_memory, AtRoutine, reaches, runs, Stores, step_stores}
@@ -72,14 +71,6 @@ module _ (c : Setting) (memory : List ℤ) (input output : List ℕ) where
   stepped_turns : (m a : ℕ) (operands : List Operand) → Turns operands m (stepped c.program.limits.area m a (words operands memory input output))
   stepped_turns m a operands = if_turns (nat_eq (number_of (word_at memory (a + 3))) 1) m a operands
 
-  inside_turns : (b : Bool) (m a : ℕ) (operands : List Operand) → Turns operands m (stepped_inside b c.program.limits.area m a (words operands memory input output))
-  inside_turns true m a operands = stepped_turns m a operands
-  inside_turns false m a operands = tt
-
-  pub next_turns : (m : ℕ) (x : Option ℕ) (operands : List Operand) → Turns operands m (next_step c.program.limits.area m x (words operands memory input output))
-  next_turns m None operands = tt
-  next_turns m (Some a) operands = inside_turns (nat_lt (a + 3) c.program.limits.area) m a operands
-
   -- ---- the address
 
   -- BX is twice the address of the loop's words
@@ -88,12 +79,8 @@ module _ (c : Setting) (memory : List ℤ) (input output : List ℕ) where
     pub cx : ℕ
     pub dx : ℕ
     pub si : ℕ
-    pub overflow : Bool
-    pub top : ℕ
-    pub cells : ℕ → ℕ
-    pub stack : ℕ → ℕ
-    pub left : List ℕ
-    pub told : Told
+    pub around : Around
+    pub open around use *
     pub is : Is c.image at (view ax cx dx (2 * a) (2 * top) (record_of c.acts) si c.program.limits.area overflow cells stack left told) q
     pub under : StackIs c.program c.acts stack top operands
     pub kept : Kept c.program c.g c.acts memory input output cells stack left told
@@ -108,12 +95,7 @@ module _ (c : Setting) (memory : List ℤ) (input output : List ℕ) where
         cx = s.cx;
         dx = s.dx;
         si = s.si;
-        overflow = s.overflow;
-        top = l.top;
-        cells = l.cells;
-        stack = l.stack;
-        left = l.input;
-        told = l.told;
+        around = around_at l l.top;
         is = with_bx e (number c.rows 3 word i s.is);
         under = l.operands;
         kept = l.kept;
@@ -136,12 +118,7 @@ module _ (c : Setting) (memory : List ℤ) (input output : List ℕ) where
         cx = s.cx;
         dx = s.dx;
         si = s.si;
-        overflow = sum_overflows word (2 * n % 65536);
-        top = l.top;
-        cells = l.cells;
-        stack = l.stack;
-        left = l.input;
-        told = l.told;
+        around = record (around_at l l.top) { overflow = sum_overflows word (2 * n % 65536) };
         is = with_bx (frame_doubled c.program c.acts n a c.low e) (act c.rows (OperateNumberOnto Add (2 * n % 65536) (rms.Reg 3) (InRegister 3) word) (lit< tt) i.1.0 (refl, tt, refl) t).is;
         under = l.operands;
         kept = k;
@@ -230,24 +207,15 @@ module _ (c : Setting) (memory : List ℤ) (input output : List ℕ) where
         → Within (Quiet (quiet_in q.places)) c.image.bytes r.told.output 28 q.processor (Answered c.image.bytes c.program.limits.area (at + 3) (2 * suc r.top) (record_of c.acts) r.stack r.left r.told v (AtMost b)))
         → Leading output 29 p (Turned (at + 3) b v.memory operands)
     returns b v each =
-        runs c memory input output 0 28 29 (lit≤ tt) called (λ q r.
-        let k = r.kept in (
-          r.told.output,
-          record {
-            watches = r.is.overlooks;
-            silent = r.is.silent;
-            wrote = k.wrote;
-            U = _;
-            law = each q r;
-            means = λ u t. record {
-              landed_with =
-                  landed c.rows c.program c.image c.g c.acts false (at + 3) (suc r.top) operands v.memory input output refl r.under
-                  (record { words = t.holds_words.words; long = t.holds_words.long; piled = k.piled; read = k.read; wrote = k.wrote; kind = k.kind })
-                  (returned q r.is.ignores t.back.is);
-              at_most = ap (λ f. holds f 14) t.back.is.flags ∙ t.back.answers;
-            };
-          },
-        ))
+        runs c memory input output 0 28 29 (lit≤ tt) called each (λ q r u t.
+        let k = r.kept in
+        record {
+          landed_with =
+              landed c.rows c.program c.image c.g c.acts false (at + 3) (suc r.top) operands v.memory input output refl r.under
+              (record { words = t.holds_words.words; long = t.holds_words.long; piled = k.piled; read = k.read; wrote = k.wrote; kind = k.kind })
+              (returned q r.is.ignores t.back.is);
+          at_most = ap (λ f. holds f 14) t.back.is.flags ∙ t.back.answers;
+        })
 
     turns_so : (x : Way) → chosen ≡ x → Turns operands m x → Chooses c.program c.image 31 to start c.g false line c.acts output p x
     turns_so (Onward v) is keeps =
@@ -263,17 +231,8 @@ module _ (c : Setting) (memory : List ℤ) (input output : List ℕ) where
         (subst (λ u. Leading output 31 p (Landed c.program c.image (start m) c.g false c.acts u)) (sym keeps.1)
         (further_on t.spent 2 31 (omega arith) t.leads (λ q u. turns_to (start m) way v.memory operands arrives turn_code u)))
     turns_so (Barred kind) is keeps =
-        runs c memory input output 0 28 31 (lit≤ tt) called (λ q r. (
-          r.told.output,
-          record {
-            watches = r.is.overlooks;
-            silent = r.is.silent;
-            wrote = r.kept.wrote;
-            U = _;
-            law = law (Barred kind) is q r;
-            means = λ u t. subst (λ x. Over (record { output = x; end = Stopped kind (c.g + 1) line }) (fresh q.places q.area u)) r.kept.wrote (over q t);
-          },
-        ))
+        runs c memory input output 0 28 31 (lit≤ tt) called (law (Barred kind) is)
+        (λ q r u t. subst (λ x. Over (record { output = x; end = Stopped kind (c.g + 1) line }) (fresh q.places q.area u)) r.kept.wrote (over q t))
     turns_so Nowhere is keeps = tt
 
     turns : Chooses c.program c.image 31 to start c.g false line c.acts output p chosen

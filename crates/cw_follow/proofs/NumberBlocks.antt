@@ -28,9 +28,8 @@ use Rattle.cw_tmpl.specs.ShortForms.{is_short}
 use Rattle.cw_tmpl.specs.ReferenceCode.{names_of, reach_of}
 use Rattle.cw_tmpl.proofs.Endings.{checked_long}
 use Rattle.cw_tmpl.proofs.Sizes.{own_place}
-use Rattle.cw_follow.specs.Placing.{base_of}
 use Rattle.cw_follow.proofs.Watched.{Watched}
-use Rattle.cw_follow.proofs.Standing.{HasPieces, order_place, Has}
+use Rattle.cw_follow.proofs.Standing.{HasPieces, Has}
 use Rattle.cw_follow.proofs.Chains.{Is, view, last}
 use Rattle.cw_follow.proofs.Acting.{act}
 use Rattle.cw_follow.proofs.Routines.{leads_on}
@@ -42,7 +41,7 @@ use Rattle.cw_follow.proofs.Scales.{put_shifted, shifted_fits}
 use Rattle.cw_follow.proofs.Halves.{Halving, halving, halved_is}
 use Rattle.cw_follow.proofs.Shifts.{shift_steps, few_steps, some_steps, shifts_last}
 use Rattle.cw_follow.proofs.States.{Given, Sound}
-use Rattle.cw_follow.proofs.Steps.{Follow, setting, weight_is, line_fits, block_code, block_ends, start_place, order_here, last_does}
+use Rattle.cw_follow.proofs.Steps.{Follow, setting, weight_is, line_fits, block_code, block_ends, start_place, order_here, last_does, code_end}
 use Rattle.cw_follow.proofs.CheckedBlocks.{checked_block}
 use Rattle.cw_follow.proofs.BlockOrders.{room_in, block_follows, saved, step_in, small_number}
 
@@ -109,10 +108,6 @@ module _ (known : Given) where
   open known use {rows, p, image, all, coded, few, low}
 
   module _ {q : Watched} {g place : ℕ} {loaded : Bool} {acts : List OrderActivation} {w : Words} (s : Sound p image g place loaded acts w q) where
-    -- where the code of the block ends, where its last order is at work
-    abbrev block_end : ℕ
-    block_end = order_place (base_of p g) s.orders (place + 1)
-
     count_goes : (down : Bool) (line : ℕ) → carry_with p (loaded_after (count_order down line) true) (count_order down line) g place loaded acts w ≡ after p.room line (perform p.limits.area (counting down) w) g place true acts w
     count_goes true line = refl
     count_goes false line = refl
@@ -127,13 +122,13 @@ module _ (known : Given) where
 
     -- what stands behind the instruction
     count_code : (down : Bool) (line : ℕ) (os : List Order) (short : Bool) → drop s.from s.orders.list ≡ order.Save ∷ os → block_at 0 (drop s.from s.orders.list) ≡ block.Count down line
-        → is_short (reach_of s.orders) s.from (block.Count down line) order.Save ≡ short → start_place known s + block_size short (block.Count down line) order.Save ≡ block_end
+        → is_short (reach_of s.orders) s.from (block.Count down line) order.Save ≡ short → start_place known s + block_size short (block.Count down line) order.Save ≡ code_end known s
         → HasPieces image (all.stands g s.orders s.unit).value (start_place known s) (block_pieces (names_of s.orders) (own_place s.orders s.from) s.from short (block.Count down line) order.Save)
-        → Has image (start_place known s) (counted down) × Checked image (start_place known s + 1) block_end line
+        → Has image (start_place known s) (counted down) × Checked image (start_place known s + 1) (code_end known s) line
     count_code true line os short e is form ends h =
-        (h.0, checked_block known s (block.Count true line) order.Save os line 1 (start_place known s + 1) block_end short e is refl form (sym (checked_long short (pieces.Whole (counted true) ∷ []) line (0 + 1) (call_place no_names 0))) refl ends h.1)
+        (h.0, checked_block known s (block.Count true line) order.Save os line 1 (start_place known s + 1) (code_end known s) short e is refl form (sym (checked_long short (pieces.Whole (counted true) ∷ []) line (0 + 1) (call_place no_names 0))) refl ends h.1)
     count_code false line os short e is form ends h =
-        (h.0, checked_block known s (block.Count false line) order.Save os line 1 (start_place known s + 1) block_end short e is refl form (sym (checked_long short (pieces.Whole (counted false) ∷ []) line (0 + 1) (call_place no_names 0))) refl ends h.1)
+        (h.0, checked_block known s (block.Count false line) order.Save os line 1 (start_place known s + 1) (code_end known s) short e is refl form (sym (checked_long short (pieces.Whole (counted false) ∷ []) line (0 + 1) (call_place no_names 0))) refl ends h.1)
 
     count_last : (down : Bool) (line : ℕ) (rest : List Order) → s.done ≡ 2 → drop s.from s.orders.list ≡ order.Save ∷ order.Const 1 ∷ count_order down line ∷ rest
         → block_at 0 (drop s.from s.orders.list) ≡ block.Count down line → Follow known (at g place loaded acts w Running) q
@@ -149,8 +144,8 @@ module _ (known : Given) where
         let v = s.before in
         let code = count_code down line os (is_short (reach_of s.orders) s.from (block.Count down line) order.Save) e is refl ends.behind (block_code known s (block.Count down line) order.Save os e is) in
         last_does known s true line (perform p.limits.area (counting down)) 15 2 _ is_done e ends.begins (step_in known s true o before.now here ∙ count_goes down line) paid
-        (subst (λ y. Does p image 15 block_end g true line acts v.output q (perform p.limits.area (counting down) (put y v))) (sym (small_number 1 (lit< tt)))
-        (counts (setting known s) v.memory v.input v.output down block_end line v.operands fits (room_in known s) s.fits_before.operands code.0 code.1 before.landed))
+        (subst (λ y. Does p image 15 (code_end known s) g true line acts v.output q (perform p.limits.area (counting down) (put y v))) (sym (small_number 1 (lit< tt)))
+        (counts (setting known s) v.memory v.input v.output down (code_end known s) line v.operands fits (room_in known s) s.fits_before.operands code.0 code.1 before.landed))
 
     pub count_follows : (down : Bool) (line : ℕ) (rest : List Order) → drop s.from s.orders.list ≡ order.Save ∷ order.Const 1 ∷ count_order down line ∷ rest → block_at 0 (drop s.from s.orders.list) ≡ block.Count down line
         → Follow known (at g place loaded acts w Running) q
@@ -172,8 +167,8 @@ module _ (known : Given) where
         let paid : 2 ≤ weight p (at g place loaded acts w Running) = let y = weight_is known s o here in omega arith in
         let v = s.before in
         last_does known s true line (perform p.limits.area (Multiply power)) 2 2 _ is_done e ends.begins (step_in known s true o before.now here) paid
-        (subst (λ y. Does p image 2 block_end g true line acts v.output q (perform p.limits.area (Multiply power) (put y v))) (sym (small_number n small))
-        (halves (setting known s) v.memory v.input v.output (all.stands g s.orders s.unit).value block_end line n places power v.operands h ends.behind (room_in known s) s.fits_before.operands
+        (subst (λ y. Does p image 2 (code_end known s) g true line acts v.output q (perform p.limits.area (Multiply power) (put y v))) (sym (small_number n small))
+        (halves (setting known s) v.memory v.input v.output (all.stands g s.orders s.unit).value (code_end known s) line n places power v.operands h ends.behind (room_in known s) s.fits_before.operands
         (block_code known s b order.Save os e is) before.landed))
 
     pub halve_follows : (n : ℕ) (power : ℤ) (places line : ℕ) (rest : List Order) → drop s.from s.orders.list ≡ order.Save ∷ order.Const n ∷ order.Mul power line ∷ rest → halving_places n power ≡ Some places

@@ -4,7 +4,7 @@ use Rattle.std.proofs.lemmas.List.{append-nil}
 use Rattle.cw_i86.specs.declared.instr.Instr.{Instr}
 use Rattle.cw_i86.specs.declared.instr.Instr.TheVariants as i86
 use Rattle.cw_run86.specs.Views.{with_number, with_memory}
-use Rattle.cw_rows86.specs.Operations.{WordOperation, Add, Subtract, Compare, number_of}
+use Rattle.cw_rows86.specs.Operations.{WordOperation, Add, Subtract, Compare, number_of, And, Or, Xor}
 use Rattle.cw_order.specs.declared.order.Comparator.{Comparator}
 use Rattle.cw_order.specs.declared.order.Order.TheVariants as order
 use Rattle.cw_tmpl.specs.declared.pieces.Coded.{Coded}
@@ -20,9 +20,9 @@ use Rattle.cw_tmpl.specs.Mnemonics.{ax, bx, slot, base_slot, field, at_si, opera
 use Rattle.cw_tmpl.specs.Pieces.{Filling, blanks}
 use Rattle.cw_tmpl.specs.Names.{no_names, mark_place}
 use Rattle.cw_tmpl.specs.Templates.{frame_size, with_operand, pieces_size, element_address, block_size}
-use Rattle.cw_tmpl.specs.Sizes.{used_size, element_size}
+use Rattle.cw_tmpl.specs.Sizes.{element_size}
 use Rattle.cw_tmpl.proofs.Lengths.{field_operated}
-use Rattle.cw_tmpl.proofs.Sizes.{frame_with_long, frame_used_long, element_long_as}
+use Rattle.cw_tmpl.proofs.Sizes.{frame_with_long, element_long_as}
 use Rattle.cw_tmpl.proofs.Endings.{compared_long}
 use Rattle.cw_follow.proofs.Standing.{HasPieces, appended_long, stand_both, Has, HasAll, Image}
 use Rattle.cw_follow.proofs.Branches.{branch_size}
@@ -112,53 +112,6 @@ Unchecked (uses.Subtract line) = ⊥
 Unchecked (uses.Multiply line) = ⊥
 Unchecked u = Unit {0}
 
-pub tested_size : (s : Simple) (u : Use) → Unchecked u → block_size false (block.Operate s u) order.Save ≡ operand_size s + rest_size u
-tested_size s (uses.Add line) h = absurd h
-tested_size s (uses.Subtract line) h = absurd h
-tested_size s (uses.Multiply line) h = absurd h
-tested_size (simple.Number x) u h = number u h
-  where
-    number : (u : Use) → Unchecked u → block_size false (block.Operate (simple.Number x) u) order.Save ≡ 3 + rest_size u
-    number (uses.Multiply line) h = absurd h
-    number (uses.Add line) h = absurd h
-    number (uses.Subtract line) h = absurd h
-    number uses.Mask h = refl
-    number uses.Union h = refl
-    number uses.Differ h = refl
-    number (uses.Compare c m) h = refl
-tested_size (simple.Element e) u h = element u h
-  where
-    element : (u : Use) → Unchecked u → block_size false (block.Operate (simple.Element e) u) order.Save ≡ element_size e e.test + 2 + rest_size u
-    element (uses.Multiply line) h = absurd h
-    element (uses.Add line) h = absurd h
-    element (uses.Subtract line) h = absurd h
-    element uses.Mask h = omega (arith, element_operation e 4)
-    element uses.Union h = omega (arith, element_operation e 1)
-    element uses.Differ h = omega (arith, element_operation e 6)
-    element (uses.Compare c m) h =
-        omega (arith, compared_long false (with_operand 7 (simple.Element e)) c (0 + pieces_size (with_operand 7 (simple.Element e))) (mark_place no_names m), element_operation e 7)
-tested_size (simple.Contents (cell.Word f n)) u h = word u h
-  where
-    word : (u : Use) → Unchecked u → block_size false (block.Operate (simple.Contents (cell.Word f n)) u) order.Save ≡ 4 + rest_size u
-    word (uses.Multiply line) h = absurd h
-    word (uses.Add line) h = absurd h
-    word (uses.Subtract line) h = absurd h
-    word uses.Mask h = refl
-    word uses.Union h = refl
-    word uses.Differ h = refl
-    word (uses.Compare c m) h = refl
-tested_size (simple.Contents (cell.Frame n)) u h = word u h (frame_used_long n u)
-  where
-    word : (u : Use) → Unchecked u → block_size false (block.Operate (simple.Contents (cell.Frame n)) u) order.Save ≡ frame_size n + 3 + used_size u
-        → block_size false (block.Operate (simple.Contents (cell.Frame n)) u) order.Save ≡ frame_size n + 5 + rest_size u
-    word (uses.Multiply line) h size = absurd h
-    word (uses.Add line) h size = absurd h
-    word (uses.Subtract line) h size = absurd h
-    word uses.Mask h size = omega (arith, size)
-    word uses.Union h size = omega (arith, size)
-    word uses.Differ h size = omega (arith, size)
-    word (uses.Compare c m) h size = omega (arith, size)
-
 -- the bytes of the code up to a check or a jump behind it
 pub operand_long : (op : WordOperation) (s : Simple) → pieces_size (with_operand (number_of op) s) ≡ operand_size s
 operand_long Add (simple.Number x) = refl
@@ -175,3 +128,10 @@ compare_size s = operand_long Compare s
 pub compared_size : (short : Bool) (s : Simple) (c : Comparator) (m : ℕ) → block_size short (block.Operate s (uses.Compare c m)) order.Save ≡ operand_size s + branch_size short
 compared_size true s c m = omega (arith, compared_long true (with_operand 7 s) c (0 + pieces_size (with_operand 7 s)) (mark_place no_names m), compare_size s)
 compared_size false s c m = omega (arith, compared_long false (with_operand 7 s) c (0 + pieces_size (with_operand 7 s)) (mark_place no_names m), compare_size s)
+
+pub tested_size : (s : Simple) (u : Use) → Unchecked u → block_size false (block.Operate s u) order.Save ≡ operand_size s + rest_size u
+tested_size s uses.Mask h = omega (arith, operand_long And s)
+tested_size s uses.Union h = omega (arith, operand_long Or s)
+tested_size s uses.Differ h = omega (arith, operand_long Xor s)
+tested_size s (uses.Compare c m) h = compared_size false s c m
+tested_size s _ h = absurd h

@@ -2,8 +2,6 @@
 -- tests behind them.
 use Rattle.std.proofs.Common.{◌≡◌, ℕ, ◌+◌, ◌*◌, ◌%◌, ◌<◌, Bool, true, false, not, ℤ, pos, ◌+ℤ◌, ◌-ℤ◌, ◌*ℤ◌, List, [], ◌∷◌, length, refl, sym, ap, ◌∙◌, subst, arith, lit<, lit≤}
 use Rattle.std.proofs.lemmas.Int.{ints}
-use Rattle.std.proofs.lemmas.Nat.{and_comm, or_comm, xor_comm}
-use Rattle.std.specs.Prelude.{bit_and, bit_or, bit_xor}
 use Rattle.cw_i86.specs.Encoding.{bytes_of}
 use Rattle.cw_i86.specs.declared.flags.Flags.{Flags}
 use Rattle.cw_i86.specs.declared.instr.Instr.{Instr}
@@ -16,7 +14,9 @@ use Rattle.cw_rows86.specs.Operations.{WordOperation, Add, Or, And, Subtract, Xo
 use Rattle.cw_rows86.specs.Acts.{Operate, OperateNumber}
 use Rattle.cw_word.specs.FixedPoint.{FitsWord, fits_word, scaled_product}
 use Rattle.cw_word.specs.Word.{signed, unsigned}
-use Rattle.cw_unit.specs.Words.{Operand, Word, Changed, put, put_value}
+use Rattle.cw_unit.specs.declared.unit.LogicOp.{LogicOp}
+use Rattle.cw_unit.specs.declared.unit.LogicOp.TheVariants as logic
+use Rattle.cw_unit.specs.Words.{logic_word, Operand, Word, Changed, put, put_value}
 use Rattle.cw_unit.specs.Operation.{holds}
 use Rattle.cw_order.specs.declared.order.Comparator.{Comparator}
 use Rattle.cw_order.specs.OrderChanges.{to_mark_if, comparison}
@@ -24,26 +24,25 @@ use Rattle.cw_follow.proofs.Watched.{Watched, watched_step}
 use Rattle.cw_follow.proofs.Chains.{Is, IsCompared, view, last}
 use Rattle.cw_follow.proofs.Acting.{act}
 use Rattle.cw_follow.proofs.Stacks.{record_of, StackIs}
-use Rattle.cw_follow.proofs.Orders.{Kept, Landed, Chooses, Checked, later, further, sooner, landed, checks_end, branches}
+use Rattle.cw_follow.proofs.Orders.{Kept, Landed, Chooses, Checked, later, further, sooner, landed, checks_end, branches, beside_at}
 use Rattle.cw_follow.proofs.Operands.{Setting, words, DoesHere}
 use Rattle.cw_follow.proofs.Numbers.{sum_overflows_is, difference_overflows_is, sum_is, difference_is}
-use Rattle.cw_follow.proofs.Bits.{ands, ors, xors}
+use Rattle.cw_follow.proofs.Bits.{logic_is}
 use Rattle.cw_follow.proofs.Standing.{Has, HasAll}
 use Rattle.cw_follow.proofs.Branches.{branch_size, goes_by, branch_code}
+use Rattle.cw_follow.proofs.Routines.{Beside}
+
+-- the operation of the arithmetic unit that combines bits
+abbrev pub instruction_of : LogicOp → WordOperation
+instruction_of logic.Mask = And
+instruction_of logic.Union = Or
+instruction_of logic.Differ = Xor
 
 module _ (c : Setting) (memory : List ℤ) (input output : List ℕ) where
   -- The top operand x is in AX, and an operation of the arithmetic unit on AX and y is this instruction, of so many bytes.
   pub record Named (at size : ℕ) (i : WordOperation → Instr) (x y : ℤ) (rest : List Operand) (p : Watched) : Type 0 where
-    pub cx : ℕ
-    pub dx : ℕ
-    pub bx : ℕ
-    pub si : ℕ
-    pub overflow : Bool
-    pub top : ℕ
-    pub cells : ℕ → ℕ
-    pub stack : ℕ → ℕ
-    pub left : List ℕ
-    pub told : Told
+    pub beside : Beside
+    pub open beside use *
     pub some : 0 < top
     pub is : Is c.image at (view (unsigned x) cx dx bx (2 * top) (record_of c.acts) si c.program.limits.area overflow cells stack left told) p
     pub under : StackIs c.program c.acts stack top rest
@@ -62,16 +61,7 @@ module _ (c : Setting) (memory : List ℤ) (input output : List ℕ) where
       let v : View = view (unsigned x) s.cx s.dx s.bx (2 * l.top) (record_of c.acts) s.si c.program.limits.area s.overflow l.cells l.stack l.input l.told in
       let here : Is c.image at v p = subst (λ a. Is c.image at (view a s.cx s.dx s.bx (2 * l.top) (record_of c.acts) s.si c.program.limits.area s.overflow l.cells l.stack l.input l.told) p) l.operands.0 s.is in
       record {
-        cx = s.cx;
-        dx = s.dx;
-        bx = s.bx;
-        si = s.si;
-        overflow = s.overflow;
-        top = l.top;
-        cells = l.cells;
-        stack = l.stack;
-        left = l.input;
-        told = l.told;
+        beside = beside_at l l.top;
         some = some;
         is = here;
         under = l.operands.1;
@@ -94,16 +84,7 @@ module _ (c : Setting) (memory : List ℤ) (input output : List ℕ) where
       let here : Is c.image at (V (unsigned x)) p = subst (λ a. Is c.image at (V a) p) ea s in
       let named = subst (λ a. Denotes c.image.bytes (a ∷ cx ∷ dx ∷ bx ∷ 2 * top ∷ record_of c.acts ∷ si ∷ c.program.limits.area ∷ []) rm (InData k)) ea denotes in
       record {
-        cx = cx;
-        dx = dx;
-        bx = bx;
-        si = si;
-        overflow = overflow;
-        top = top;
-        cells = cells;
-        stack = stack;
-        left = left;
-        told = told;
+        beside = record { cx = cx; dx = dx; bx = bx; si = si; around = record { overflow = overflow; top = top; cells = cells; stack = stack; left = left; told = told } };
         some = some;
         is = here;
         under = under;
@@ -151,20 +132,16 @@ module _ (c : Setting) (memory : List ℤ) (input output : List ℕ) where
       further 1 (lit≤ tt) (lit< tt)
       (last c.rows r.is r.kept.wrote (landed c.rows c.program c.image c.g c.acts true to r.top (Word z ∷ rest) memory input output e (value, r.under) r.kept there))
 
-  pub mask_of : {p : Watched} {at size : ℕ} {i : WordOperation → Instr} (to : ℕ) (x y : ℤ) (rest : List Operand) → FitsWord x → FitsWord y → at + size ≡ to → Has c.image at (i And) → Named at size i x y rest p
-      → DoesHere c memory input output 1 to true 0 p (Changed (put (signed (bit_and (unsigned x) (unsigned y))) (words rest memory input output)))
-  mask_of to x y rest fx fy e h r =
-      bits_of to (bit_and (unsigned x) (unsigned y)) x y (signed (bit_and (unsigned x) (unsigned y))) rest r e (and_comm (unsigned x) (unsigned y) ∙ ands c memory input output x y fx fy) (r.step And h).0
-
-  pub union_of : {p : Watched} {at size : ℕ} {i : WordOperation → Instr} (to : ℕ) (x y : ℤ) (rest : List Operand) → FitsWord x → FitsWord y → at + size ≡ to → Has c.image at (i Or) → Named at size i x y rest p
-      → DoesHere c memory input output 1 to true 0 p (Changed (put (signed (bit_or (unsigned x) (unsigned y))) (words rest memory input output)))
-  union_of to x y rest fx fy e h r =
-      bits_of to (bit_or (unsigned x) (unsigned y)) x y (signed (bit_or (unsigned x) (unsigned y))) rest r e (or_comm (unsigned x) (unsigned y) ∙ ors c memory input output x y fx fy) (r.step Or h).0
-
-  pub difference_in_bits : {p : Watched} {at size : ℕ} {i : WordOperation → Instr} (to : ℕ) (x y : ℤ) (rest : List Operand) → FitsWord x → FitsWord y → at + size ≡ to → Has c.image at (i Xor) → Named at size i x y rest p
-      → DoesHere c memory input output 1 to true 0 p (Changed (put (signed (bit_xor (unsigned x) (unsigned y))) (words rest memory input output)))
-  difference_in_bits to x y rest fx fy e h r =
-      bits_of to (bit_xor (unsigned x) (unsigned y)) x y (signed (bit_xor (unsigned x) (unsigned y))) rest r e (xor_comm (unsigned x) (unsigned y) ∙ xors c memory input output x y fx fy) (r.step Xor h).0
+  pub combination_of : {p : Watched} {at size : ℕ} {i : WordOperation → Instr} (op : LogicOp) (to : ℕ) (x y : ℤ) (rest : List Operand) → FitsWord x → FitsWord y → at + size ≡ to → Has c.image at (i (instruction_of op)) → Named at size i x y rest p
+      → DoesHere c memory input output 1 to true 0 p (Changed (put (signed (logic_word op (unsigned x) (unsigned y))) (words rest memory input output)))
+  combination_of {at = at} {size = size} op to x y rest fx fy e h r =
+      bits_of to (logic_word op (unsigned x) (unsigned y)) x y (signed (logic_word op (unsigned x) (unsigned y))) rest r e (logic_is c memory input output op x y fx fy) (stepped op (r.step (instruction_of op) h).0)
+    where
+      stepped : (op : LogicOp) {q : Watched} → Is c.image (at + size) (operated_on (instruction_of op) (InRegister 0) (unsigned x) (unsigned y) (view (unsigned x) r.cx r.dx r.bx (2 * r.top) (record_of c.acts) r.si c.program.limits.area r.overflow r.cells r.stack r.left r.told)) q
+          → Is c.image (at + size) (view (logic_word op (unsigned x) (unsigned y)) r.cx r.dx r.bx (2 * r.top) (record_of c.acts) r.si c.program.limits.area false r.cells r.stack r.left r.told) q
+      stepped logic.Mask there = there
+      stepped logic.Union there = there
+      stepped logic.Differ there = there
 
   -- a comparison, and the way on
   pub comparison_of : {p : Watched} {at size : ℕ} {i : WordOperation → Instr} (short : Bool) (to by : ℕ) (start : ℕ → ℕ) (k : Comparator) (m : ℕ) (x y : ℤ) (rest : List Operand) → FitsWord x → FitsWord y → at + size + branch_size short ≡ to

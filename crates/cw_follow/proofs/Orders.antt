@@ -1,22 +1,20 @@
 -- What the code of each order does.
-use Rattle.std.proofs.Common.{◌≡◌, ◌≢◌, ℕ, zero, suc, ◌+◌, ◌*◌, ◌%◌, ◌<◌, ◌≤◌, Bool, true, false, not, ℤ, pos, negsuc, ◌+ℤ◌, ◌-ℤ◌, neg_ℤ, List, [], ◌∷◌, ◌++◌, length, length-set, set, None, refl, sym, ap, ap₂, inl, inr, ◌⊎◌, ◌∙◌, subst, arith, lit<, lit≤}
-use Rattle.std.specs.Prelude.{nat_eq}
+use Rattle.std.proofs.Common.{◌≡◌, ◌≢◌, ℕ, zero, suc, ◌+◌, ◌*◌, ◌%◌, ◌<◌, ◌≤◌, Bool, true, false, not, ℤ, pos, negsuc, List, [], ◌∷◌, ◌++◌, length, length-set, set, None, refl, sym, ap, ap₂, inl, inr, ◌⊎◌, ◌∙◌, subst, arith, lit<, lit≤}
+use Rattle.std.specs.Prelude.{nat_eq, nat_lt}
 use borrow.Author.Tests.{ltb-true, eqb-true, eqb-false}
-use Rattle.std.proofs.lemmas.Bool.{false≢true}
 use Rattle.std.specs.List.{All}
 use Rattle.std.proofs.lemmas.List.Elements.{All-head, All-tail}
 use Rattle.std.proofs.lemmas.List.{get_or-set_same, get_or-set_other}
-use Rattle.std.proofs.lemmas.Int.{ints}
-use Rattle.cw_track.proofs.Paths.{Path, stay, next, join}
+use Rattle.cw_track.proofs.Paths.{Path, stay, next}
 use Rattle.cw_i86.specs.declared.instr.Instr.TheVariants as i86
 use Rattle.cw_i86.specs.declared.instr.Rm.TheVariants as rms
 use Rattle.cw_run86.specs.Processor.{Told}
-use Rattle.cw_run86.specs.Views.{View, put_word, word_sum, word_difference, sum_overflows, difference_overflows, with_other, double_overflows, condition_of, words_compare}
+use Rattle.cw_run86.specs.Views.{View, put_word, difference_overflows, with_other, double_overflows, condition_of, words_compare}
 use Rattle.cw_word.specs.FixedPoint.{FitsWord, fits_word}
 use Rattle.cw_word.specs.Word.{signed, unsigned}
-use Rattle.cw_unit.specs.Stop.{StopKind, Overflow, Stopped}
-use Rattle.cw_unit.specs.Words.{Operand, Word, Held, Words, Outcome, Changed, Refused, Impossible, with_memory, put, put_if, put_value, through, is_below, number_of, word_at, byte_of}
-use Rattle.cw_unit.specs.Operation.{Fetch, Store, Add, Subtract, Negate, WriteByte, perform, holds}
+use Rattle.cw_unit.specs.Stop.{StopKind, Overflow, Stopped, AddressRange}
+use Rattle.cw_unit.specs.Words.{Operand, Word, Held, Words, Outcome, Changed, Refused, Impossible, with_memory, put, put_if, through, word_at, byte_of, at_address}
+use Rattle.cw_unit.specs.Operation.{Fetch, Store, WriteByte, perform, holds}
 use Rattle.cw_order.specs.declared.order.Comparator.{Comparator}
 use Rattle.cw_order.specs.FittingWords.{OperandFits}
 use Rattle.cw_order.specs.OrderProgram.{OrderProgram}
@@ -26,14 +24,14 @@ use Rattle.cw_order.specs.OrderMachine.{unrefused}
 use Rattle.cw_tmpl.specs.Mnemonics.{at_bx}
 use Rattle.cw_tmpl.specs.Library.{stop_place}
 use Rattle.cw_tmpl.specs.Templates.{opposite_of, comparison_of}
-use Rattle.cw_routines.specs.Results.{Stands}
+use Rattle.cw_routines.specs.Results.{Stands, Tells as SegmentTold}
 use Rattle.cw_follow.proofs.Watched.{Watched, watched_step, watched_machine, over}
 use Rattle.cw_follow.proofs.WordLaws.{WordLaws}
 use Rattle.cw_follow.proofs.Rows.{Rows}
-use Rattle.cw_follow.proofs.Chains.{IsAt, Is, over_is, IsCompared, Leads, at_work, view, seen, to_place, move, exchange, push, pop, load, store, load_at, store_at, add, subtract, negate, double, no_overflow, passes, jump_overflow, pass_overflow, near, compare, compared_jumps, compared_passes, out, shows, more, compared_more, last, done, short}
-use Rattle.cw_follow.proofs.Routines.{HasLine, StackedAt, Over, stops, put_at, put_off, with_ax}
+use Rattle.cw_follow.proofs.Chains.{IsAt, Is, over_is, IsCompared, Leads, at_work, view, seen, to_place, move, exchange, push, pop, load, store, load_at, store_at, double, no_overflow, passes, jump_overflow, pass_overflow, near, compare, compared_jumps, compared_passes, out, shows, more, compared_more, last, done, short}
+use Rattle.cw_follow.proofs.Routines.{HasLine, StackedAt, Over, stops, put_at, put_off, with_ax, joined, Around, Beside}
 use Rattle.cw_follow.proofs.Stacks.{level, record_of, code_place, StackIs, OperandsAre, Piled, top_is, SameFrom, same_put, stack_pushed, piled_same}
-use Rattle.cw_follow.proofs.Numbers.{sum_overflows_is, difference_overflows_is, negative_overflows_is, sum_is, difference_is, negative_is, opposite_is, fits_tested, unsigned_pos, comparison_is}
+use Rattle.cw_follow.proofs.Numbers.{opposite_is, fits_tested, unsigned_pos, comparison_is}
 use Rattle.cw_follow.proofs.Standing.{Has, HasWord, HasAll, HasFrom, Image, HasAt}
 use Rattle.cw_follow.proofs.Branches.{branch_size, goes_by, branch_code}
 use Rattle.cw_i86.specs.State.{sign_extended}
@@ -105,20 +103,27 @@ pub record LandedAt (first : Bool) (prog : OrderProgram) (image : Image) (at g :
 abbrev pub Landed : (prog : OrderProgram) (image : Image) (at g : ℕ) (loaded : Bool) (acts : List OrderActivation) (w : Words) (p : Watched) → Type 0
 Landed prog image at g loaded acts w p = LandedAt false prog image at g loaded acts w p
 
+-- what the processor holds there, with the stack at this word
+abbrev pub around_at : {first : Bool} {prog : OrderProgram} {image : Image} {at g : ℕ} {loaded : Bool} {acts : List OrderActivation} {w : Words} {p : Watched} → LandedAt first prog image at g loaded acts w p → ℕ → Around
+around_at l top = record { overflow = l.stacked.overflow; top = top; cells = l.cells; stack = l.stack; left = l.input; told = l.told }
+
+abbrev pub beside_at : {first : Bool} {prog : OrderProgram} {image : Image} {at g : ℕ} {loaded : Bool} {acts : List OrderActivation} {w : Words} {p : Watched} → LandedAt first prog image at g loaded acts w p → ℕ → Beside
+beside_at l top = record { cx = l.stacked.cx; dx = l.stacked.dx; bx = l.stacked.bx; si = l.stacked.si; around = around_at l top }
+
+-- the same words, where the processor stands elsewhere or is another one
+landed_so : {first then : Bool} {prog : OrderProgram} {image : Image} {at to g : ℕ} {loaded : Bool} {acts : List OrderActivation} {w : Words} {p q : Watched} (l : LandedAt first prog image at g loaded acts w p)
+    → IsAt then image to (view l.stacked.ax l.stacked.cx l.stacked.dx l.stacked.bx (2 * l.top) (record_of acts) l.stacked.si prog.limits.area l.stacked.overflow l.cells l.stack l.input l.told) q → LandedAt then prog image to g loaded acts w q
+landed_so l s =
+    let t = l.stacked in
+    record { top = l.top; cells = l.cells; stack = l.stack; input = l.input; told = l.told; stacked = record { ax = t.ax; cx = t.cx; dx = t.dx; bx = t.bx; si = t.si; overflow = t.overflow; is = s }; operands = l.operands; kept = l.kept }
+
+pub landed_at : {p : OrderProgram} {image : Image} {at to g : ℕ} {loaded : Bool} {acts : List OrderActivation} {w : Words} {q : Watched} → at % 65536 ≡ to % 65536
+    → Landed p image at g loaded acts w q → Landed p image to g loaded acts w q
+landed_at e l = landed_so l (to_place e l.stacked.is)
+
 -- the same before the first instruction of a block, where what begins there is overlooked or is not
 pub over_landed : (first : Bool) {prog : OrderProgram} {image : Image} {at g : ℕ} {loaded : Bool} {acts : List OrderActivation} {w : Words} {p : Watched} → Landed prog image at g loaded acts w p → LandedAt first prog image at g loaded acts w (over first p)
-over_landed first l =
-    let s = l.stacked in
-    record {
-      top = l.top;
-      cells = l.cells;
-      stack = l.stack;
-      input = l.input;
-      told = l.told;
-      stacked = record { ax = s.ax; cx = s.cx; dx = s.dx; bx = s.bx; si = s.si; overflow = s.overflow; is = over_is first s.is };
-      operands = l.operands;
-      kept = l.kept;
-    }
+over_landed first l = landed_so l (over_is first l.stacked.is)
 
 -- so many instructions at most, and some
 pub record Leading (output : List ℕ) (limit : ℕ) (p : Watched) (Target : Watched → Type 0) : Type 0 where
@@ -126,6 +131,27 @@ pub record Leading (output : List ℕ) (limit : ℕ) (p : Watched) (Target : Wat
   pub some : 0 < spent
   pub within : spent ≤ limit
   pub leads : Leads output spent p Target
+
+-- no more than so many instructions
+pub record Few (output : List ℕ) (limit : ℕ) (p : Watched) (Target : Watched → Type 0) : Type 0 where
+  pub spent : ℕ
+  pub within : spent ≤ limit
+  pub leads : Leads output spent p Target
+
+-- so many instructions, and then no more than so many
+joined_few : {output : List ℕ} {p : Watched} {T U : Watched → Type 0} (n limit bound : ℕ) → n + limit ≤ bound → (l : Leads output n p T) (d : Few output limit l.reached U) → 0 < n + d.spent → Leading output bound p U
+joined_few n limit bound le l d some = let within = d.within in record { spent = n + d.spent; some = some; within = omega arith; leads = joined l d.leads }
+
+pub and_few : {output : List ℕ} {p : Watched} {T U : Watched → Type 0} (n limit bound : ℕ) → 0 < n → n + limit ≤ bound → Leads output n p T → ((q : Watched) → T q → Few output limit q U)
+    → Leading output bound p U
+and_few n limit bound some le l on = joined_few n limit bound le l (on l.reached l.there) (omega arith)
+
+-- the way after so many instructions
+pub further_on : {output : List ℕ} {p : Watched} {T U : Watched → Type 0} (n limit bound : ℕ) → n + limit ≤ bound → Leads output n p T → ((q : Watched) → T q → Leading output limit q U) → Leading output bound p U
+further_on n limit bound le l on =
+    let d = on l.reached l.there in
+    let some = d.some in
+    joined_few n limit bound le l (record { spent = d.spent; within = d.within; leads = d.leads }) (omega arith)
 
 -- an order does within so many instructions what its operation does: it goes on at a place, the accumulator loaded or free, or stops at a line
 abbrev pub Does : (prog : OrderProgram) (image : Image) (limit to g : ℕ) (loaded : Bool) (line : ℕ) (acts : List OrderActivation) (output : List ℕ) (p : Watched) → Outcome → Type 0
@@ -135,45 +161,27 @@ Does prog image limit to g loaded line acts output p Impossible = Unit {0}
 
 -- The processor stands where a procedure is called: the place to come back to is on top of the stack, above it are the arguments and the
 -- operands of the caller, DX has the line of the call, and the caller's record is at work.
-pub record CalledAt (prog : OrderProgram) (image : Image) (to : ℕ) (a : OrderActivation) (acts : List OrderActivation) (w : Words) (q : Watched) : Type 0 where
+pub record Called (prog : OrderProgram) (a : OrderActivation) (acts : List OrderActivation) (memory : List ℤ) (input output : List ℕ) : Type 0 where
   pub ax : ℕ
   pub cx : ℕ
   pub bx : ℕ
   pub si : ℕ
-  pub overflow : Bool
-  pub top : ℕ
-  pub cells : ℕ → ℕ
-  pub stack : ℕ → ℕ
-  pub input : List ℕ
-  pub told : Told
-  pub is : Is image to (view ax cx a.line bx (2 * top) (record_of acts) si prog.limits.area overflow cells stack input told) q
+  pub around : Around
+  pub open around use *
   pub small : a.line < 65536
   pub back : stack top ≡ code_place prog a.segment a.place
   pub operands : StackIs prog acts stack (suc top) (a.arguments ++ a.operands)
-  pub kept : Kept prog a.segment acts w.memory w.input w.output cells stack input told
+  pub kept : Kept prog a.segment acts memory input output cells stack left told
+
+pub record CalledAt (prog : OrderProgram) (image : Image) (to : ℕ) (a : OrderActivation) (acts : List OrderActivation) (w : Words) (q : Watched) : Type 0 where
+  pub called : Called prog a acts w.memory w.input w.output
+  pub open called use *
+  pub is : Is image to (view ax cx a.line bx (2 * top) (record_of acts) si prog.limits.area overflow cells stack left told) q
 
 -- what an order does after so many instructions
 pub later : (prog : OrderProgram) (image : Image) (limit to g : ℕ) (loaded : Bool) (line : ℕ) (acts : List OrderActivation) {output : List ℕ} {p : Watched} {T : Watched → Type 0} (n bound : ℕ) (o : Outcome) → n + limit ≤ bound → Leads output n p T → ((q : Watched) → T q → Does prog image limit to g loaded line acts output q o) → Does prog image bound to g loaded line acts output p o
-later prog image limit to g loaded line acts {output = output} {p = p} n bound (Changed v) le l on =
-    let d = on l.reached l.there in
-    let some = d.some in
-    let within = d.within in
-    record {
-      spent = n + d.spent;
-      some = omega arith;
-      within = omega arith;
-      leads = record { reached = d.leads.reached; path = join _ watched_machine n d.spent (n + d.spent) p l.reached d.leads.reached refl l.path d.leads.path; there = d.leads.there };
-    }
-later prog image limit to g loaded line acts {output = output} {p = p} n bound (Refused kind) le l on =
-    let d = on l.reached l.there in
-    let some = d.some in
-    let within = d.within in
-    record {
-      spent = n + d.spent;
-      some = omega arith;
-      within = omega arith;
-      leads = record { reached = d.leads.reached; path = join _ watched_machine n d.spent (n + d.spent) p l.reached d.leads.reached refl l.path d.leads.path; there = d.leads.there };
-    }
+later prog image limit to g loaded line acts n bound (Changed v) le l on = further_on n limit bound le l on
+later prog image limit to g loaded line acts n bound (Refused kind) le l on = further_on n limit bound le l on
 later prog image limit to g loaded line acts n bound Impossible le l on = tt
 
 pub further : {output : List ℕ} {limit : ℕ} {p : Watched} {Target : Watched → Type 0} (n : ℕ) → n ≤ limit → 0 < n → Leads output n p Target → Leading output limit p Target
@@ -210,19 +218,6 @@ Tells prog image limit to g loaded acts output p (Changed v) = Telling output v.
 Tells prog image limit to g loaded acts output p (Refused kind) = ⊥
 Tells prog image limit to g loaded acts output p Impossible = Unit {0}
 
--- the way after so many instructions
-pub further_on : {output : List ℕ} {p : Watched} {T U : Watched → Type 0} (n limit bound : ℕ) → n + limit ≤ bound → Leads output n p T → ((q : Watched) → T q → Leading output limit q U) → Leading output bound p U
-further_on {p = p} n limit bound le l on =
-    let d = on l.reached l.there in
-    let some = d.some in
-    let within = d.within in
-    record {
-      spent = n + d.spent;
-      some = omega arith;
-      within = omega arith;
-      leads = record { reached = d.leads.reached; path = join _ watched_machine n d.spent (n + d.spent) p l.reached d.leads.reached refl l.path d.leads.path; there = d.leads.there };
-    }
-
 pub sooner : (prog : OrderProgram) (image : Image) (limit to : ℕ) (start : ℕ → ℕ) (g : ℕ) (loaded : Bool) (line : ℕ) (acts : List OrderActivation) {output : List ℕ} {p : Watched} {T : Watched → Type 0} (n bound : ℕ) (way : Way) → n + limit ≤ bound → Leads output n p T → ((q : Watched) → T q → Chooses prog image limit to start g loaded line acts output q way) → Chooses prog image bound to start g loaded line acts output p way
 sooner prog image limit to start g loaded line acts n bound (Onward v) le l on = further_on n limit bound le l on
 sooner prog image limit to start g loaded line acts n bound (ToMark m v) le l on = further_on n limit bound le l on
@@ -239,22 +234,25 @@ top_next top lt = omega arith
 pub top_low : (top : ℕ) → top < 32764 → top < 32768
 top_low top lt = omega arith
 
--- a number of a word of the area
-pub record Below (n area : ℕ) : Type 0 where
-  pub within : number_of (signed n) < area
-  pub same : number_of (signed n) ≡ n
-
-pub below_area : WordLaws → (area n : ℕ) → area ≤ 32768 → n < 65536 → is_below (signed n) area ≡ true → Below n area
-below_area laws area n low small is = cases (signed n) refl
+-- what holds of an address that is none of the area, and of a word of the area, holds of what is done through an address: by its number
+pub through_number : (area n : ℕ) (f : ℕ → Words → Outcome) (w : Words) (T : Outcome → Type 0) → T (Refused AddressRange) → (n < area → T (f n w)) → T (at_address area f (pos n) w)
+through_number area n f w T none each = cases (nat_lt n area) refl
   where
-    cases : (z : ℤ) → signed n ≡ z → Below n area
-    cases (negsuc k) e = absurd (false≢true (sym (ap (λ z. is_below z area) e) ∙ is))
-    cases (pos k) e =
-        let lt : k < area = ltb-true k area (sym (ap (λ z. is_below z area) e) ∙ is) in
-        let number : number_of (signed n) ≡ k = ap number_of e in
-        let short : k < 65536 = omega arith in
-        let same : k ≡ n = sym (unsigned_pos k short) ∙ ap unsigned (sym e) ∙ laws.forth n small in
-        record { within = omega arith; same = number ∙ same }
+    cases : (b : Bool) → nat_lt n area ≡ b → T (through b f (pos n) w)
+    cases false is = none
+    cases true is = each (ltb-true n area is)
+
+-- as an operand
+pub through_address : (area : ℕ) (f : ℕ → Words → Outcome) (a : ℤ) (w : Words) (T : Outcome → Type 0) → T (Refused AddressRange) → ((n : ℕ) → a ≡ pos n → n < area → T (f n w)) → T (at_address area f a w)
+through_address area f (negsuc n) w T none each = none
+through_address area f (pos n) w T none each = through_number area n f w T none (λ within. each n refl within)
+
+-- and as a word of the code
+pub through_word : WordLaws → (area n : ℕ) → area ≤ 32768 → n < 65536 → (f : ℕ → Words → Outcome) (w : Words) (T : Outcome → Type 0) → T (Refused AddressRange) → ((k : ℕ) → k < area → k ≡ n → T (f k w)) → T (at_address area f (signed n) w)
+through_word laws area n low small f w T none each =
+    through_address area f (signed n) w T none (λ k is within.
+    let short : k < 65536 = omega arith in
+    each k within (sym (unsigned_pos k short) ∙ ap unsigned (sym is) ∙ laws.forth n small))
 
 -- a stop is called where the overflow flag is set
 abbrev pub Check : (image : Image) → (at by line : ℕ) → Type 0
@@ -345,20 +343,31 @@ module _ (rows : Rows) (prog : OrderProgram) (image : Image) (g : ℕ) (acts : L
   pub fetches : {p : Watched} {first : Bool} {at : ℕ} (to offset n line : ℕ) (w : Words) → prog.limits.area ≤ 32768 → n < 65536 → offset ≡ 2 * n % 65536 → at + 3 ≡ to
       → HasAt first image at (i86.MovAcc false true false offset) → LandedAt first prog image at g false acts w p
       → Does prog image 1 to g true line acts w.output p (unrefused (perform prog.limits.area (Fetch None) (put (signed n) w)))
-  fetches {p} {first} {at} to offset n line w low small there e i l = cases (is_below (signed n) prog.limits.area) refl
-    where
-      cases : (b : Bool) → is_below (signed n) prog.limits.area ≡ b → Does prog image 1 to g true line acts w.output p (unrefused (through b (λ i v. Changed (put (word_at v.memory i) v)) (signed n) w))
-      cases false is = tt
-      cases true is =
-          let k = number_of (signed n) in
-          let f = below_area rows.words prog.limits.area n low small is in
-          let within = f.within in
-          let same = f.same in
-          let lt : k < 32768 = omega arith in
-          let at_k : offset ≡ 2 * k = omega arith in
-          puts to (l.cells k) (word_at w.memory k) w (l.kept.words k within) l (λ q ax cx dx bx sp si di overflow stack s. seen e refl (load_at rows offset k lt at_k i s))
+  fetches {p} to offset n line w low small there e i l =
+      through_word rows.words prog.limits.area n low small (λ k v. Changed (put (word_at v.memory k) v)) w (λ o. Does prog image 1 to g true line acts w.output p (unrefused o)) tt (λ k within same.
+      let lt : k < 32768 = omega arith in
+      let at_k : offset ≡ 2 * k = omega arith in
+      puts to (l.cells k) (word_at w.memory k) w (l.kept.words k within) l (λ q ax cx dx bx sp si di overflow stack s. seen e refl (load_at rows offset k lt at_k i s)))
 
   -- ---- results in AX
+
+  -- the record at work tells the segment
+  pub segment_told : {memory : List ℤ} {input output : List ℕ} {cells stack : ℕ → ℕ} {left : List ℕ} {told : Told} → Kept prog g acts memory input output cells stack left told → SegmentTold stack (record_of acts) (level acts + 3) (g + 1)
+  segment_told k =
+      let few = k.piled.0.few in
+      record { there = omega arith; low = omega arith; number = k.piled.0.number_is; few = omega arith }
+
+  -- a stop is called, with its line behind the call
+  pub stop_called : {p : Watched} {at ax cx dx bx si : ℕ} {overflow : Bool} {memory : List ℤ} {input output : List ℕ} {cells stack : ℕ → ℕ} {left : List ℕ} {told : Told} (kind : StopKind) (n by line : ℕ) → HasLine kind → Stands image.bytes → line < 65536 → n < level acts + 3
+      → (at + 3 + by) % 65536 ≡ stop_place kind % 65536 → Kept prog g acts memory input output cells stack left told → Has image at (i86.Call by) → HasWord image (at + 3) line
+      → Is image at (view ax cx dx bx (2 * suc n) (record_of acts) si prog.limits.area overflow cells stack left told) p
+      → Leads output 13 p (Over (record { output = output; end = Stopped kind (g + 1) line }))
+  stop_called {p} {at} {ax} {cx} {dx} {bx} {si} {overflow} {cells = cells} {stack = stack} {left = left} {told = told} kind n by line has library small low arrives k i word s =
+      let t = segment_told k in
+      let high : level acts ≤ 32764 = omega arith in
+      let top : 2 * suc n ≡ 2 * suc n % 65536 = omega arith in
+      subst (λ x. Leads x 13 p (Over (record { output = x; end = Stopped kind (g + 1) line }))) k.wrote
+      (stops rows kind at by line n (level acts + 3) (g + 1) ax cx dx bx (record_of acts) si prog.limits.area overflow cells stack left told has library i word small arrives t.low low (2 * suc n) top t.there t.number t.few s)
 
   -- one that may have overflowed
   pub checks : {p : Watched} {at ax cx dx bx si : ℕ} {overflow : Bool} {cells stack : ℕ → ℕ} {left : List ℕ} {told : Told} (kind : StopKind) (to top by line : ℕ) (z : ℤ) (operands : List Operand) (memory : List ℤ) (input output : List ℕ)
@@ -377,17 +386,9 @@ module _ (rows : Rows) (prog : OrderProgram) (image : Image) (g : ℕ) (acts : L
           (last rows s k.wrote (landed true to (suc n) (Word z ∷ operands) memory input output e' (value (fits_tested z b), h) k (no_overflow rows 5 (tests ∙ ap not b) i.0 s)))
       cases false b =
           let t = top_is prog acts stack (suc n) operands h in
-          let low : n < level acts + 3 = omega arith in
-          let top : 2 * suc n ≡ 2 * suc n % 65536 = omega arith in
-          let few' : g + 1 < 256 = omega arith in
-          let high : level acts ≤ 32764 = omega arith in
-          let high' : level acts + 3 < 32768 = omega arith in
-          let slot : (record_of acts + 65534) % 65536 ≡ 2 * (level acts + 3) = omega arith in
-          let o : told.output ≡ output = k.wrote in
           further 14 (lit≤ tt) (lit< tt)
           (more rows {to = at + 2} {w = view ax cx dx bx (2 * suc n) (record_of acts) si prog.limits.area overflow cells stack left told} s k.wrote (passes rows 5 (tests ∙ ap not b) i.0 s) (λ q s.
-          subst (λ x. Leads x 13 q (Over (record { output = x; end = Stopped kind (g + 1) line }))) o
-          (stops rows kind (at + 2) by line n (level acts + 3) (g + 1) ax cx dx bx (record_of acts) si prog.limits.area overflow cells stack left told has library i.1.0 i.1.1.0 small arrives high' low (2 * suc n) top slot k.piled.0.number_is few' s)))
+          stop_called kind n by line has library small (omega arith) arrives k i.1.0 i.1.1.0 s))
 
   -- the same where the check may jump back
   pub checks_end : {p : Watched} {at ax cx dx bx si : ℕ} {overflow : Bool} {cells stack : ℕ → ℕ} {left : List ℕ} {told : Told} (to top line : ℕ) (z : ℤ) (operands : List Operand) (memory : List ℤ) (input output : List ℕ)
@@ -405,115 +406,11 @@ module _ (rows : Rows) (prog : OrderProgram) (image : Image) (g : ℕ) (acts : L
           (last rows s k.wrote (landed true to (suc n) (Word z ∷ operands) memory input output i.ends (value (fits_tested z b), h) k (pass_overflow rows i.back (tests ∙ ap not b) i.jump s)))
       cases false b =
           let t = top_is prog acts stack (suc n) operands h in
-          let low : n < level acts + 3 = omega arith in
-          let top : 2 * suc n ≡ 2 * suc n % 65536 = omega arith in
-          let few' : g + 1 < 256 = omega arith in
-          let high : level acts ≤ 32764 = omega arith in
-          let high' : level acts + 3 < 32768 = omega arith in
-          let slot : (record_of acts + 65534) % 65536 ≡ 2 * (level acts + 3) = omega arith in
-          let o : told.output ≡ output = k.wrote in
           further 14 (lit≤ tt) (lit< tt)
           (more rows {to = i.call} {w = view ax cx dx bx (2 * suc n) (record_of acts) si prog.limits.area overflow cells stack left told} s k.wrote (to_place i.goes (jump_overflow rows i.back (tests ∙ ap not b) i.jump s)) (λ q s.
-          subst (λ x. Leads x 13 q (Over (record { output = x; end = Stopped Overflow (g + 1) line }))) o
-          (stops rows Overflow i.call i.by line n (level acts + 3) (g + 1) ax cx dx bx (record_of acts) si prog.limits.area overflow cells stack left told tt library i.calls i.tells small i.arrives high' low (2 * suc n) top slot k.piled.0.number_is few' s)))
-
-  -- ---- sums, differences and negatives
-
-  pub adds : {p : Watched} {at : ℕ} (to line : ℕ) (operands : List Operand) (memory : List ℤ) (input output : List ℕ) → Stands image.bytes → g < 255 → line < 65536
-      → All OperandFits operands → Has image at (i86.Pop 3) × (Has image (at + 1) (i86.AluRm 0 true true 0 (rms.Reg 3)) × Checked image (at + 1 + 2) to line)
-      → Landed prog image at g true acts (record { operands = operands; memory = memory; input = input; output = output }) p
-      → Does prog image 16 to g true line acts output p (perform prog.limits.area Add (record { operands = operands; memory = memory; input = input; output = output }))
-  adds to line [] memory input output library few small fits i l = tt
-  adds to line (Held c ∷ rest) memory input output library few small fits i l = tt
-  adds to line (Word y ∷ []) memory input output library few small fits i l = tt
-  adds to line (Word y ∷ Held c ∷ rest) memory input output library few small fits i l = tt
-  adds {p} {at} to line (Word y ∷ Word x ∷ rest) memory input output library few small fits i l =
-      let s = l.stacked in
-      let k = l.kept in
-      let h = l.operands in
-      let t = top_is prog acts l.stack (suc l.top) rest h.1.1 in
-      let lt : l.top < 32764 = omega arith in
-      let some : 0 < suc l.top = omega arith in
-      let fy : FitsWord y = All-head OperandFits (Word y) (Word x ∷ rest) fits in
-      let fx : FitsWord x = All-head OperandFits (Word x) rest (All-tail OperandFits (Word y) (Word x ∷ rest) fits) in
-      let n = l.stack l.top in
-      let turned : y +ℤ x ≡ x +ℤ y = omega (arith, ints) in
-      let o : sum_overflows s.ax n ≡ not (fits_word (x +ℤ y)) = ap₂ sum_overflows h.0 h.1.0 ∙ sum_overflows_is rows.words y x fy fx ∙ ap (λ z. not (fits_word z)) turned in
-      let v : FitsWord (x +ℤ y) → word_sum s.ax n ≡ unsigned (x +ℤ y) = λ f. ap₂ word_sum h.0 h.1.0 ∙ sum_is rows.words y x fy fx (subst FitsWord (sym turned) f) ∙ ap unsigned turned in
-      later prog image 14 to g true line acts 2 16 (put_value (x +ℤ y) (record { operands = rest; memory = memory; input = input; output = output })) (lit≤ tt)
-      (more rows {to = at + 1} {w = view s.ax s.cx s.dx n (2 * suc l.top) (record_of acts) s.si prog.limits.area s.overflow l.cells l.stack l.input l.told} s.is k.wrote (pop_bx l.top lt i.0 s.is) (λ q t.
-      more rows {to = at + 1 + 2} {w = view (word_sum s.ax n) s.cx s.dx n (2 * suc l.top) (record_of acts) s.si prog.limits.area (sum_overflows s.ax n) l.cells l.stack l.input l.told} t k.wrote (add rows 0 3 i.1.0 t) (λ q t.
-      done t)))
-      (λ q t. checks_end to (suc l.top) line (x +ℤ y) rest memory input output library few some small o v h.1.1 k i.1.1 t)
-
-  pub subtracts : {p : Watched} {at : ℕ} (to line : ℕ) (operands : List Operand) (memory : List ℤ) (input output : List ℕ) → Stands image.bytes → g < 255 → line < 65536
-      → All OperandFits operands → Has image at (i86.Mov true true 3 (rms.Reg 0)) × (Has image (at + 2) (i86.Pop 0) × (Has image (at + 2 + 1) (i86.AluRm 5 true true 0 (rms.Reg 3)) × Checked image (at + 2 + 1 + 2) to line))
-      → Landed prog image at g true acts (record { operands = operands; memory = memory; input = input; output = output }) p
-      → Does prog image 17 to g true line acts output p (perform prog.limits.area Subtract (record { operands = operands; memory = memory; input = input; output = output }))
-  subtracts to line [] memory input output library few small fits i l = tt
-  subtracts to line (Held c ∷ rest) memory input output library few small fits i l = tt
-  subtracts to line (Word y ∷ []) memory input output library few small fits i l = tt
-  subtracts to line (Word y ∷ Held c ∷ rest) memory input output library few small fits i l = tt
-  subtracts {p} {at} to line (Word y ∷ Word x ∷ rest) memory input output library few small fits i l =
-      let s = l.stacked in
-      let k = l.kept in
-      let h = l.operands in
-      let t = top_is prog acts l.stack (suc l.top) rest h.1.1 in
-      let lt : l.top < 32764 = omega arith in
-      let some : 0 < suc l.top = omega arith in
-      let fy : FitsWord y = All-head OperandFits (Word y) (Word x ∷ rest) fits in
-      let fx : FitsWord x = All-head OperandFits (Word x) rest (All-tail OperandFits (Word y) (Word x ∷ rest) fits) in
-      let m = l.stack l.top in
-      let o : difference_overflows m s.ax ≡ not (fits_word (x -ℤ y)) = ap₂ difference_overflows h.1.0 h.0 ∙ difference_overflows_is rows.words x y fx fy in
-      let v : FitsWord (x -ℤ y) → word_difference m s.ax ≡ unsigned (x -ℤ y) = λ f. ap₂ word_difference h.1.0 h.0 ∙ difference_is rows.words x y fx fy f in
-      later prog image 14 to g true line acts 3 17 (put_value (x -ℤ y) (record { operands = rest; memory = memory; input = input; output = output })) (lit≤ tt)
-      (more rows {to = at + 2} {w = view s.ax s.cx s.dx s.ax (2 * l.top) (record_of acts) s.si prog.limits.area s.overflow l.cells l.stack l.input l.told} s.is k.wrote (move rows 3 0 i.0 s.is) (λ q t.
-      more rows {to = at + 2 + 1} {w = view m s.cx s.dx s.ax (2 * suc l.top) (record_of acts) s.si prog.limits.area s.overflow l.cells l.stack l.input l.told} t k.wrote (pop_ax l.top lt i.1.0 t) (λ q t.
-      more rows {to = at + 2 + 1 + 2} {w = view (word_difference m s.ax) s.cx s.dx s.ax (2 * suc l.top) (record_of acts) s.si prog.limits.area (difference_overflows m s.ax) l.cells l.stack l.input l.told} t k.wrote (subtract rows 0 3 i.1.1.0 t) (λ q t.
-      done t))))
-      (λ q t. checks_end to (suc l.top) line (x -ℤ y) rest memory input output library few some small o v h.1.1 k i.1.1.1 t)
-
-  pub negates : {p : Watched} {at : ℕ} (to line : ℕ) (operands : List Operand) (memory : List ℤ) (input output : List ℕ) → Stands image.bytes → g < 255 → line < 65536 → operand_words operands < level acts
-      → All OperandFits operands → Has image at (i86.Unary 3 true (rms.Reg 0)) × Checked image (at + 2) to line
-      → Landed prog image at g true acts (record { operands = operands; memory = memory; input = input; output = output }) p
-      → Does prog image 15 to g true line acts output p (perform prog.limits.area Negate (record { operands = operands; memory = memory; input = input; output = output }))
-  negates to line [] memory input output library few small room fits i l = tt
-  negates to line (Held c ∷ rest) memory input output library few small room fits i l = tt
-  negates {p} {at} to line (Word x ∷ rest) memory input output library few small room fits i l =
-      let s = l.stacked in
-      let k = l.kept in
-      let h = l.operands in
-      let t = top_is prog acts l.stack l.top rest h.1 in
-      let some : 0 < l.top = omega arith in
-      let fx : FitsWord x = All-head OperandFits (Word x) rest fits in
-      let o : difference_overflows 0 s.ax ≡ not (fits_word (neg_ℤ x)) = ap (difference_overflows 0) h.0 ∙ negative_overflows_is rows.words x fx in
-      let v : FitsWord (neg_ℤ x) → word_difference 0 s.ax ≡ unsigned (neg_ℤ x) = λ f. ap (word_difference 0) h.0 ∙ negative_is rows.words x fx f in
-      later prog image 14 to g true line acts 1 15 (put_value (neg_ℤ x) (record { operands = rest; memory = memory; input = input; output = output })) (lit≤ tt)
-      (more rows {to = at + 2} {w = view (word_difference 0 s.ax) s.cx s.dx s.bx (2 * l.top) (record_of acts) s.si prog.limits.area (difference_overflows 0 s.ax) l.cells l.stack l.input l.told} s.is k.wrote (negate rows 0 i.0 s.is) (λ q t.
-      done t))
-      (λ q t. checks_end to l.top line (neg_ℤ x) rest memory input output library few some small o v h.1 k i.1 t)
+          stop_called Overflow n i.by line tt library small (omega arith) i.arrives k i.calls i.tells s))
 
   -- ---- words of the data area
-
-  loads_word : {p : Watched} {at : ℕ} (to line : ℕ) (a : ℤ) (b : Bool) (rest : List Operand) (memory : List ℤ) (input output : List ℕ) → prog.limits.area ≤ 32768 → is_below a prog.limits.area ≡ b → at + 5 ≡ to
-      → HasAll image at (i86.XchgAx 3 ∷ i86.Shift 4 true false (rms.Reg 3) ∷ i86.Mov true true 0 at_bx ∷ [])
-      → Landed prog image at g true acts (record { operands = Word a ∷ rest; memory = memory; input = input; output = output }) p
-      → Does prog image 3 to g true line acts output p (unrefused (through b (λ i v. Changed (put (word_at v.memory i) v)) a (record { operands = rest; memory = memory; input = input; output = output })))
-  loads_word to line a false rest memory input output low is e i l = tt
-  loads_word to line (negsuc n) true rest memory input output low is e i l = absurd (false≢true is)
-  loads_word {p} {at} to line (pos n) true rest memory input output low is e i l =
-      let s = l.stacked in
-      let k = l.kept in
-      let h = l.operands in
-      let within : n < prog.limits.area = ltb-true n prog.limits.area is in
-      let lt : n < 32768 = omega arith in
-      let small : n < 65536 = omega arith in
-      let e' : at + 1 + 2 + 2 ≡ to = omega arith in
-      let ax : s.ax ≡ n = h.0 ∙ unsigned_pos n small in
-      further 3 (lit≤ tt) (lit< tt)
-      (more rows {to = at + 1} {w = view s.bx s.cx s.dx n (2 * l.top) (record_of acts) s.si prog.limits.area s.overflow l.cells l.stack l.input l.told} s.is k.wrote (with_bx ax (exchange rows i.0 s.is)) (λ q t.
-      more rows {to = at + 1 + 2} {w = view s.bx s.cx s.dx (2 * n) (2 * l.top) (record_of acts) s.si prog.limits.area (double_overflows n) l.cells l.stack l.input l.told} t k.wrote (double rows 3 lt i.1.0 t) (λ q t.
-      last rows t k.wrote (landed true to l.top (Word (word_at memory n) ∷ rest) memory input output e' (k.words n within, h.1) k (load rows 0 n lt refl i.1.1.0 t)))))
 
   pub loads : {p : Watched} {at : ℕ} (to line : ℕ) (operands : List Operand) (memory : List ℤ) (input output : List ℕ) → prog.limits.area ≤ 32768 → at + 5 ≡ to
       → HasAll image at (i86.XchgAx 3 ∷ i86.Shift 4 true false (rms.Reg 3) ∷ i86.Mov true true 0 at_bx ∷ [])
@@ -521,30 +418,19 @@ module _ (rows : Rows) (prog : OrderProgram) (image : Image) (g : ℕ) (acts : L
       → Does prog image 3 to g true line acts output p (unrefused (perform prog.limits.area (Fetch None) (record { operands = operands; memory = memory; input = input; output = output })))
   loads to line [] memory input output low e i l = tt
   loads to line (Held c ∷ rest) memory input output low e i l = tt
-  loads to line (Word a ∷ rest) memory input output low e i l = loads_word to line a (is_below a prog.limits.area) rest memory input output low refl e i l
-
-  stores_word : {p : Watched} {at : ℕ} (to line : ℕ) (a : ℤ) (b : Bool) (z : ℤ) (rest : List Operand) (memory : List ℤ) (input output : List ℕ) → prog.limits.area ≤ 32768 → is_below a prog.limits.area ≡ b → at + 7 ≡ to
-      → HasAll image at (i86.Mov true true 3 (rms.Reg 0) ∷ i86.Shift 4 true false (rms.Reg 3) ∷ i86.Pop 0 ∷ i86.Mov true false 0 at_bx ∷ [])
-      → Landed prog image at g true acts (record { operands = Word a ∷ Word z ∷ rest; memory = memory; input = input; output = output }) p
-      → Does prog image 4 to g false line acts output p (unrefused (through b (λ i t. Changed (with_memory t (set t.memory i z))) a (record { operands = rest; memory = memory; input = input; output = output })))
-  stores_word to line a false z rest memory input output low is e i l = tt
-  stores_word to line (negsuc n) true z rest memory input output low is e i l = absurd (false≢true is)
-  stores_word {p} {at} to line (pos n) true z rest memory input output low is e i l =
+  loads {p} {at} to line (Word a ∷ rest) memory input output low e i l =
+      through_address prog.limits.area (λ k v. Changed (put (word_at v.memory k) v)) a (record { operands = rest; memory = memory; input = input; output = output }) (λ o. Does prog image 3 to g true line acts output p (unrefused o)) tt (λ n is within.
       let s = l.stacked in
       let k = l.kept in
       let h = l.operands in
-      let t = top_is prog acts l.stack (suc l.top) rest h.1.1 in
-      let top : l.top < 32764 = omega arith in
-      let within : n < prog.limits.area = ltb-true n prog.limits.area is in
       let lt : n < 32768 = omega arith in
       let small : n < 65536 = omega arith in
-      let e' : at + 2 + 2 + 1 + 2 ≡ to = omega arith in
-      let ax : s.ax ≡ n = h.0 ∙ unsigned_pos n small in
-      further 4 (lit≤ tt) (lit< tt)
-      (more rows {to = at + 2} {w = view s.ax s.cx s.dx n (2 * l.top) (record_of acts) s.si prog.limits.area s.overflow l.cells l.stack l.input l.told} s.is k.wrote (with_bx ax (move rows 3 0 i.0 s.is)) (λ q t.
-      more rows {to = at + 2 + 2} {w = view s.ax s.cx s.dx (2 * n) (2 * l.top) (record_of acts) s.si prog.limits.area (double_overflows n) l.cells l.stack l.input l.told} t k.wrote (double rows 3 lt i.1.0 t) (λ q t.
-      more rows {to = at + 2 + 2 + 1} {w = view (unsigned z) s.cx s.dx (2 * n) (2 * suc l.top) (record_of acts) s.si prog.limits.area (double_overflows n) l.cells l.stack l.input l.told} t k.wrote (with_ax h.1.0 (pop_ax l.top top i.1.1.0 t)) (λ q t.
-      last rows t k.wrote (landed false to (suc l.top) rest (set memory n z) input output e' h.1.1 (kept_stored n z within k) (store rows 0 n lt refl i.1.1.1.0 t))))))
+      let e' : at + 1 + 2 + 2 ≡ to = omega arith in
+      let ax : s.ax ≡ n = h.0 ∙ ap unsigned is ∙ unsigned_pos n small in
+      further 3 (lit≤ tt) (lit< tt)
+      (more rows {to = at + 1} {w = view s.bx s.cx s.dx n (2 * l.top) (record_of acts) s.si prog.limits.area s.overflow l.cells l.stack l.input l.told} s.is k.wrote (with_bx ax (exchange rows i.0 s.is)) (λ q t.
+      more rows {to = at + 1 + 2} {w = view s.bx s.cx s.dx (2 * n) (2 * l.top) (record_of acts) s.si prog.limits.area (double_overflows n) l.cells l.stack l.input l.told} t k.wrote (double rows 3 lt i.1.0 t) (λ q t.
+      last rows t k.wrote (landed true to l.top (Word (word_at memory n) ∷ rest) memory input output e' (k.words n within, h.1) k (load rows 0 n lt refl i.1.1.0 t))))))
 
   pub stores : {p : Watched} {at : ℕ} (to line : ℕ) (operands : List Operand) (memory : List ℤ) (input output : List ℕ) → prog.limits.area ≤ 32768 → at + 7 ≡ to
       → HasAll image at (i86.Mov true true 3 (rms.Reg 0) ∷ i86.Shift 4 true false (rms.Reg 3) ∷ i86.Pop 0 ∷ i86.Mov true false 0 at_bx ∷ [])
@@ -554,7 +440,22 @@ module _ (rows : Rows) (prog : OrderProgram) (image : Image) (g : ℕ) (acts : L
   stores to line (Held c ∷ rest) memory input output low e i l = tt
   stores to line (Word a ∷ []) memory input output low e i l = tt
   stores to line (Word a ∷ Held c ∷ rest) memory input output low e i l = tt
-  stores to line (Word a ∷ Word z ∷ rest) memory input output low e i l = stores_word to line a (is_below a prog.limits.area) z rest memory input output low refl e i l
+  stores {p} {at} to line (Word a ∷ Word z ∷ rest) memory input output low e i l =
+      through_address prog.limits.area (λ k t. Changed (with_memory t (set t.memory k z))) a (record { operands = rest; memory = memory; input = input; output = output }) (λ o. Does prog image 4 to g false line acts output p (unrefused o)) tt (λ n is within.
+      let s = l.stacked in
+      let k = l.kept in
+      let h = l.operands in
+      let t = top_is prog acts l.stack (suc l.top) rest h.1.1 in
+      let top : l.top < 32764 = omega arith in
+      let lt : n < 32768 = omega arith in
+      let small : n < 65536 = omega arith in
+      let e' : at + 2 + 2 + 1 + 2 ≡ to = omega arith in
+      let ax : s.ax ≡ n = h.0 ∙ ap unsigned is ∙ unsigned_pos n small in
+      further 4 (lit≤ tt) (lit< tt)
+      (more rows {to = at + 2} {w = view s.ax s.cx s.dx n (2 * l.top) (record_of acts) s.si prog.limits.area s.overflow l.cells l.stack l.input l.told} s.is k.wrote (with_bx ax (move rows 3 0 i.0 s.is)) (λ q t.
+      more rows {to = at + 2 + 2} {w = view s.ax s.cx s.dx (2 * n) (2 * l.top) (record_of acts) s.si prog.limits.area (double_overflows n) l.cells l.stack l.input l.told} t k.wrote (double rows 3 lt i.1.0 t) (λ q t.
+      more rows {to = at + 2 + 2 + 1} {w = view (unsigned z) s.cx s.dx (2 * n) (2 * suc l.top) (record_of acts) s.si prog.limits.area (double_overflows n) l.cells l.stack l.input l.told} t k.wrote (with_ax h.1.0 (pop_ax l.top top i.1.1.0 t)) (λ q t.
+      last rows t k.wrote (landed false to (suc l.top) rest (set memory n z) input output e' h.1.1 (kept_stored n z within k) (store rows 0 n lt refl i.1.1.1.0 t)))))))
 
   -- the top operand goes to a word of the data area
   pub assigns : {p : Watched} {at : ℕ} (to offset n line : ℕ) (operands : List Operand) (memory : List ℤ) (input output : List ℕ) → prog.limits.area ≤ 32768 → n < 65536 → offset ≡ 2 * n % 65536 → at + 3 ≡ to
@@ -562,26 +463,13 @@ module _ (rows : Rows) (prog : OrderProgram) (image : Image) (g : ℕ) (acts : L
       → Does prog image 1 to g false line acts output p (unrefused (perform prog.limits.area (Store None) (record { operands = Word (signed n) ∷ operands; memory = memory; input = input; output = output })))
   assigns to offset n line [] memory input output low small there e i l = tt
   assigns to offset n line (Held c ∷ rest) memory input output low small there e i l = tt
-  assigns {p} {at} to offset n line (Word z ∷ rest) memory input output low small there e i l = cases (is_below (signed n) prog.limits.area) refl
-    where
-      cases : (b : Bool) → is_below (signed n) prog.limits.area ≡ b → Does prog image 1 to g false line acts output p (unrefused (through b (λ i t. Changed (with_memory t (set t.memory i z))) (signed n) (record { operands = rest; memory = memory; input = input; output = output })))
-      cases false is = tt
-      cases true is =
-          let s = l.stacked in
-          let k = l.kept in
-          let h = l.operands in
-          let m = number_of (signed n) in
-          let f = below_area rows.words prog.limits.area n low small is in
-          let within = f.within in
-          let same = f.same in
-          let lt : m < 32768 = omega arith in
-          let at_m : offset ≡ 2 * m = omega arith in
-          further 1 (lit≤ tt) (lit< tt)
-          (last rows s.is k.wrote (landed false to l.top rest (set memory m z) input output e h.1 (kept_stored m z within k) (store_at rows offset m lt at_m i (with_ax h.0 s.is))))
+  assigns {p} to offset n line (Word z ∷ rest) memory input output low small there e i l =
+      through_word rows.words prog.limits.area n low small (λ k t. Changed (with_memory t (set t.memory k z))) (record { operands = rest; memory = memory; input = input; output = output }) (λ o. Does prog image 1 to g false line acts output p (unrefused o)) tt (λ m within same.
+      let lt : m < 32768 = omega arith in
+      let at_m : offset ≡ 2 * m = omega arith in
+      further 1 (lit≤ tt) (lit< tt)
+      (last rows l.stacked.is l.kept.wrote (landed false to l.top rest (set memory m z) input output e l.operands.1 (kept_stored m z within l.kept) (store_at rows offset m lt at_m i (with_ax l.operands.0 l.stacked.is)))))
 
-  -- ---- the start of a statement
-
-  -- whatever the observer has noted
   -- ---- output
 
   -- the byte in AX is written

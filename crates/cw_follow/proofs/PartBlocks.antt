@@ -34,23 +34,22 @@ use Rattle.cw_tmpl.specs.Pieces.{Filling, blanks}
 use Rattle.cw_tmpl.specs.Templates.{frame_size, shifted_up, part_taken, address_pieces, operate_place, change_place}
 use Rattle.cw_tmpl.proofs.Lengths.{first_long, field_loaded, field_operated, field_changed}
 use Rattle.cw_i86.specs.Encoding.{bytes_of}
-use Rattle.cw_follow.proofs.Fields.{doubled_small, field_denotes}
-use Rattle.cw_follow.specs.Placing.{base_of}
+use Rattle.cw_follow.proofs.Fields.{field_denotes, frame_word_at}
 use Rattle.cw_follow.proofs.Watched.{Watched}
-use Rattle.cw_follow.proofs.Standing.{HasPieces, order_place, HasFrom}
+use Rattle.cw_follow.proofs.Standing.{HasPieces, HasFrom}
 use Rattle.cw_follow.proofs.Chains.{Is, Leads, view}
 use Rattle.cw_follow.proofs.Straight.{LoadSlot, straight}
-use Rattle.cw_follow.proofs.Routines.{with_ax, leads_on}
-use Rattle.cw_follow.proofs.Stacks.{level, record_of, StackIs, base_word}
-use Rattle.cw_follow.proofs.Orders.{Kept, Landed, Does, below_area, landed, kept_stored, further, fetches, LandedAt, over_landed}
+use Rattle.cw_follow.proofs.Routines.{with_ax, leads_on, leads_then}
+use Rattle.cw_follow.proofs.Stacks.{level, record_of, StackIs, base_word, base_there}
+use Rattle.cw_follow.proofs.Orders.{Kept, Landed, Does, landed, kept_stored, further, fetches, LandedAt, over_landed, through_word}
 use Rattle.cw_follow.proofs.Operands.{Setting, words, with_cells, LandedWith, DoesHere}
 use Rattle.cw_follow.proofs.Bits.{part, part_of_word, stored_is}
 use Rattle.cw_follow.proofs.Halves.{part_of}
-use Rattle.cw_follow.proofs.Shifts.{shift_steps, part_steps, few_steps, few_part_steps, shifts, takes_last, turns, leads_then}
+use Rattle.cw_follow.proofs.Shifts.{shift_steps, part_steps, few_steps, few_part_steps, shifts, takes_last, turns}
 use Rattle.cw_follow.proofs.FrameBlocks.{fetches_word}
 use Rattle.cw_follow.proofs.States.{Given, Sound}
 use Rattle.cw_follow.proofs.InBlocks.{chain}
-use Rattle.cw_follow.proofs.Steps.{Follow, setting, weight_is, block_code, block_ends, start_place, order_here, last_does, FollowFrom, begins_block, begun_block}
+use Rattle.cw_follow.proofs.Steps.{Follow, setting, weight_is, block_code, block_ends, start_place, order_here, last_does, FollowFrom, begins_block, begun_block, code_end}
 use Rattle.cw_follow.proofs.BlockOrders.{place_puts, block_follows, modes, saved, step_in}
 
 -- what stores a part, with its bits where they belong in AX
@@ -108,14 +107,10 @@ module _ (c : Setting) (value : Filling) (memory : List ℤ) (input output : Lis
       → DoesHere c memory input output steps to false 0 q (unrefused (perform c.program.limits.area (StoreBits t b) (put (signed n) (words operands memory input output))))
   part_at to n steps [] small more fits l each = tt
   part_at to n steps (Held d ∷ rest) small more fits l each = tt
-  part_at {q} to n steps (Word z ∷ rest) small more fits l each = cases (is_below (signed n) c.program.limits.area) refl
-    where
-      cases : (below : Bool) → is_below (signed n) c.program.limits.area ≡ below
-          → DoesHere c memory input output steps to false 0 q (unrefused (through below (λ k v. Changed (with_memory v (set v.memory k (with_bits t b (word_at v.memory k) z)))) (signed n) (words rest memory input output)))
-      cases false is = tt
-      cases true is =
-          let f = below_area c.rows.words c.program.limits.area n c.low small is in
-          further steps (let le : steps ≤ steps = omega arith in le) more (each (number_of (signed n)) f.within f.same z rest (All-head OperandFits (Word z) rest fits) l)
+  part_at {q} to n steps (Word z ∷ rest) small more fits l each =
+      through_word c.rows.words c.program.limits.area n c.low small (λ k v. Changed (with_memory v (set v.memory k (with_bits t b (word_at v.memory k) z)))) (words rest memory input output)
+      (λ o. DoesHere c memory input output steps to false 0 q (unrefused o)) tt (λ k within same.
+      further steps (let le : steps ≤ steps = omega arith in le) more (each k within same z rest (All-head OperandFits (Word z) rest fits) l))
 
   -- the word with the bits of the part
   stored : {r : Watched} {at ax cx dx bx si : ℕ} {overflow : Bool} {cells stack : ℕ → ℕ} {left : List ℕ} {told : Told} (to k top : ℕ) (z : ℤ) (rest : List Operand) → k < c.program.limits.area → at ≡ to
@@ -155,15 +150,9 @@ module _ (c : Setting) (value : Filling) (memory : List ℤ) (input output : Lis
       part_at to (a.frame_base + n) (shift_steps b + 4) operands (let area_low = c.low in omega arith) (omega arith) fits l
       (λ k within same z rest fz l.
       let low = c.low in
-      let lt : k < 32768 = omega arith in
-      let r = level c.acts in
-      let bp = record_of c.acts in
       let kept = l.kept in
-      let base : r + 1 < 32768 = omega arith in
-      let slot_base : (bp + 65530) % 65536 ≡ 2 * (r + 1) = omega arith in
       let twice = 2 * a.frame_base % 65536 in
-      let base_is : base_word c.program c.acts ≡ twice = ap (base_word c.program) acts_are in
-      let address : (twice + 2 * n % 65536) % 65536 ≡ 2 * k = omega arith in
+      let word = frame_word_at c.program.limits.area a.frame_base n k low within same in
       shifts c.rows c.image value to output Up b {m = 4} {Target = Stored to k z rest} (address_pieces (cell.Frame n) ++ changed_at t b (cell.Frame n)) (omega arith) (c.rows.words.unsigned_fits z fz) kept.wrote (i, e) (with_ax l.operands.0 l.stacked.is)
       (λ q' place x cx overflow is code s.
       let h = code.0 in
@@ -171,10 +160,10 @@ module _ (c : Setting) (value : Filling) (memory : List ℤ) (input output : Lis
       let d = 2 * n % 65536 in
       let size = length (bytes_of (operate 6 0 (field d))) in
       let last = pieces.Whole (change 6 (field d) 0) ∷ [] in
-      let named = λ (y : ℕ). field_denotes c.image.bytes (y ∷ cx ∷ l.stacked.dx ∷ twice ∷ 2 * l.top ∷ bp ∷ l.stacked.si ∷ c.program.limits.area ∷ []) d k lt (doubled_small a.frame_base) address in
+      let named = λ (y : ℕ). field_denotes c.image.bytes (y ∷ cx ∷ l.stacked.dx ∷ twice ∷ 2 * l.top ∷ record_of c.acts ∷ l.stacked.si ∷ c.program.limits.area ∷ []) d k word.low word.small word.there in
       let long : length (bytes_of (change 6 (field d) 0)) ≡ size = field_changed 6 0 d ∙ sym (field_operated 6 0 d) in
       let there : place + 3 + size + 3 + size ≡ to = omega (arith, end, long, first_long (operate 6 0 (field d)) (pieces.Whole (with_number 4 (field_mask t b)) ∷ last), first_long (change 6 (field d) 0) []) in
-      straight c.rows (LoadSlot 3 0xFA (r + 1) twice ∷ []) {n = 3} kept.wrote (h.0, tt) ((base, slot_base, kept.piled.0.base_is ∙ base_is), tt) s (λ q'' s'.
+      straight c.rows (LoadSlot 3 0xFA (level c.acts + 1) twice ∷ []) {n = 3} kept.wrote (h.0, tt) (base_there c.program c.acts (ap (base_word c.program) acts_are) kept.piled.0, tt) s (λ q'' s'.
       leads_on (λ x u. stored to k l.top z rest within there l.operands.1 kept u)
       (turns c.rows size k (field_mask t b) (unsigned (word_at memory k)) (field (2 * n % 65536)) (field (2 * n % 65536)) kept.wrote (kept.words k within)
       named named refl long (let some : 0 < size = omega (arith, field_operated 6 0 d) in some) h.1.0 h.1.1.0 h.1.1.1.0 (with_ax is s')))))
@@ -185,10 +174,6 @@ module _ (known : Given) where
   open known use {rows, p, image, all, coded, few, low}
 
   module _ {q : Watched} {g place : ℕ} {loaded : Bool} {acts : List OrderActivation} {w : Words} (s : Sound p image g place loaded acts w q) where
-    -- where the code of the block ends, where its last order is at work
-    abbrev block_end : ℕ
-    block_end = order_place (base_of p g) s.orders (place + 1)
-
     abbrev from_here : ℕ
     from_here = start_place known s
 
@@ -211,9 +196,9 @@ module _ (known : Given) where
         let code = block_code known s B (order.Home f n) (o ∷ rest) e is in
         let v = s.before in
         let behind = ends.behind in
-        let last_end : from_here + 3 + length (blanks (part_taken t b is_signed)) ≡ block_end = omega arith in
+        let last_end : from_here + 3 + length (blanks (part_taken t b is_signed)) ≡ code_end known s = omega arith in
         last_does known s true 0 (λ v. unrefused (perform p.limits.area (Fetch (part t b (not is_signed))) v)) 5 1 _ is_done e ends.begins (step_in known s true o before.now here) paid
-        (part_behind (setting known s) words_of v.memory v.input v.output s.fits_before.memory before.landed.kept.long t b bits.0 bits.1 (begun_block known s) (from_here + 3) 1 block_end is_signed (signed word) v.operands last_end code.1
+        (part_behind (setting known s) words_of v.memory v.input v.output s.fits_before.memory before.landed.kept.long t b bits.0 bits.1 (begun_block known s) (from_here + 3) 1 (code_end known s) is_signed (signed word) v.operands last_end code.1
         (fetches rows p image g acts (from_here + 3) (st.value 2 f n (from_here + 3)) word 0 v low small (st.fills.bytes f n (from_here + 3)) refl code.0 (over_landed (begins_block known s) before.landed)))
     fetch_part_last (cell.Frame n) t b is_signed rest is_done e part_is is =
         let o = order.LoadPart t b is_signed in
@@ -225,13 +210,13 @@ module _ (known : Given) where
         let bits = part_of t b part_is in
         let code = block_code known s B (order.FrameHome n) (o ∷ rest) e is in
         let behind = ends.behind in
-        let last_end : from_here + 3 + length (bytes_of (load 0 (field (2 * n % 65536)))) + length (blanks (part_taken t b is_signed)) ≡ block_end = omega (arith, behind, first_long (load 0 (field (2 * n % 65536))) (part_taken t b is_signed)) in
+        let last_end : from_here + 3 + length (bytes_of (load 0 (field (2 * n % 65536)))) + length (blanks (part_taken t b is_signed)) ≡ code_end known s = omega (arith, behind, first_long (load 0 (field (2 * n % 65536))) (part_taken t b is_signed)) in
         last_does known s true 0 (λ v. unrefused (perform p.limits.area (Fetch (part t b (not is_signed))) v)) 6 1 _ is_done e ends.begins (step_in known s true o before.now here) paid
         (frame_part acts refl t b is_signed n bits.0 bits.1 last_end (code.0, (code.1.0, tt)) code.1.1 (over_landed (begins_block known s) before.landed))
       where
-        frame_part : (xs : List OrderActivation) → acts ≡ xs → (t b : ℕ) (is_signed : Bool) (n : ℕ) → 1 ≤ t → t + b ≤ 16 → from_here + 3 + length (bytes_of (load 0 (field (2 * n % 65536)))) + length (blanks (part_taken t b is_signed)) ≡ block_end
+        frame_part : (xs : List OrderActivation) → acts ≡ xs → (t b : ℕ) (is_signed : Bool) (n : ℕ) → 1 ≤ t → t + b ≤ 16 → from_here + 3 + length (bytes_of (load 0 (field (2 * n % 65536)))) + length (blanks (part_taken t b is_signed)) ≡ code_end known s
             → HasFrom (begins_block known s) image from_here (load 3 (slot base_slot) ∷ load 0 (field (2 * n % 65536)) ∷ []) → HasPieces image words_of (from_here + 3 + length (bytes_of (load 0 (field (2 * n % 65536))))) (part_taken t b is_signed) → LandedAt (begins_block known s) p image from_here g false acts s.before (begun_block known s)
-            → Does p image 6 block_end g true 0 acts s.before.output (begun_block known s) (chain (chain (put_address (frame_word p.limits.area xs n) s.before) Changed) (λ v. unrefused (perform p.limits.area (Fetch (part t b (not is_signed))) v)))
+            → Does p image 6 (code_end known s) g true 0 acts s.before.output (begun_block known s) (chain (chain (put_address (frame_word p.limits.area xs n) s.before) Changed) (λ v. unrefused (perform p.limits.area (Fetch (part t b (not is_signed))) v)))
         frame_part [] is t b is_signed n some room e i code l = tt
         frame_part (a ∷ under) is t b is_signed n some room e i code l =
             cases (nat_lt (a.frame_base + n) p.limits.area)
@@ -243,11 +228,11 @@ module _ (known : Given) where
 
             cases : (inside : Bool)
                 → Does p image 2 (from_here + 3 + length (bytes_of (load 0 (field (2 * n % 65536))))) g true 0 acts s.before.output (begun_block known s) (chain (chain (put_address (if inside then Some (a.frame_base + n) else None) s.before) Changed) (λ v. unrefused (perform p.limits.area (Fetch None) v)))
-                → Does p image 6 block_end g true 0 acts s.before.output (begun_block known s) (chain (chain (put_address (if inside then Some (a.frame_base + n) else None) s.before) Changed) (λ v. unrefused (perform p.limits.area (Fetch (part t b (not is_signed))) v)))
+                → Does p image 6 (code_end known s) g true 0 acts s.before.output (begun_block known s) (chain (chain (put_address (if inside then Some (a.frame_base + n) else None) s.before) Changed) (λ v. unrefused (perform p.limits.area (Fetch (part t b (not is_signed))) v)))
             cases false d = tt
             cases true d =
                 let v = s.before in
-                part_behind (setting known s) words_of v.memory v.input v.output s.fits_before.memory l.kept.long t b some room (begun_block known s) (from_here + 3 + length (bytes_of (load 0 (field (2 * n % 65536))))) 2 block_end is_signed (signed (a.frame_base + n)) v.operands e code d
+                part_behind (setting known s) words_of v.memory v.input v.output s.fits_before.memory l.kept.long t b some room (begun_block known s) (from_here + 3 + length (bytes_of (load 0 (field (2 * n % 65536))))) 2 (code_end known s) is_signed (signed (a.frame_base + n)) v.operands e code d
 
     pub fetch_part_follows : (x : Place) (t b : ℕ) (is_signed : Bool) (rest : List Order) → drop s.from s.orders.list ≡ address_orders x ++ order.LoadPart t b is_signed ∷ rest → is_part t b ≡ true
         → block_at 0 (drop s.from s.orders.list) ≡ block.FetchPart x t b is_signed → FollowFrom known (begun_block known s) (at g place loaded acts w Running) q
@@ -271,7 +256,7 @@ module _ (known : Given) where
         let bits = part_of t b part_is in
         let v = s.before in
         last_does known s false 0 (λ v. unrefused (perform p.limits.area (StoreBits t b) v)) (shift_steps b + 3) 2 _ is_done e ends.begins (step_in known s true o before.now here) paid
-        (stores_in_word (setting known s) words_of v.memory v.input v.output s.fits_before.memory before.landed.kept.long t b bits.0 bits.1 block_end f n word v.operands small (λ after. st.fills.bytes f n after)
+        (stores_in_word (setting known s) words_of v.memory v.input v.output s.fits_before.memory before.landed.kept.long t b bits.0 bits.1 (code_end known s) f n word v.operands small (λ after. st.fills.bytes f n after)
         (block_code known s B order.Save os e is) ends.behind s.fits_before.operands before.landed)
     assign_part_last (cell.Frame n) t b rest is_done e part_is is =
         let o = order.StorePart t b in
@@ -287,18 +272,18 @@ module _ (known : Given) where
         (frame_part acts refl t b n bits.0 bits.1 ends.behind (block_code known s B order.Save os e is) before.landed)
       where
         frame_part : (xs : List OrderActivation) → acts ≡ xs → (t b n : ℕ) → 1 ≤ t → t + b ≤ 16
-            → from_here + length (blanks (shifted_up b ++ (address_pieces (cell.Frame n) ++ changed_at t b (cell.Frame n)))) ≡ block_end → HasPieces image words_of from_here (shifted_up b ++ (address_pieces (cell.Frame n) ++ changed_at t b (cell.Frame n)))
+            → from_here + length (blanks (shifted_up b ++ (address_pieces (cell.Frame n) ++ changed_at t b (cell.Frame n)))) ≡ code_end known s → HasPieces image words_of from_here (shifted_up b ++ (address_pieces (cell.Frame n) ++ changed_at t b (cell.Frame n)))
             → Landed p image from_here g true acts s.before q
-            → Does p image (shift_steps b + 4) block_end g false 0 acts s.before.output q (chain (chain (put_address (frame_word p.limits.area xs n) s.before) Changed) (λ v. unrefused (perform p.limits.area (StoreBits t b) v)))
+            → Does p image (shift_steps b + 4) (code_end known s) g false 0 acts s.before.output q (chain (chain (put_address (frame_word p.limits.area xs n) s.before) Changed) (λ v. unrefused (perform p.limits.area (StoreBits t b) v)))
         frame_part [] is t b n some room e code l = tt
         frame_part (a ∷ under) is t b n some room e code l = cases (nat_lt (a.frame_base + n) p.limits.area) refl
           where
             cases : (inside : Bool) → nat_lt (a.frame_base + n) p.limits.area ≡ inside
-                → Does p image (shift_steps b + 4) block_end g false 0 acts s.before.output q (chain (chain (put_address (if inside then Some (a.frame_base + n) else None) s.before) Changed) (λ v. unrefused (perform p.limits.area (StoreBits t b) v)))
+                → Does p image (shift_steps b + 4) (code_end known s) g false 0 acts s.before.output q (chain (chain (put_address (if inside then Some (a.frame_base + n) else None) s.before) Changed) (λ v. unrefused (perform p.limits.area (StoreBits t b) v)))
             cases false is_out = tt
             cases true is_in =
                 let v = s.before in
-                stores_in_frame (setting known s) words_of v.memory v.input v.output s.fits_before.memory l.kept.long t b some room block_end n a under v.operands is (ltb-true (a.frame_base + n) p.limits.area is_in) code e s.fits_before.operands l
+                stores_in_frame (setting known s) words_of v.memory v.input v.output s.fits_before.memory l.kept.long t b some room (code_end known s) n a under v.operands is (ltb-true (a.frame_base + n) p.limits.area is_in) code e s.fits_before.operands l
 
     pub assign_part_follows : (x : Place) (t b : ℕ) (rest : List Order) → drop s.from s.orders.list ≡ order.Save ∷ (address_orders x ++ order.StorePart t b ∷ rest) → is_part t b ≡ true
         → block_at 0 (drop s.from s.orders.list) ≡ block.AssignPart x t b → Follow known (at g place loaded acts w Running) q

@@ -1,5 +1,5 @@
 -- What the code of an activation's own orders does: the way back, the words of its frame, and its arguments.
-use Rattle.std.proofs.Common.{length, ◌≡◌, ℕ, ◌+◌, ◌*◌, ◌/◌, ◌%◌, ◌^◌, ◌<◌, ◌≤◌, Bool, true, false, ℤ, pos, List, [], ◌∷◌, ◌++◌, set, Option, Some, None, refl, sym, ap, ◌∙◌, subst, arith, lit<, lit≤}
+use Rattle.std.proofs.Common.{length, ◌≡◌, ℕ, ◌+◌, ◌*◌, ◌/◌, ◌%◌, ◌^◌, ◌<◌, ◌≤◌, Bool, true, false, ℤ, List, [], ◌∷◌, ◌++◌, set, Option, Some, None, refl, sym, ap, ◌∙◌, subst, arith, lit<, lit≤}
 use Rattle.std.specs.Prelude.{slice_get, nat_lt, if◌then◌else◌}
 use borrow.Author.Tests.{ltb-true}
 use Rattle.cw_i86.specs.declared.instr.Instr.TheVariants as i86
@@ -10,7 +10,7 @@ use Rattle.cw_rows86.specs.Locations.{InRegister}
 use Rattle.cw_rows86.specs.Operations.{Down}
 use Rattle.cw_rows86.specs.Acts.{Shift}
 use Rattle.cw_word.specs.Word.{unsigned}
-use Rattle.cw_unit.specs.Words.{Operand, Word, Held, Words, Changed, Impossible, put, with_memory, through, is_below}
+use Rattle.cw_unit.specs.Words.{Operand, Word, Held, Words, Changed, Impossible, put, with_memory}
 use Rattle.cw_order.specs.OrderProgram.{OrderProgram}
 use Rattle.cw_order.specs.OrderState.{OrderActivation, operand_words, argument_behind, frame_word}
 use Rattle.cw_order.specs.OrderChanges.{bind}
@@ -22,15 +22,15 @@ use Rattle.cw_routines.specs.Ways.{QuietAll}
 use Rattle.cw_routines.specs.Results.{Quiet, leave}
 use Rattle.cw_tmpl.specs.Templates.{frame_size, argument_load_size}
 use Rattle.cw_i86.specs.Encoding.{bytes_of}
-use Rattle.cw_follow.proofs.Fields.{doubled_small}
+use Rattle.cw_follow.proofs.Fields.{frame_word_at}
 use Rattle.cw_follow.proofs.Watched.{Watched}
 use Rattle.cw_follow.proofs.Rows.{Rows}
 use Rattle.cw_follow.proofs.Acting.{act}
 use Rattle.cw_follow.proofs.Chains.{Is, Leads, view, seen, to_place, store_at, more, last, done}
 use Rattle.cw_follow.proofs.Straight.{LoadArgument, LoadSlot, StoreField, SumNumber, straight, straight_from}
 use Rattle.cw_follow.proofs.Routines.{quiet_in, quiet_all, there_all, flags_of, arrives, returned, lifted, leads_on}
-use Rattle.cw_follow.proofs.Stacks.{start_small, level, record_of, code_place, StackIs, top_is, behind_arguments, argument_words}
-use Rattle.cw_follow.proofs.Orders.{Kept, kept_stored, Landed, landed, Leading, Does, further, LandedAt}
+use Rattle.cw_follow.proofs.Stacks.{start_small, level, record_of, code_place, StackIs, top_is, behind_arguments, argument_words, base_there}
+use Rattle.cw_follow.proofs.Orders.{Kept, kept_stored, Landed, landed, Leading, Does, further, LandedAt, through_number}
 use Rattle.cw_follow.proofs.Standing.{HasAll, Image, HasFrom}
 
 module _ (rows : Rows) (prog : OrderProgram) (image : Image) where
@@ -99,20 +99,26 @@ module _ (rows : Rows) (prog : OrderProgram) (image : Image) where
   frame_homes {q} {first} {at} g to n a acts z w low_area inside e value i l =
       let s = l.stacked in
       let k = l.kept in
-      let r = level (a ∷ acts) in
-      let low : r + 1 < 32768 = omega arith in
-      let slot_base : (record_of (a ∷ acts) + 65530) % 65536 ≡ 2 * (r + 1) = omega arith in
       let twice = 2 * a.frame_base % 65536 in
       let small : twice < 65536 = omega arith in
       let sum : word_sum (twice / 2 ^ 1) n ≡ unsigned z = omega (arith, value) in
       let end : at + 3 + 2 + 3 ≡ to = omega arith in
       further 3 (lit≤ tt) (lit< tt)
-      (straight_from rows (LoadSlot 0 0xFA (r + 1) twice) [] {n = 2} k.wrote (i.0, tt) ((low, slot_base, k.piled.0.base_is), tt) s.is (λ q u.
+      (straight_from rows (LoadSlot 0 0xFA (level (a ∷ acts) + 1) twice) [] {n = 2} k.wrote (i.0, tt) (base_there prog (a ∷ acts) refl k.piled.0, tt) s.is (λ q u.
       more rows u k.wrote (act rows (Shift Down false (rms.Reg 0) (InRegister 0) twice) (lit< tt) i.1.0 ((refl, tt, refl), small) u).is (λ q u.
       straight rows (SumNumber n ∷ []) {n = 0} k.wrote (i.1.1.0, tt) (tt, tt) u (λ q u.
       done (landed rows prog image g (a ∷ acts) true to l.top (Word z ∷ w.operands) w.memory w.input w.output end (sum, l.operands) k u)))))
 
   -- ---- arguments
+
+  -- where BP leads to an argument of the activation at work
+  argument_there : {g : ℕ} {memory : List ℤ} {input output : List ℕ} {cells stack : ℕ → ℕ} {left : List ℕ} {told : Told} (a : OrderActivation) (acts : List OrderActivation) (k : ℕ) (z : ℤ)
+      → Kept prog g (a ∷ acts) memory input output cells stack left told → argument_behind k a.arguments ≡ Some (Word z)
+      → (level (a ∷ acts) + 6 + k < 32768) × ((record_of (a ∷ acts) + (4 + 2 * k)) % 65536 ≡ 2 * (level (a ∷ acts) + 6 + k)) × (stack (level (a ∷ acts) + 6 + k) ≡ unsigned z)
+  argument_there {stack = stack} a acts k z c is =
+      let arg = argument_words prog acts stack (level (a ∷ acts) + 6) k a.arguments a.operands (Word z) c.piled.1.0.operands is in
+      let below = arg.1 in
+      (omega arith, omega arith, arg.0)
 
   -- a word of the arguments goes to a word of the data area
   pub binds : {q : Watched} {at : ℕ} (g to k n offset line : ℕ) (a : OrderActivation) (acts : List OrderActivation) (x : Option Operand) (w : Words) → prog.limits.area ≤ 32768
@@ -121,26 +127,17 @@ module _ (rows : Rows) (prog : OrderProgram) (image : Image) where
       → Does prog image 2 to g false line (a ∷ acts) w.output q (unrefused (bind prog.limits.area x (Some n) w))
   binds g to k n offset line a acts None w low is e filled i l = tt
   binds g to k n offset line a acts (Some (Held c)) w low is e filled i l = tt
-  binds {q} {at} g to k n offset line a acts (Some (Word z)) w low is e filled i l = cases (is_below (pos n) prog.limits.area) refl
-    where
-      cases : (b : Bool) → is_below (pos n) prog.limits.area ≡ b
-          → Does prog image 2 to g false line (a ∷ acts) w.output q (unrefused (through b (λ j v. Changed (with_memory v (set v.memory j z))) (pos n) w))
-      cases false b = tt
-      cases true b =
-          let s = l.stacked in
-          let c = l.kept in
-          let r = level (a ∷ acts) in
-          let within : n < prog.limits.area = ltb-true n prog.limits.area b in
-          let arg = argument_words prog acts l.stack (r + 6) k a.arguments a.operands (Word z) c.piled.1.0.operands is in
-          let below = arg.1 in
-          let small : r + 6 + k < 32768 = omega arith in
-          let there : (record_of (a ∷ acts) + (4 + 2 * k)) % 65536 ≡ 2 * (r + 6 + k) = omega arith in
-          let lt : n < 32768 = omega arith in
-          let address : offset ≡ 2 * n = omega arith in
-          let end : at + length (bytes_of (load 0 (argument k))) + 3 ≡ to = omega (arith, e, argument_loaded 0 k) in
-          further 2 (lit≤ tt) (lit< tt)
-          (straight rows (LoadArgument 0 k (r + 6 + k) (unsigned z) ∷ []) {n = 1} c.wrote (i.0, tt) ((small, there, arg.0), tt) s.is (λ q u.
-          last rows u c.wrote (landed rows prog image g (a ∷ acts) false to l.top w.operands (set w.memory n z) w.input w.output end l.operands (kept_stored n z within c) (store_at rows offset n lt address i.1.0 u))))
+  binds {q} {at} g to k n offset line a acts (Some (Word z)) w low is e filled i l =
+      through_number prog.limits.area n (λ j v. Changed (with_memory v (set v.memory j z))) w (λ o. Does prog image 2 to g false line (a ∷ acts) w.output q (unrefused o)) tt (λ within.
+      let s = l.stacked in
+      let c = l.kept in
+      let arg = argument_there a acts k z c is in
+      let lt : n < 32768 = omega arith in
+      let address : offset ≡ 2 * n = omega arith in
+      let end : at + length (bytes_of (load 0 (argument k))) + 3 ≡ to = omega (arith, e, argument_loaded 0 k) in
+      further 2 (lit≤ tt) (lit< tt)
+      (straight rows (LoadArgument 0 k (level (a ∷ acts) + 6 + k) (unsigned z) ∷ []) {n = 1} c.wrote (i.0, tt) (arg, tt) s.is (λ q u.
+      last rows u c.wrote (landed rows prog image g (a ∷ acts) false to l.top w.operands (set w.memory n z) w.input w.output end l.operands (kept_stored n z within c) (store_at rows offset n lt address i.1.0 u)))))
 
   -- or to a word of the frame
   binds_inside : {q : Watched} {at : ℕ} (g to k offset line : ℕ) (a : OrderActivation) (acts : List OrderActivation) (x : Option Operand) (w : Words) → prog.limits.area ≤ 32768
@@ -150,34 +147,16 @@ module _ (rows : Rows) (prog : OrderProgram) (image : Image) where
       → Does prog image 3 to g false line (a ∷ acts) w.output q (unrefused (bind prog.limits.area x (Some (a.frame_base + offset)) w))
   binds_inside g to k offset line a acts None w low inside is e i l = tt
   binds_inside g to k offset line a acts (Some (Held c)) w low inside is e i l = tt
-  binds_inside {q} {at} g to k offset line a acts (Some (Word z)) w low inside is e i l = cases (is_below (pos n) prog.limits.area) refl
-    where
-      n : ℕ
-      n = a.frame_base + offset
-
-      cases : (b : Bool) → is_below (pos n) prog.limits.area ≡ b
-          → Does prog image 3 to g false line (a ∷ acts) w.output q (unrefused (through b (λ j v. Changed (with_memory v (set v.memory j z))) (pos n) w))
-      cases false b = tt
-      cases true b =
-          let s = l.stacked in
-          let c = l.kept in
-          let r = level (a ∷ acts) in
-          let bp = record_of (a ∷ acts) in
-          let twice = 2 * a.frame_base % 65536 in
-          let within : n < prog.limits.area = ltb-true n prog.limits.area b in
-          let arg = argument_words prog acts l.stack (r + 6) k a.arguments a.operands (Word z) c.piled.1.0.operands is in
-          let below = arg.1 in
-          let small : r + 6 + k < 32768 = omega arith in
-          let there : (bp + (4 + 2 * k)) % 65536 ≡ 2 * (r + 6 + k) = omega arith in
-          let base_at : r + 1 < 32768 = omega arith in
-          let slot_base : (bp + 65530) % 65536 ≡ 2 * (r + 1) = omega arith in
-          let lt : n < 32768 = omega arith in
-          let address : (twice + 2 * offset % 65536) % 65536 ≡ 2 * n = omega arith in
-          let end : at + length (bytes_of (load 1 (argument k))) + 3 + length (bytes_of (store (field (2 * offset % 65536)) cx)) ≡ to = omega (arith, e, argument_loaded 1 k, field_stored cx (2 * offset % 65536)) in
-          let pieces = LoadArgument 1 k (r + 6 + k) (unsigned z) ∷ LoadSlot 3 0xFA (r + 1) twice ∷ StoreField 1 (2 * offset % 65536) n ∷ [] in
-          further 3 (lit≤ tt) (lit< tt)
-          (straight rows pieces {n = 0} c.wrote i ((small, there, arg.0), ((base_at, slot_base, c.piled.0.base_is), ((lt, doubled_small a.frame_base, address), tt))) s.is (λ q u.
-          done (landed rows prog image g (a ∷ acts) false to l.top w.operands (set w.memory n z) w.input w.output end l.operands (kept_stored n z within c) u)))
+  binds_inside {q} {at} g to k offset line a acts (Some (Word z)) w low inside is e i l =
+      let n = a.frame_base + offset in
+      through_number prog.limits.area n (λ j v. Changed (with_memory v (set v.memory j z))) w (λ o. Does prog image 3 to g false line (a ∷ acts) w.output q (unrefused o)) tt (λ within.
+      let c = l.kept in
+      let word = frame_word_at prog.limits.area a.frame_base offset n low within refl in
+      let end : at + length (bytes_of (load 1 (argument k))) + 3 + length (bytes_of (store (field (2 * offset % 65536)) cx)) ≡ to = omega (arith, e, argument_loaded 1 k, field_stored cx (2 * offset % 65536)) in
+      further 3 (lit≤ tt) (lit< tt)
+      (straight rows (LoadArgument 1 k (level (a ∷ acts) + 6 + k) (unsigned z) ∷ LoadSlot 3 0xFA (level (a ∷ acts) + 1) (2 * a.frame_base % 65536) ∷ StoreField 1 (2 * offset % 65536) n ∷ []) {n = 0} c.wrote i
+      (argument_there a acts k z c is, (base_there prog (a ∷ acts) refl c.piled.0, ((word.low, word.small, word.there), tt))) l.stacked.is (λ q u.
+      done (landed rows prog image g (a ∷ acts) false to l.top w.operands (set w.memory n z) w.input w.output end l.operands (kept_stored n z within c) u))))
 
   bind_nowhere : (x : Option Operand) (w : Words) → unrefused (bind prog.limits.area x None w) ≡ Impossible
   bind_nowhere None w = refl

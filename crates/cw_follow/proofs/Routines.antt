@@ -2,7 +2,7 @@
 use Rattle.std.proofs.Common.{◌≡◌, ◌≢◌, ℕ, suc, ◌+◌, ◌*◌, ◌%◌, ◌<◌, Bool, true, false, List, [], ◌∷◌, length, lit<, refl, sym, ap, ap₂, ◌∙◌, subst, arith}
 use Rattle.std.proofs.lemmas.Bool.{false≢true}
 use Rattle.std.proofs.lemmas.Bool.Decides.{nat_tests}
-use Rattle.cw_track.proofs.Paths.{Path, stay, next}
+use Rattle.cw_track.proofs.Paths.{Path, stay, next, join}
 use Rattle.cw_i86.specs.declared.flags.Flags.{Flags}
 use Rattle.cw_i86.specs.Encoding.{bytes_of}
 use Rattle.cw_i86.specs.declared.instr.Instr.{Instr}
@@ -126,6 +126,24 @@ pub with_ax : {image : Image} {at ax x cx dx bx sp bp si di : ℕ} {overflow : B
 with_ax {image} {at} {ax} {x} {cx} {dx} {bx} {sp} {bp} {si} {di} {overflow} {cells} {stack} {input} {told} {p} e s =
     subst (λ a. Is image at (view a cx dx bx sp bp si di overflow cells stack input told) p) e s
 
+-- what a processor holds beside its registers, with the number of the word that SP leads to
+pub record Around : Type 0 where
+  pub overflow : Bool
+  pub top : ℕ
+  pub cells : ℕ → ℕ
+  pub stack : ℕ → ℕ
+  pub left : List ℕ
+  pub told : Told
+
+-- and with the registers beside AX
+pub record Beside : Type 0 where
+  pub cx : ℕ
+  pub dx : ℕ
+  pub bx : ℕ
+  pub si : ℕ
+  pub around : Around
+  pub open around use *
+
 -- the processor with BP at a record, SP at a word of the stack, and the words of the data area in DI
 pub record StackedAt (first : Bool) (image : Image) (at top bp area : ℕ) (cells stack : ℕ → ℕ) (input : List ℕ) (told : Told) (p : Watched) : Type 0 where
   pub ax : ℕ
@@ -141,6 +159,13 @@ Stacked image at top bp area cells stack input told p = StackedAt false image at
 
 pub leads_on : {output : List ℕ} {n : ℕ} {p : Watched} {T U : Watched → Type 0} → ((q : Watched) → T q → U q) → Leads output n p T → Leads output n p U
 leads_on f l = record { reached = l.reached; path = l.path; there = f l.reached l.there }
+
+-- one way behind another
+pub joined : {output : List ℕ} {n m : ℕ} {p : Watched} {T U : Watched → Type 0} → (l : Leads output n p T) → Leads output m l.reached U → Leads output (n + m) p U
+joined {n = n} {m = m} {p = p} l r = record { reached = r.reached; path = join _ watched_machine n m (n + m) p l.reached r.reached refl l.path r.path; there = r.there }
+
+pub leads_then : {output : List ℕ} {n m : ℕ} {p : Watched} {T U : Watched → Type 0} → Leads output n p T → ((q : Watched) → T q → Leads output m q U) → Leads output (n + m) p U
+leads_then l on = joined l (on l.reached l.there)
 
 -- ---- stops
 

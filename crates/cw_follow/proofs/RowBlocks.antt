@@ -4,8 +4,6 @@
 use Rattle.std.proofs.Common.{◌≡◌, inl, inr, ℕ, zero, suc, ◌+◌, ◌*◌, ◌%◌, ◌<◌, ◌≤◌, Bool, true, false, ℤ, pos, ◌-ℤ◌, List, [], ◌∷◌, ◌++◌, length, drop, Some, None, refl, sym, ap, ◌∙◌, subst, arith, lit<, lit≤}
 use Rattle.std.specs.Prelude.{slice_get, int_le, ◌&&◌}
 use Rattle.std.proofs.Math.Nat.{mul-le-mul_right}
-use Rattle.std.proofs.lemmas.List.Elements.{All-head}
-use Rattle.std.specs.List.{All}
 use Rattle.cw_i86.specs.Encoding.{bytes_of}
 use Rattle.cw_run86.specs.Views.{word_sum}
 use Rattle.cw_word.specs.FixedPoint.{FitsWord}
@@ -17,14 +15,11 @@ use Rattle.cw_order.specs.declared.order.Order.{Order}
 use Rattle.cw_order.specs.declared.order.Order.TheVariants as order
 use Rattle.cw_order.specs.declared.order.Place.{Place}
 use Rattle.cw_order.specs.declared.order.Place.TheVariants as cell
-use Rattle.cw_order.specs.FittingWords.{OperandFits}
-use Rattle.cw_order.specs.Loading.{loaded_after}
 use Rattle.cw_order.specs.OrderActions.{home_word, place_address}
 use Rattle.cw_order.specs.OrderChanges.{from_base}
 use Rattle.cw_order.specs.OrderMachine.{unrefused, weight}
 use Rattle.cw_order.specs.OrderProgram.{order_at}
-use Rattle.cw_order.specs.OrderState.{OrderActivation, at as at_order, operand_words, frame_word}
-use Rattle.cw_tmpl.specs.declared.blocks.Bounds.{Bounds}
+use Rattle.cw_order.specs.OrderState.{OrderActivation, at as at_order, frame_word}
 use Rattle.cw_tmpl.specs.declared.blocks.Form.TheVariants as form
 use Rattle.cw_tmpl.specs.declared.blocks.Block.TheVariants as block
 use Rattle.cw_tmpl.specs.declared.rows.Column.{Column}
@@ -43,25 +38,23 @@ use Rattle.cw_tmpl.specs.ReferenceCode.{reach_of}
 use Rattle.cw_tmpl.proofs.Lengths.{field_loaded}
 use Rattle.cw_tmpl.proofs.Sizes.{row_long, column_long, formed_long, size_to}
 use Rattle.cw_follow.proofs.Watched.{Watched}
-use Rattle.cw_follow.proofs.Chains.{Leads, more, done}
+use Rattle.cw_follow.proofs.Chains.{Leads, done}
 use Rattle.cw_follow.proofs.Straight.{Number, straight}
 use Rattle.cw_follow.proofs.Standing.{HasPieces, stand_both}
-use Rattle.cw_follow.proofs.Shifts.{leads_then}
-use Rattle.cw_follow.proofs.Routines.{leads_on}
-use Rattle.cw_follow.proofs.Stacks.{level}
+use Rattle.cw_follow.proofs.Routines.{leads_on, leads_then}
 use Rattle.cw_follow.proofs.Orders.{Landed, Does, later, further}
-use Rattle.cw_follow.proofs.Operands.{One, one_there, LandedWith, DoesHere, result}
+use Rattle.cw_follow.proofs.Operands.{One, DoesHere, result}
 use Rattle.cw_follow.proofs.Numbers.{unsigned_pos}
 use Rattle.cw_follow.proofs.Addresses.{count_passes, count_stops}
 use Rattle.cw_follow.proofs.Indexed.{BetweenBounds, from_word, between_bounds, past_bounds, lower_steps, few_lower, loaded_steps, lower_long, index_by_word, index_by_frame, less_lower}
 use Rattle.cw_follow.proofs.ElementTests.{address_order, index_first, index_read, many_between, order_there, none_inside, over_inside}
 use Rattle.cw_follow.proofs.ElementOrders.{stops_follow}
-use Rattle.cw_follow.proofs.BoundedBlocks.{InTop, forms, formed_steps, few_formed, same_mode, lower_long as top_lower_long, less_lower as top_less_lower}
+use Rattle.cw_follow.proofs.BoundedBlocks.{InTop, forms, formed_steps, few_formed, lower_long as top_lower_long, less_lower as top_less_lower, is_between, top_there, top_fits, comparing_follows}
 use Rattle.cw_follow.proofs.FrameBlocks.{frame_word_inside}
 use Rattle.cw_follow.proofs.InBlocks.{silently, puts_word, chain, Puts, loaded_silently}
 use Rattle.cw_follow.proofs.States.{Given, Sound}
-use Rattle.cw_follow.proofs.Steps.{Follow, setting, calls, by, order_here, weight_is, wrong_way, moded_as, did_as, block_code, block_ends, start_place, does, Ends}
-use Rattle.cw_follow.proofs.BlockOrders.{code_end, room_in, within_block, inner_follows, modes, step_in}
+use Rattle.cw_follow.proofs.Steps.{Follow, setting, calls, by, order_here, weight_is, moded_as, did_as, block_code, block_ends, start_place, does, Ends, code_end}
+use Rattle.cw_follow.proofs.BlockOrders.{within_block, inner_follows, modes, step_in}
 use Rattle.cw_follow.proofs.RowOrders.{formed_of_two, LastWord, last_word, column_list, after_column, behind_column, next_after, columns_order, rows_order, tail_of, row_list, row_list_is, many_orders, mode_is, address_puts_one, column_steps, few_column, column_passes, column_stops, adds_column}
 
 -- ---- the block
@@ -137,9 +130,6 @@ module _ (known : Given) where
 
     columns_count : (r : Row) (z : Known r) → indexes_between (r.columns.upper -ℤ r.columns.lower) ≡ suc z.last.column
     columns_count r z = let inside = z.column_inside in ap indexes_between z.last.column_is ∙ many_between z.last.column (omega arith)
-
-    abbrev is_between : Bounds → ℤ → Bool
-    is_between b x = int_le b.lower x && int_le x b.upper
 
     row_number : (r : Row) (z : Known r) (x : ℤ) → FitsWord x → is_between r.rows x ≡ true → BetweenBounds r.rows.lower x z.last.row
     row_number r z x fx holds = between_bounds r.rows.lower r.rows.upper x z.last.row z.row_lower z.row_upper fx z.last.row_is holds
@@ -354,15 +344,6 @@ module _ (known : Given) where
 
     -- ---- the words
 
-    -- the top operand at the begin
-    top_there : (x : ℤ) (rest : List Operand) → s.before.operands ≡ Word x ∷ rest → Landed p image (start_place known s) g true acts s.before q → Top x rest
-    top_there x rest same l =
-        one_there (setting known s) s.before.memory s.before.input s.before.output x rest (subst (λ xs. operand_words xs < level acts) same (room_in known s))
-        (subst (λ xs. LandedWith (setting known s) s.before.memory s.before.input s.before.output (start_place known s) true xs q) same l)
-
-    top_fits : (x : ℤ) (rest : List Operand) → s.before.operands ≡ Word x ∷ rest → FitsWord x
-    top_fits x rest same = All-head OperandFits (Word x) rest (subst (All OperandFits) same s.fits_before.operands)
-
     -- behind the first comparison
     record FirstDone (r : Row) (n : ℕ) (os : List Order) (v : Words) : Type 0 where
       pub index : ℤ
@@ -437,41 +418,8 @@ module _ (known : Given) where
     -- the first one, which compares
     rows_follow : (r : Row) (rest : List Order) (z : Known r) → Parts r → s.done ≡ 0 → drop s.from s.orders.list ≡ listed r rest → block_at 0 (drop s.from s.orders.list) ≡ block.Row r → 1 ≤ orders_left (block.Row r)
         → Follow known (at_order g place loaded acts w Running) q
-    rows_follow r rest z h is_done list is more = cases s.loaded_before refl
-      where
-        o : Order
-        o = rows_order r
-
-        here : slice_get s.orders.list place ≡ Some o
-        here = order_here known s 0 o _ is_done list refl
-
-        mode : Some s.loaded_before ≡ Some loaded
-        mode = moded_as known s 0 _ is_done list
-
-        before_is : s.before ≡ w
-        before_is = let same : Changed s.before ≡ Changed w = did_as known s 0 _ is_done list in cc
-
-        tested : (x : ℤ) (under : List Operand) → s.before.operands ≡ Word x ∷ under → Landed p image (start_place known s) g true acts s.before q → (t : Bool) → is_between r.rows x ≡ t → (m : Bool) (kind : StopKind)
-            → put_if t IndexRange x (with_operands s.before under) ≡ Refused kind → Does p image 22 0 g m r.rows.line acts s.before.output q (Refused kind)
-        tested x under same l true holds m kind refused = absurd (cc)
-        tested x under same l false fails m kind refused =
-            let kind_is : IndexRange ≡ kind = cc in
-            subst (λ k. Does p image 22 0 g m r.rows.line acts s.before.output q (Refused k)) kind_is
-            (first_stop r z x under (top_there x under same l) (top_fits x under same) h fails 0 m)
-
-        stops : (ops : List Operand) → s.before.operands ≡ ops → Landed p image (start_place known s) g true acts s.before q → (m : Bool) (kind : StopKind)
-            → on_one (λ i v. put_if (int_le r.rows.lower i && int_le i r.rows.upper) IndexRange i v) ops s.before ≡ Refused kind → Does p image 22 0 g m r.rows.line acts s.before.output q (Refused kind)
-        stops [] same l m kind refused = absurd (cc)
-        stops (Held c ∷ under) same l m kind refused = absurd (cc)
-        stops (Word x ∷ under) same l m kind refused = tested x under same l (is_between r.rows x) refl m kind refused
-
-        cases : (m : Bool) → s.loaded_before ≡ m → Follow known (at_order g place loaded acts w Running) q
-        cases false free =
-            let now : loaded ≡ false = same_mode s.loaded_before loaded false mode free in
-            absurd (wrong_way known s o here (ap (loaded_after o) now))
-        cases true full =
-            let l : Landed p image (start_place known s) g true acts s.before q = subst (λ m. Landed p image (start_place known s) g m acts s.before q) full s.landed in
-            stops_follow known s o r.rows.line 0 _ (block.Row r) (lit≤ tt) is_done list refl (λ m. refl) (λ m kind refused. stops s.before.operands refl l m kind (ap (puts_word p g acts o) before_is ∙ refused)) is more
+    rows_follow r rest z h is_done list is more =
+        comparing_follows known s r.rows (block.Row r) _ is_done list is more (λ x under l fx fails m. first_stop r z x under l fx h fails 0 m)
 
     -- the one that compares the second index
     columns_follow : (r : Row) (rest : List Order) (z : Known r) → Parts r → s.done ≡ suc (suc (after_column r.column 0)) → drop s.from s.orders.list ≡ listed r rest → block_at 0 (drop s.from s.orders.list) ≡ block.Row r
@@ -491,7 +439,7 @@ module _ (known : Given) where
         tested d false fails m kind refused =
             let kind_is : IndexRange ≡ kind = cc in
             subst (λ k. Does p image 22 0 g m r.columns.line acts s.before.output q (Refused k)) kind_is
-            (second_stop r z d.index d.column.index d.rest (top_there d.index d.rest d.operands landed) (top_fits d.index d.rest d.operands) d.column.fits d.column.reads h d.holds fails 0 m)
+            (second_stop r z d.index d.column.index d.rest (top_there known s d.index d.rest d.operands landed) (top_fits known s d.index d.rest d.operands) d.column.fits d.column.reads h d.holds fails 0 m)
 
     -- the words before the address is made
     record MadeOf (r : Row) (v : Words) : Type 0 where
@@ -559,8 +507,8 @@ module _ (known : Given) where
         let ends = ends_there r rest is_done list is in
         let before = modes known s true true true (rows_order r) (suc (after_column r.column 3)) os is_done list refl refl (mode_is r r.column rest) in
         let d = made_of r rest w list (did_as known s k (listed r rest) is_done list) in
-        let fx = top_fits d.index d.rest d.operands in
-        let l = top_there d.index d.rest d.operands before.landed in
+        let fx = top_fits known s d.index d.rest d.operands in
+        let l = top_there known s d.index d.rest d.operands before.landed in
         let word = word_of r z d.index d.second fx d.fits d.holds d.holds' in
         let inside = word_inside r z d.index d.second fx d.fits d.holds d.holds' in
         let size : block_size false (block.Row r) (rows_order r) ≡ row_size r = row_long r in

@@ -2,9 +2,7 @@
 use Rattle.std.proofs.Common.{◌≡◌, ℕ, suc, ◌+◌, ◌*◌, ◌%◌, ◌<◌, ◌≤◌, Bool, true, ℤ, pos, ◌+ℤ◌, ◌-ℤ◌, ◌*ℤ◌, List, [], ◌∷◌, ◌++◌, length, Some, refl, sym, ap, ap₂, ◌∙◌, subst, arith, lit<, lit≤}
 use Rattle.std.specs.Prelude.{slice_get, ◌&&◌, min}
 use borrow.Author.Tests.{ltb-true}
-use Rattle.std.proofs.Math.Nat.{min-eq_left}
 use Rattle.std.proofs.lemmas.Bool.{lt-ltb}
-use Rattle.std.proofs.lemmas.Bool.Decides.{nat_tests}
 use Rattle.std.proofs.lemmas.Int.{ints}
 use Rattle.cw_i86.specs.declared.instr.Rm.TheVariants as rms
 use Rattle.cw_rows86.specs.Locations.{InRegister}
@@ -14,8 +12,8 @@ use Rattle.cw_run86.specs.Processor.{Told}
 use Rattle.cw_run86.specs.Views.{View, word_sum, difference_overflows}
 use Rattle.cw_word.specs.FixedPoint.{fits_word}
 use Rattle.cw_word.specs.Word.{signed}
-use Rattle.cw_unit.specs.Stop.{AddressRange, IndexRange}
-use Rattle.cw_unit.specs.Words.{Words, Outcome, Changed, Refused, put, put_if, is_below}
+use Rattle.cw_unit.specs.Stop.{IndexRange}
+use Rattle.cw_unit.specs.Words.{Words, Outcome, Changed, Refused, put}
 use Rattle.cw_unit.specs.Operation.{fitting, address_of}
 use Rattle.cw_order.specs.declared.order.Order.{Order}
 use Rattle.cw_order.specs.declared.order.Order.TheVariants as order
@@ -39,7 +37,7 @@ use Rattle.cw_follow.proofs.Standing.{HasPieces}
 use Rattle.cw_follow.proofs.Stacks.{level, record_of}
 use Rattle.cw_follow.proofs.Orders.{Kept, further}
 use Rattle.cw_follow.proofs.Operands.{Setting, DoesHere, calls_stop}
-use Rattle.cw_follow.proofs.Indexed.{both_hold, loaded_steps, few_loaded}
+use Rattle.cw_follow.proofs.Indexed.{both_hold, loaded_steps, few_loaded, formed_between}
 use Rattle.cw_follow.proofs.ElementTests.{address_order, within_span}
 use Rattle.cw_follow.proofs.BoundedBlocks.{InTop}
 use Rattle.cw_follow.proofs.InBlocks.{Puts, loaded_silently}
@@ -56,11 +54,7 @@ formed_of_two area b m n width l1 l2 i j v low few within less1 less2 =
     ap₂ whole less1 less2 ∙ ap (λ t. fitting t (in_rows (pos m *ℤ pos width))) (lt-ltb m 32768 few) ∙ ap in_rows product
     ∙ ap (λ t. fitting t (in_columns (pos (m * width)))) (lt-ltb (m * width) 32768 (omega arith))
     ∙ ap (λ t. fitting t (summed (pos (m * width) +ℤ pos n))) (lt-ltb n 32768 (omega arith))
-    ∙ ap summed total
-    ∙ ap₂ (λ a z. fitting (fits_word (pos (m * width + n))) (address_of a (z +ℤ pos (m * width + n)) v)) (min-eq_left low) signed_is
-    ∙ ap (λ t. fitting t (address_of area (pos b +ℤ pos (m * width + n)) v)) (lt-ltb (m * width + n) 32768 (omega arith))
-    ∙ ap (λ y. put_if (is_below y area) AddressRange y v) same
-    ∙ ap (λ t. put_if t AddressRange (pos (b + (m * width + n))) v) (lt-ltb (b + (m * width + n)) area within)
+    ∙ formed_between area b (m * width + n) (pos (m * width) +ℤ pos n) v low within total
   where
     summed : ℤ → Outcome
     summed y = fitting (fits_word y) (address_of (min area 32768) (signed b +ℤ y) v)
@@ -79,12 +73,6 @@ formed_of_two area b m n width l1 l2 i j v low few within less1 less2 =
 
     total : pos (m * width) +ℤ pos n ≡ pos (m * width + n)
     total = omega (arith, ints)
-
-    signed_is : signed b ≡ pos b
-    signed_is = grind (arith, nat_tests)
-
-    same : pos b +ℤ pos (m * width + n) ≡ pos (b + (m * width + n))
-    same = omega (arith, ints)
 
 -- the word at both upper bounds
 pub record LastWord (rows columns : ℤ) (width span : ℕ) : Type 0 where

@@ -17,8 +17,7 @@ use Rattle.cw_rows86.specs.Acts.{Shift, Operate, OperateOnto, OperateNumber}
 use Rattle.cw_tmpl.specs.declared.pieces.Coded.{Coded}
 use Rattle.cw_tmpl.specs.Pieces.{Filling, blanks}
 use Rattle.cw_tmpl.specs.Templates.{shifted, shifted_up, shifted_down, shifted_down_signed, lowest_if, part_taken}
-use Rattle.cw_track.proofs.Paths.{join}
-use Rattle.cw_follow.proofs.Watched.{Watched, watched_machine, watched_step}
+use Rattle.cw_follow.proofs.Watched.{Watched, watched_step}
 use Rattle.cw_follow.proofs.Standing.{HasPieces, Has, Image}
 use Rattle.cw_follow.proofs.Rows.{Rows}
 use Rattle.cw_follow.proofs.Chains.{Is, Leads, view, seen, number, more, last, done}
@@ -79,12 +78,6 @@ pub some_steps : (n : ℕ) → 1 ≤ n → 0 < shift_steps n
 some_steps zero some = absurd (omega arith)
 some_steps (suc zero) some = omega arith
 some_steps (suc (suc n)) some = omega arith
-
--- one way behind another
-pub leads_then : {output : List ℕ} {n m : ℕ} {p : Watched} {T U : Watched → Type 0} → Leads output n p T → ((q : Watched) → T q → Leads output m q U) → Leads output (n + m) p U
-leads_then {n = n} {m = m} {p = p} l on =
-    let r = on l.reached l.there in
-    record { reached = r.reached; path = join _ watched_machine n m (n + m) p l.reached r.reached refl l.path r.path; there = r.there }
 
 -- by no place
 stays : (op : Shifting) (a : ℕ) → a < 65536 → a ≡ shifted_word op a 0

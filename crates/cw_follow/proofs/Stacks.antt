@@ -96,6 +96,11 @@ module _ (p : OrderProgram) where
   abbrev pub Piled : (ℕ → ℕ) → (g : ℕ) → List OrderActivation → Type 0
   Piled stack g acts = LastRecord stack g acts × Callers stack acts
 
+-- where BP leads to the word of the frame in the record at work, and what it holds
+pub base_there : (p : OrderProgram) {stack : ℕ → ℕ} {g : ℕ} (acts : List OrderActivation) {w : ℕ} → base_word p acts ≡ w → LastRecord p stack g acts
+    → (level acts + 1 < 32768) × ((record_of acts + 65530) % 65536 ≡ 2 * (level acts + 1)) × (stack (level acts + 1) ≡ w)
+base_there p acts is last = (omega arith, omega arith, last.base_is ∙ is)
+
 -- ---- numbers
 
 pub start_small : (p : OrderProgram) (g : ℕ) (u : Option Orders) (f : Orders → ℕ) → start_in p g u f < 65536

@@ -75,6 +75,38 @@ pub record Sound (p : OrderProgram) (image : Image) (g place : ℕ) (loaded : Bo
 abbrev pub Arrived : (p : OrderProgram) (image : Image) (g place : ℕ) (loaded : Bool) (acts : List OrderActivation) (w : Words) (q : Watched) → Type 0
 Arrived p image g place loaded acts w q = (m : Sound p image g place loaded acts w q) × (m.done ≡ 0)
 
+-- The processor stands before a block, with the words of a state.
+pub before_block : {p : OrderProgram} {image : Image} {g place : ℕ} {loaded : Bool} {acts : List OrderActivation} {w : Words} {q : Watched} (o : Orders) → slice_get p.units g ≡ Some o → left_at 0 o.list place ≡ 0
+    → Landed p image (order_place (base_of p g) o place) g loaded acts w q → StateFits (at g place loaded acts w Running) → StateStands p (at g place loaded acts w Running)
+    → ActivationsStand p g acts → ComesBack p acts → Never p (at g place loaded acts w Running) → Arrived p image g place loaded acts w q
+before_block {place = place} {loaded = loaded} {w = w} o unit begins landed fits stands working comes_back never = (
+  record {
+    orders = o;
+    unit = unit;
+    from = place;
+    done = 0;
+    before = w;
+    loaded_before = loaded;
+    place_is = omega arith;
+    begins = begins;
+    inside = omega arith;
+    did = refl;
+    moded = refl;
+    landed = landed;
+    fits = fits.words;
+    acts_fit = fits.activations;
+    fits_before = fits.words;
+    room = stands.room;
+    room_before = stands.room;
+    wrote = refl;
+    stands = stands;
+    working = working;
+    comes_back = comes_back;
+    never = never;
+  },
+  refl,
+)
+
 -- The processor stands before the Enter of a call.
 pub record Starting (p : OrderProgram) (image : Image) (g place : ℕ) (loaded : Bool) (a : OrderActivation) (acts : List OrderActivation) (w : Words) (q : Watched) : Type 0 where
   pub orders : Orders

@@ -9,15 +9,13 @@ use Rattle.cw_follow.proofs.Watched.{Watched, watched_machine, over}
 use Rattle.cw_unit.specs.Begun.{Begun}
 use Rattle.cw_unit.specs.Behaviour.{Observation}
 use Rattle.cw_unit.specs.Stop.{StopKind, Running, Ended, Stopped, Stuck}
-use Rattle.cw_unit.specs.Words.{Operand, Word, Held, Words, Outcome, Changed, Refused, Impossible, with_operands}
-use Rattle.cw_unit.specs.Operation.{holds}
-use Rattle.cw_order.specs.declared.order.Comparator.{Comparator}
+use Rattle.cw_unit.specs.Words.{Words, Outcome, Changed, Refused, Impossible}
 use Rattle.cw_order.specs.declared.order.Order.{Order}
 use Rattle.cw_order.specs.declared.order.Order.TheVariants as order
 use Rattle.cw_order.specs.HasCode.{HasCode}
 use Rattle.cw_order.specs.OrderProgram.{OrderProgram, order_in, order_at, mark_in}
-use Rattle.cw_order.specs.OrderChanges.{Way, Onward, ToMark, Barred, Nowhere, way_of_two, to_mark_if, comparison}
-use Rattle.cw_order.specs.OrderState.{OrderActivation, OrderState, at, operand_words, stack_words}
+use Rattle.cw_order.specs.OrderChanges.{Way, Onward, ToMark, Barred, Nowhere}
+use Rattle.cw_order.specs.OrderState.{OrderActivation, OrderState, at, operand_words}
 use Rattle.cw_order.specs.OrderCosts.{weight_of, weight_at}
 use Rattle.cw_order.specs.Loading.{loaded_after}
 use Rattle.cw_order.specs.OrderLines.{line_of}
@@ -41,7 +39,7 @@ use Rattle.cw_follow.proofs.Routines.{Over, leads_on}
 use Rattle.cw_follow.proofs.Stacks.{level, words_split}
 use Rattle.cw_follow.proofs.Orders.{Landed, Leading, Does, Tells, Chooses, LandedAt, over_landed}
 use Rattle.cw_follow.proofs.Operands.{Setting}
-use Rattle.cw_follow.proofs.States.{Given, Never, Sound, Arrived, LastStarts, length_in, left, never_on, not_stuck, went_on}
+use Rattle.cw_follow.proofs.States.{Given, Never, Sound, Arrived, LastStarts, length_in, left, never_on, not_stuck, went_on, before_block}
 use Rattle.cw_tmpl.proofs.Reaching.{closes}
 use Rattle.cw_order.specs.declared.order.Orders.{Orders}
 
@@ -91,24 +89,6 @@ pub record Alone (p : OrderProgram) (image : Image) (g place : ℕ) (loaded : Bo
   pub single : block_at 0 (drop place o.list) ≡ block.Single
   pub landed : Landed p image (order_place (base_of p g) o place) g loaded acts w q
 
--- the words on a way are within the room
-abbrev pub Roomy : List OrderActivation → ℕ → Way → Type 0
-Roomy acts room (Onward v) = stack_words v.operands acts ≤ room
-Roomy acts room (ToMark m v) = stack_words v.operands acts ≤ room
-Roomy acts room (Barred kind) = Unit {0}
-Roomy acts room Nowhere = Unit {0}
-
-pub if_roomy : (acts : List OrderActivation) (room m : ℕ) (b : Bool) (v : Words) → stack_words v.operands acts ≤ room → Roomy acts room (to_mark_if b m v)
-if_roomy acts room m true v le = le
-if_roomy acts room m false v le = le
-
-pub two_roomy : (acts : List OrderActivation) (room m : ℕ) (c : Comparator) (operands : List Operand) (w : Words) → stack_words operands acts ≤ room → Roomy acts room (way_of_two (λ x y v. to_mark_if (holds (comparison c) x y) m v) (with_operands w operands))
-two_roomy acts room m c [] w le = tt
-two_roomy acts room m c (Held d ∷ rest) w le = tt
-two_roomy acts room m c (Word y ∷ []) w le = tt
-two_roomy acts room m c (Word y ∷ Held d ∷ rest) w le = tt
-two_roomy acts room m c (Word y ∷ Word x ∷ rest) w le = if_roomy acts room m (holds (comparison c) x y) (with_operands w rest) (let a = words_split (Word y ∷ Word x ∷ rest) acts in let b = words_split rest acts in let f : stack_words rest acts ≤ room = omega arith in f)
-
 abbrev pub way_after : Outcome → (Words → Way) → Way
 way_after (Changed v) f = f v
 way_after _ f = Nowhere
@@ -157,6 +137,10 @@ module _ (known : Given) where
   onward f l = record { spent = l.spent; some = l.some; within = l.within; leads = leads_on f l.leads }
 
   module _ {q : Watched} {g place : ℕ} {loaded : Bool} {acts : List OrderActivation} {w : Words} (s : Sound p image g place loaded acts w q) where
+    -- where the code of the block ends, where its last order is at work
+    abbrev pub code_end : ℕ
+    code_end = order_place (base_of p g) s.orders (place + 1)
+
     pub few_segments : g < 255
     few_segments = let lt = slice_get_within p.units g s.orders s.unit in omega arith
 
@@ -187,48 +171,24 @@ module _ (known : Given) where
     wrong_way o e none = stuck_here (step_is (Some o) e ∙ ap (λ x. carry_with p x o g place loaded acts w) none)
 
     -- before another block
-    pub sound_at : (to : ℕ) (m : Bool) (v : Words) (r : Watched) → left_at 0 s.orders.list to ≡ 0 → stack_words v.operands acts ≤ p.room → step p (at g place loaded acts w Running) ≡ at g to m acts v Running
+    pub sound_at : (to : ℕ) (m : Bool) (v : Words) (r : Watched) → left_at 0 s.orders.list to ≡ 0 → step p (at g place loaded acts w Running) ≡ at g to m acts v Running
         → Landed p image (order_place (base_of p g) s.orders to) g m acts v r → Arrived p image g to m acts v r
-    sound_at to m v r begins room e l = (
-      record {
-        orders = s.orders;
-        unit = s.unit;
-        from = to;
-        done = 0;
-        before = v;
-        loaded_before = m;
-        place_is = omega arith;
-        begins = begins;
-        inside = omega arith;
-        did = refl;
-        moded = refl;
-        landed = l;
-        fits = (fits_next (at g to m acts v Running) e).words;
-        acts_fit = (fits_next (at g to m acts v Running) e).activations;
-        fits_before = (fits_next (at g to m acts v Running) e).words;
-        room = room;
-        room_before = room;
-        wrote = refl;
-        stands = stands_next (at g to m acts v Running) e;
-        working = s.working;
-        comes_back = s.comes_back;
-        never = never_on p (at g place loaded acts w Running) (at g to m acts v Running) e s.never;
-      },
-      refl,
-    )
+    sound_at to m v r begins e l =
+        let t = at g to m acts v Running in
+        before_block s.orders s.unit begins l (fits_next t e) (stands_next t e) s.working s.comes_back (never_next t e)
 
     -- an operation that leaves the accumulator so, and may stop at a line
     pub does : {first : Watched} (m : Bool) (line : ℕ) (o : Outcome) (limit : ℕ) → left_at 0 s.orders.list (place + 1) ≡ 0 → step p (at g place loaded acts w Running) ≡ after p.room line o g place m acts w → limit ≤ weight p (at g place loaded acts w Running)
-        → Does p image limit (order_place (base_of p g) s.orders (place + 1)) g m line acts w.output first o → FollowFrom first (at g place loaded acts w Running) q
+        → Does p image limit code_end g m line acts w.output first o → FollowFrom first (at g place loaded acts w Running) q
     does m line (Changed v) limit begins e paid d =
         let on = went_on p g place loaded m line acts w v e s.never in
-        leads_to g place loaded acts w (at g (place + 1) m acts v Running) limit on.goes paid (onward (λ r l. inl (sound_at (place + 1) m v r begins on.room on.goes l)) d)
+        leads_to g place loaded acts w (at g (place + 1) m acts v Running) limit on.goes paid (onward (λ r l. inl (sound_at (place + 1) m v r begins on.goes l)) d)
     does m line (Refused kind) limit begins e paid d = leads_to g place loaded acts w (at g place m acts w (Stopped kind (g + 1) line)) limit e paid d
     does m line Impossible limit begins e paid d = absurd (not_stuck p g place m acts w (never_next (at g place m acts w Stuck) e))
 
     -- the same, where on the way a byte is written
     pub tells : {first : Watched} (m : Bool) (o : Outcome) (limit : ℕ) → left_at 0 s.orders.list (place + 1) ≡ 0 → step p (at g place loaded acts w Running) ≡ after p.room 0 o g place m acts w → limit ≤ weight p (at g place loaded acts w Running)
-        → Tells p image limit (order_place (base_of p g) s.orders (place + 1)) g m acts w.output first o → FollowFrom first (at g place loaded acts w Running) q
+        → Tells p image limit code_end g m acts w.output first o → FollowFrom first (at g place loaded acts w Running) q
     tells m (Changed v) limit begins e paid d =
         let here = at g place loaded acts w Running in
         let on = went_on p g place loaded m 0 acts w v e s.never in
@@ -237,7 +197,7 @@ module _ (known : Given) where
         moves d.some (let x : d.spent ≤ weight p here = omega arith in x)
         (weaken (λ o. (o ≡ at_work w.output) ⊎ (o ≡ at_work v.output)) (Quiet (shown here, []) (shown (step p here), [])) watched_machine d.spent _ d.reached
         (λ o x. elim x [ inl before ↦ inl before | inr after ↦ inr (after ∙ sym shows_next) ]) d.path)
-        (subst (λ x. Arrives x d.reached) (sym on.goes) (inl (sound_at (place + 1) m v d.reached begins on.room on.goes d.there)))
+        (subst (λ x. Arrives x d.reached) (sym on.goes) (inl (sound_at (place + 1) m v d.reached begins on.goes d.there)))
     tells m (Refused kind) limit begins e paid d = absurd d
     tells m Impossible limit begins e paid d = absurd (not_stuck p g place m acts w (never_next (at g place m acts w Stuck) e))
 
@@ -270,7 +230,7 @@ module _ (known : Given) where
 
     -- where it ends
     pub record Ends (b : Block) (o : Order) : Type 0 where
-      pub behind : order_place (base_of p g) s.orders s.from + size_by (is_short (reach_of s.orders)) s.from b o ≡ order_place (base_of p g) s.orders (place + 1)
+      pub behind : order_place (base_of p g) s.orders s.from + size_by (is_short (reach_of s.orders)) s.from b o ≡ code_end
       pub begins : left_at 0 s.orders.list (place + 1) ≡ 0
 
     pub block_ends : (b : Block) (o : Order) (os : List Order) (n : ℕ) → s.done ≡ n → drop s.from s.orders.list ≡ o ∷ os → block_at 0 (drop s.from s.orders.list) ≡ b → size_to (is_short (reach_of s.orders)) (suc s.from) (orders_left b) os n ≡ 0 → left_at (orders_left b) os n ≡ 0 → Ends b o
@@ -363,19 +323,19 @@ module _ (known : Given) where
     -- the last order of a block, whose code does what all its orders do
     pub last_does : {first : Watched} (m : Bool) (line : ℕ) (f : Words → Outcome) (limit n : ℕ) (os : List Order) → s.done ≡ n → drop s.from s.orders.list ≡ os → left_at 0 s.orders.list (place + 1) ≡ 0
         → step p (at g place loaded acts w Running) ≡ after p.room line (f w) g place m acts w → limit ≤ weight p (at g place loaded acts w Running)
-        → Does p image limit (order_place (base_of p g) s.orders (place + 1)) g m line acts s.before.output first (chain (silently p g acts n os s.before) f) → FollowFrom first (at g place loaded acts w Running) q
+        → Does p image limit code_end g m line acts s.before.output first (chain (silently p g acts n os s.before) f) → FollowFrom first (at g place loaded acts w Running) q
     last_does {first} m line f limit n os is_done e begins goes paid d =
         does m line (f w) limit begins goes paid
-        (subst (λ o. Does p image limit (order_place (base_of p g) s.orders (place + 1)) g m line acts o first (f w)) s.wrote
-        (subst (λ x. Does p image limit (order_place (base_of p g) s.orders (place + 1)) g m line acts s.before.output first (chain x f)) (did_as n os is_done e) d))
+        (subst (λ o. Does p image limit code_end g m line acts o first (f w)) s.wrote
+        (subst (λ x. Does p image limit code_end g m line acts s.before.output first (chain x f)) (did_as n os is_done e) d))
 
     pub last_tells : {first : Watched} (m : Bool) (f : Words → Outcome) (limit n : ℕ) (os : List Order) → s.done ≡ n → drop s.from s.orders.list ≡ os → left_at 0 s.orders.list (place + 1) ≡ 0
         → step p (at g place loaded acts w Running) ≡ after p.room 0 (f w) g place m acts w → limit ≤ weight p (at g place loaded acts w Running)
-        → Tells p image limit (order_place (base_of p g) s.orders (place + 1)) g m acts s.before.output first (chain (silently p g acts n os s.before) f) → FollowFrom first (at g place loaded acts w Running) q
+        → Tells p image limit code_end g m acts s.before.output first (chain (silently p g acts n os s.before) f) → FollowFrom first (at g place loaded acts w Running) q
     last_tells {first} m f limit n os is_done e begins goes paid d =
         tells m (f w) limit begins goes paid
-        (subst (λ o. Tells p image limit (order_place (base_of p g) s.orders (place + 1)) g m acts o first (f w)) s.wrote
-        (subst (λ x. Tells p image limit (order_place (base_of p g) s.orders (place + 1)) g m acts s.before.output first (chain x f)) (did_as n os is_done e) d))
+        (subst (λ o. Tells p image limit code_end g m acts o first (f w)) s.wrote
+        (subst (λ x. Tells p image limit code_end g m acts s.before.output first (chain x f)) (did_as n os is_done e) d))
 
     -- a call of an entry of the library
     abbrev pub by : (entry c : ℕ) → ℕ
@@ -425,10 +385,10 @@ module _ (known : Given) where
     ]
 
     -- the way on that an order chooses
-    pub chosen : {first : Watched} (l : Bool) (line : ℕ) (way : Way) (limit : ℕ) → left_at 0 s.orders.list (place + 1) ≡ 0 → Roomy acts p.room way → step p (at g place loaded acts w Running) ≡ branch p line way g place l acts w → limit ≤ weight p (at g place loaded acts w Running)
-        → Chooses p image limit (order_place (base_of p g) s.orders (place + 1)) start g l line acts w.output first way → FollowFrom first (at g place loaded acts w Running) q
-    chosen l line (Onward v) limit begins room e paid d = leads_to g place loaded acts w (at g (place + 1) l acts v Running) limit e paid (onward (λ r t. inl (sound_at (place + 1) l v r begins room e t)) d)
-    chosen {first} l line (ToMark m v) limit begins room e paid d = cases (slice_get s.orders.marks m) refl
+    pub chosen : {first : Watched} (l : Bool) (line : ℕ) (way : Way) (limit : ℕ) → left_at 0 s.orders.list (place + 1) ≡ 0 → step p (at g place loaded acts w Running) ≡ branch p line way g place l acts w → limit ≤ weight p (at g place loaded acts w Running)
+        → Chooses p image limit code_end start g l line acts w.output first way → FollowFrom first (at g place loaded acts w Running) q
+    chosen l line (Onward v) limit begins e paid d = leads_to g place loaded acts w (at g (place + 1) l acts v Running) limit e paid (onward (λ r t. inl (sound_at (place + 1) l v r begins e t)) d)
+    chosen {first} l line (ToMark m v) limit begins e paid d = cases (slice_get s.orders.marks m) refl
       where
         goes : (k : Option ℕ) → slice_get s.orders.marks m ≡ k → step p (at g place loaded acts w Running) ≡ go_at k g place l acts w v
         goes k is = e ∙ ap (λ x. go_at x g place l acts w v) (ap (λ u. mark_in u m) s.unit ∙ is)
@@ -438,17 +398,17 @@ module _ (known : Given) where
         cases (Some to) is =
             let there : start m ≡ order_place (base_of p g) s.orders to = ap (λ n. base_of p g + n) (mark_start s.orders m to is (goes_within to l v (goes (Some to) is))) in
             leads_to g place loaded acts w (at g to l acts v Running) limit (goes (Some to) is) paid
-            (onward (λ r t. inl (sound_at to l v r (mark_begins m to is) room (goes (Some to) is) (subst (λ a. Landed p image a g l acts v r) there t))) d)
-    chosen l line (Barred kind) limit begins room e paid d = leads_to g place loaded acts w (at g place l acts w (Stopped kind (g + 1) line)) limit e paid d
-    chosen l line Nowhere limit begins room e paid d = absurd (not_stuck p g place l acts w (never_next (at g place l acts w Stuck) e))
+            (onward (λ r t. inl (sound_at to l v r (mark_begins m to is) (goes (Some to) is) (subst (λ a. Landed p image a g l acts v r) there t))) d)
+    chosen l line (Barred kind) limit begins e paid d = leads_to g place loaded acts w (at g place l acts w (Stopped kind (g + 1) line)) limit e paid d
+    chosen l line Nowhere limit begins e paid d = absurd (not_stuck p g place l acts w (never_next (at g place l acts w Stuck) e))
 
-    pub last_chooses : {first : Watched} (l : Bool) (line : ℕ) (f : Words → Way) (limit n : ℕ) (os : List Order) → s.done ≡ n → drop s.from s.orders.list ≡ os → left_at 0 s.orders.list (place + 1) ≡ 0 → Roomy acts p.room (f w)
+    pub last_chooses : {first : Watched} (l : Bool) (line : ℕ) (f : Words → Way) (limit n : ℕ) (os : List Order) → s.done ≡ n → drop s.from s.orders.list ≡ os → left_at 0 s.orders.list (place + 1) ≡ 0
         → step p (at g place loaded acts w Running) ≡ branch p line (f w) g place l acts w → limit ≤ weight p (at g place loaded acts w Running)
-        → Chooses p image limit (order_place (base_of p g) s.orders (place + 1)) start g l line acts s.before.output first (way_after (silently p g acts n os s.before) f) → FollowFrom first (at g place loaded acts w Running) q
-    last_chooses {first} l line f limit n os is_done e begins room goes paid d =
-        chosen l line (f w) limit begins room goes paid
-        (subst (λ o. Chooses p image limit (order_place (base_of p g) s.orders (place + 1)) start g l line acts o first (f w)) s.wrote
-        (subst (λ x. Chooses p image limit (order_place (base_of p g) s.orders (place + 1)) start g l line acts s.before.output first (way_after x f)) (did_as n os is_done e) d))
+        → Chooses p image limit code_end start g l line acts s.before.output first (way_after (silently p g acts n os s.before) f) → FollowFrom first (at g place loaded acts w Running) q
+    last_chooses {first} l line f limit n os is_done e begins goes paid d =
+        chosen l line (f w) limit begins goes paid
+        (subst (λ o. Chooses p image limit code_end start g l line acts o first (f w)) s.wrote
+        (subst (λ x. Chooses p image limit code_end start g l line acts s.before.output first (way_after x f)) (did_as n os is_done e) d))
 
     pub low_room : operand_words w.operands < level acts
     low_room = let room = s.room in let most = coded.room in let split = words_split w.operands acts in omega arith
@@ -498,7 +458,7 @@ module _ (known : Given) where
       here = order_place (base_of p g) s.orders place
 
       abbrev pub next : ℕ
-      next = order_place (base_of p g) s.orders (place + 1)
+      next = code_end
 
       pub alone_is : block_at (left_at 0 s.orders.list place) (drop place s.orders.list) ≡ block.Single
       alone_is = ap (λ n. block_at n (drop place s.orders.list)) a.begins ∙ a.single
@@ -516,7 +476,7 @@ module _ (known : Given) where
           let here = order_place (base_of p g) s.orders place in
           subst (λ x. HasPiecesFrom (first_of o (behind_start s.orders.list place)) image st.value here (pieces_by (names_of s.orders) (own_place s.orders place) place x o)) alone_is (st.orders place o e)
 
-      pub behind : (o : Order) → slice_get s.orders.list place ≡ Some o → order_place (base_of p g) s.orders place + size_by (is_short (reach_of s.orders)) place block.Single o ≡ order_place (base_of p g) s.orders (place + 1)
+      pub behind : (o : Order) → slice_get s.orders.list place ≡ Some o → order_place (base_of p g) s.orders place + size_by (is_short (reach_of s.orders)) place block.Single o ≡ code_end
       behind o e =
           let n = order_next (base_of p g) s.orders place o e in
           let size = ap (λ x. size_by (is_short (reach_of s.orders)) place x o) alone_is in
@@ -528,14 +488,14 @@ module _ (known : Given) where
           ap (left_at 0 s.orders.list) next ∙ left_next 0 s.orders.list place o e ∙ ap orders_left alone_is
 
       -- an order without code
-      pub silent : (o : Order) (m : Bool) (v : Words) → slice_get s.orders.list place ≡ Some o → step p (at g place loaded acts w Running) ≡ at g (place + 1) m acts v Running → stack_words v.operands acts ≤ p.room → size_by (is_short (reach_of s.orders)) place block.Single o ≡ 0 → is_codeless o ≡ true
+      pub silent : (o : Order) (m : Bool) (v : Words) → slice_get s.orders.list place ≡ Some o → step p (at g place loaded acts w Running) ≡ at g (place + 1) m acts v Running → size_by (is_short (reach_of s.orders)) place block.Single o ≡ 0 → is_codeless o ≡ true
           → ((at : ℕ) → Landed p image at g loaded acts w q → Landed p image at g m acts v q) → Follow (at g place loaded acts w Running) q
-      silent o m v e goes room none codeless turned =
+      silent o m v e goes none codeless turned =
           let here = order_place (base_of p g) s.orders place in
           let next = behind o e in
-          let to : here ≡ order_place (base_of p g) s.orders (place + 1) = omega arith in
-          let there : Landed p image (order_place (base_of p g) s.orders (place + 1)) g m acts v q = subst (λ a. Landed p image a g m acts v q) to (turned here a.landed) in
-          let matched : Arrives (at g (place + 1) m acts v Running) q = inl (sound_at (place + 1) m v q (begins_next o e) room goes there) in
+          let to : here ≡ code_end = omega arith in
+          let there : Landed p image code_end g m acts v q = subst (λ a. Landed p image a g m acts v q) to (turned here a.landed) in
+          let matched : Arrives (at g (place + 1) m acts v Running) q = inl (sound_at (place + 1) m v q (begins_next o e) goes there) in
           let within = slice_get_within s.orders.list place o e in
           let long : length_in (slice_get p.units g) ≡ length s.orders.list = ap length_in s.unit in
           let falls : left p (at g (place + 1) m acts v Running) < left p (at g place loaded acts w Running) = omega arith in

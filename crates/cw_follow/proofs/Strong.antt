@@ -1,5 +1,5 @@
 -- In an image with the places of its statements, instructions stand at which no statement begins, but for the first one of a block.
-use Rattle.std.proofs.Common.{◌≡◌, ℕ, zero, suc, ◌+◌, ◌<◌, ◌≤◌, Bool, true, false, List, [], ◌∷◌, ◌++◌, length, drop, Some, refl, sym, ap, ap₂, ◌∙◌, inl, inr, arith, length-append}
+use Rattle.std.proofs.Common.{◌≡◌, ℕ, zero, suc, ◌+◌, ◌<◌, ◌≤◌, Bool, true, false, List, [], ◌∷◌, ◌++◌, length, drop, Some, refl, sym, ap, ap₂, ◌∙◌, inl, inr, ◌⊎◌, arith, length-append}
 use Rattle.std.proofs.lemmas.Bool.{true≢false}
 use Rattle.std.specs.Prelude.{◌&&◌, slice_get, slice_index}
 use Rattle.cw_image.specs.Begun.{lines_at}
@@ -82,28 +82,34 @@ pub pieces_below : (first : Bool) (image : Image) (value : Filling) (at : ℕ) (
 pieces_below first image value at [] some h = absurd (omega arith)
 pieces_below first image value at (p ∷ ps) some h = piece_below first image (word_before value (at + size_of p) (target_of p)) at p h.0
 
--- a statement may begin with each of these
+-- a statement may begin with an order, or it does not
+statement_or_not : (a : Order) → (BeginsStatement a × (may_begin a ≡ true)) ⊎ ((may_begin a ≡ false) × (BeginsStatement a → ⊥))
+statement_or_not (order.Const w) = inl (tt, refl)
+statement_or_not (order.Home f n) = inl (tt, refl)
+statement_or_not (order.FrameHome n) = inl (tt, refl)
+statement_or_not order.ReadByte = inl (tt, refl)
+statement_or_not order.WriteByte = inl (tt, refl)
+statement_or_not (order.Jump m) = inl (tt, refl)
+statement_or_not (order.GoMain m) = inl (tt, refl)
+statement_or_not (order.GoCommon d) = inl (tt, refl)
+statement_or_not (order.GoSpecial k) = inl (tt, refl)
+statement_or_not (order.CallProc q line) = inl (tt, refl)
+statement_or_not (order.CallCommon d line) = inl (tt, refl)
+statement_or_not (order.CallSpecial k line) = inl (tt, refl)
+statement_or_not (order.LabelOut l) = inl (tt, refl)
+statement_or_not (order.LabelCommon d) = inl (tt, refl)
+statement_or_not (order.SwitchOut n) = inl (tt, refl)
+statement_or_not (order.SwitchCommon d) = inl (tt, refl)
+statement_or_not (order.ProcOut q) = inl (tt, refl)
+statement_or_not (order.ProcCommon d) = inl (tt, refl)
+statement_or_not (order.SpecialOut k) = inl (tt, refl)
+statement_or_not _ = inr (refl, λ b. b)
+
 pub may_of : (a : Order) → BeginsStatement a → may_begin a ≡ true
-may_of (order.Const w) b = refl
-may_of (order.Home f n) b = refl
-may_of (order.FrameHome n) b = refl
-may_of order.ReadByte b = refl
-may_of order.WriteByte b = refl
-may_of (order.Jump m) b = refl
-may_of (order.GoMain m) b = refl
-may_of (order.GoCommon d) b = refl
-may_of (order.GoSpecial k) b = refl
-may_of (order.CallProc q line) b = refl
-may_of (order.CallCommon d line) b = refl
-may_of (order.CallSpecial k line) b = refl
-may_of (order.LabelOut l) b = refl
-may_of (order.LabelCommon d) b = refl
-may_of (order.SwitchOut n) b = refl
-may_of (order.SwitchCommon d) b = refl
-may_of (order.ProcOut q) b = refl
-may_of (order.ProcCommon d) b = refl
-may_of (order.SpecialOut k) b = refl
-may_of _ b = absurd b
+may_of a b = elim (statement_or_not a) [ inl is ↦ is.1 | inr none ↦ absurd (none.1 b) ]
+
+pub begins_statement : (a : Order) → may_begin a ≡ true → BeginsStatement a
+begins_statement a may = elim (statement_or_not a) [ inl is ↦ is.0 | inr none ↦ absurd (true≢false (sym may ∙ none.0)) ]
 
 module _ (p : OrderProgram) (image : Image) (coded : Codable p) (stand : PlacesStand p image.bytes image.places) where
   module _ (g : ℕ) (o : Orders) (unit : slice_get p.units g ≡ Some o) (s : raw.Stands p image.bytes g o) where
@@ -133,6 +139,13 @@ module _ (p : OrderProgram) (image : Image) (coded : Codable p) (stand : PlacesS
         ap (lines_at image.places) (sym here) ∙ stand.others g k o a unit listed lt (behind_may k a listed (none refl))
     free_in k a listed (suc n) lt none = stand.inside g k (suc n) o a unit listed (omega arith) lt
 
+    -- no line begins in the code behind the orders
+    free_behind : (start long n : ℕ) → landings_place o ≤ start → start + long ≤ length (blanks (pieces_of o)) → n < long → lines_at image.places (base_of p g + start + n) ≡ []
+    free_behind start long n from to lt =
+        let next = base_next in
+        let at = base_of p g + start + n in
+        stand.around g at o unit (omega arith) (let x : at < base_of p (suc g) = omega arith in x) (inr (let x : base_of p g + landings_place o ≤ at = omega arith in x))
+
     abbrev strong_here : Stands p image g o
     strong_here = record {
       value = s.value;
@@ -148,19 +161,12 @@ module _ (p : OrderProgram) (image : Image) (coded : Codable p) (stand : PlacesS
           let there : base_of p g + slice_index (order_places o) k + n ≡ order_place (base_of p g) o k + n = omega arith in
           ap (lines_at image.places) (sym there) ∙ free_in k a listed n (let l : n < size_at o k a = omega arith in l) none);
       landings = λ l m listed has. pieces_strong false image s.value (base_of p g + landing_start (names_of o) l) (landing_pieces (names_of o) (landing_start (names_of o) l) m) (s.landings l m listed has) (λ n lt no.
-          let next = base_next in
           let within = s.landings_within l m listed has in
-          let from = within.0 in
-          let to = within.1 in
-          let at = base_of p g + landing_start (names_of o) l + n in
-          stand.around g at o unit (omega arith) (let x : at < base_of p (suc g) = omega arith in x) (inr (let x : base_of p g + landings_place o ≤ at = omega arith in x)));
+          free_behind (landing_start (names_of o) l) _ n within.0 within.1 lt);
       switches = λ j gs listed named. pieces_strong false image s.value (base_of p g + switch_start (names_of o) j) (switch_pieces (names_of o) (switch_start (names_of o) j) gs) (s.switches j gs listed named) (λ n lt no.
-          let next = base_next in
           let within = s.switches_within j gs listed named in
           let from = within.0 in
-          let to = within.1 in
-          let at = base_of p g + switch_start (names_of o) j + n in
-          stand.around g at o unit (omega arith) (let x : at < base_of p (suc g) = omega arith in x) (inr (let x : base_of p g + landings_place o ≤ at = omega arith in x)));
+          free_behind (switch_start (names_of o) j) _ n (let x : landings_place o ≤ switch_start (names_of o) j = omega arith in x) within.1 lt);
     }
 
   pub all_strong : raw.AllStand p image.bytes → AllStand p image

@@ -1,8 +1,7 @@
 -- What the code of a switch's way does: the index is tested, and its label is found in a table of the code.
-use Rattle.std.proofs.Common.{◌≡◌, ℕ, zero, suc, ◌+◌, ◌*◌, ◌%◌, ◌<◌, ◌≤◌, Bool, true, false, ℤ, pos, negsuc, List, [], ◌∷◌, length, Option, Some, None, refl, ap, ◌∙◌, subst, arith, lit<, lit≤}
+use Rattle.std.proofs.Common.{◌≡◌, ℕ, zero, suc, ◌+◌, ◌*◌, ◌%◌, ◌<◌, ◌≤◌, Bool, true, false, ℤ, pos, List, [], ◌∷◌, length, Some, refl, subst, arith, lit<, lit≤}
 use Rattle.std.specs.Prelude.{slice_get}
 use Rattle.std.specs.List.{All}
-use Rattle.std.proofs.lemmas.List.Elements.{All-head}
 use Rattle.std.proofs.lemmas.Option.{slice_get_within}
 use Rattle.cw_i86.specs.declared.instr.Instr.TheVariants as i86
 use Rattle.cw_i86.specs.declared.instr.Imm.TheVariants as imm
@@ -11,7 +10,7 @@ use Rattle.cw_run86.specs.Views.{View, put_word, with_number, word_difference, d
 use Rattle.cw_rows86.specs.Acts.{Count}
 use Rattle.cw_word.specs.Word.{unsigned}
 use Rattle.cw_unit.specs.Stop.{SwitchRange, Stopped}
-use Rattle.cw_unit.specs.Words.{Operand, Word, Held}
+use Rattle.cw_unit.specs.Words.{Operand, Word}
 use Rattle.cw_order.specs.OrderProgram.{OrderProgram}
 use Rattle.cw_order.specs.OrderState.{OrderActivation, operand_words}
 use Rattle.cw_order.specs.OrderChanges.{way_of_one, to_mark_of_switch, mark_of_number}
@@ -25,11 +24,10 @@ use Rattle.cw_follow.proofs.Rows.{Rows}
 use Rattle.cw_follow.proofs.Chains.{Is, IsCompared, Leads, view, seen, to_place, call, compare_number, jump_below, pass_above, through_table, more, compared_more, last}
 use Rattle.cw_follow.proofs.Acting.{act}
 use Rattle.cw_follow.proofs.Straight.{Number, Exchange, Double, straight}
-use Rattle.cw_follow.proofs.Routines.{Over, with_ax, quiet_in, quiet_library, flags_of, arrives, lifted, over}
+use Rattle.cw_follow.proofs.Routines.{Over, with_ax, quiet_in, quiet_library, flags_of, arrives, lifted, over, leads_then}
 use Rattle.cw_follow.proofs.Stacks.{level, record_of, top_is}
 use Rattle.cw_follow.proofs.Orders.{kept_under, Landed, landed, Chooses, further}
-use Rattle.cw_follow.proofs.Leaving.{past}
-use Rattle.cw_follow.proofs.Tables.{from_zero, none_is_far, less_is_far, number_fits, not_within}
+use Rattle.cw_follow.proofs.Tables.{marked, table_entry}
 
 module _ (rows : Rows) (prog : OrderProgram) (image : Image) where
   -- the code before the table
@@ -56,18 +54,13 @@ module _ (rows : Rows) (prog : OrderProgram) (image : Image) where
     way_to : (to k : ℕ) → z ≡ pos (suc k) → k < n → n < 32768 → table ≡ (at + 20) % 65536 → HasWord image (at + 20 + 2 * k) (to % 65536)
         → Leads output 6 q (Landed prog image to g false acts (record { operands = rest; memory = memory; input = input; output = output }))
     way_to to k is_z lt short table_is word =
-        let v_is : v ≡ k = ap (λ x. word_difference (unsigned x) 1) is_z ∙ from_zero k (omega arith) in
-        let low : v < n = omega arith in
-        let small : v < 32768 = omega arith in
-        let within = word.within in
-        let fits = l.stacked.is.sees.fits in
-        let entry : (2 * v + table) % 65536 ≡ at + 20 + 2 * k = omega arith in
-        past {m = 2} {n = 4} tested (λ r c.
-        compared_more rows {Between = Is image (at + 1 + 3 + 2 + 6) (seen_with (difference_overflows v n))} c.is l.kept.wrote (jump_below rows 6 low i.1.1.0 c) (λ r t.
-        straight rows (Exchange ∷ Double 3 ∷ []) {n = 1} l.kept.wrote (i.1.1.1.1.1.0, (i.1.1.1.1.1.1.0, tt)) (tt, (small, tt))
+        let e = table_entry image at n k table to z is_z lt short table_is word l.stacked.is.sees.fits in
+        leads_then {n = 2} {m = 4} tested (λ r c.
+        compared_more rows {Between = Is image (at + 1 + 3 + 2 + 6) (seen_with (difference_overflows v n))} c.is l.kept.wrote (jump_below rows 6 e.low i.1.1.0 c) (λ r t.
+        straight rows (Exchange ∷ Double 3 ∷ []) {n = 1} l.kept.wrote (i.1.1.1.1.1.0, (i.1.1.1.1.1.1.0, tt)) (tt, (e.small, tt))
         (seen {to = at + 1 + 3 + 2 + 3 + 3} (let e : at + 1 + 3 + 2 + 6 ≡ at + 1 + 3 + 2 + 3 + 3 = omega arith in e) refl t) (λ r t.
         last rows t l.kept.wrote
-        (landed rows prog image g acts false to l.top rest memory input output refl l.operands.1 l.kept (through_table rows table (at + 20 + 2 * k) to entry within word.is i.1.1.1.1.1.1.1.0 t)))))
+        (landed rows prog image g acts false to l.top rest memory input output refl l.operands.1 l.kept (through_table rows table (at + 20 + 2 * k) to e.there word.within word.is i.1.1.1.1.1.1.1.0 t)))))
 
     -- one that has none: the way back that the call leaves on the stack is of no use
     way_stops : (m : ℕ) → n ≤ v → Stands image.bytes → line < 65536 → (at + 12 + by) % 65536 ≡ stop_place SwitchRange % 65536 → l.top ≡ suc m → l.top ≤ level acts
@@ -84,7 +77,7 @@ module _ (rows : Rows) (prog : OrderProgram) (image : Image) where
         let back = (at + 1 + 3 + 2 + 3 + 3) % 65536 in
         let pushed : ℕ → ℕ = put_word l.stack m back in
         let there : (at + 1 + 3 + 2 + 3 + 3 + by) % 65536 ≡ stop_place SwitchRange % 65536 = omega arith in
-        past {m = 2} {n = 13} tested (λ r c.
+        leads_then {n = 2} {m = 13} tested (λ r c.
         compared_more rows {Between = Is image (at + 1 + 3 + 2) (seen_with o)} c.is l.kept.wrote (pass_above rows 6 le i.1.1.0 c) (λ r t.
         straight rows (Number 2 line ∷ []) {n = 11} l.kept.wrote (i.1.1.1.0, tt) (tt, tt) t (λ r t.
         more rows {to = stop_place SwitchRange} {w = view v s.cx line s.bx (2 * m) bp s.si area o l.cells pushed l.input l.told} t l.kept.wrote (to_place there (call rows by m back fits sp refl i.1.1.1.1.0 t)) (λ r t.
@@ -107,21 +100,11 @@ module _ (rows : Rows) (prog : OrderProgram) (image : Image) where
       → ((k m : ℕ) → slice_get marks k ≡ Some m → HasWord image (at + 20 + 2 * k) (start m % 65536)) → All OperandFits operands → WayCode at (length marks) line by table
       → Landed prog image at g true acts (record { operands = operands; memory = memory; input = input; output = output }) q
       → Chooses prog image 15 to start g false line acts output q (way_of_one (λ i v. to_mark_of_switch (mark_of_number marks i) v) operands (record { operands = operands; memory = memory; input = input; output = output }))
-  chooses_way g acts to line by table start marks [] memory input output short table_is library small arrives_at room words fits i l = tt
-  chooses_way g acts to line by table start marks (Held c ∷ rest) memory input output short table_is library small arrives_at room words fits i l = tt
-  chooses_way g acts to line by table start marks (Word (pos zero) ∷ rest) memory input output short table_is library small arrives_at room words fits i l =
-      further 15 (lit≤ tt) (lit< tt) (way_bars g acts (length marks) line by table i (pos zero) rest memory input output l (let e = none_is_far in omega arith) library small arrives_at room)
-  chooses_way g acts to line by table start marks (Word (negsuc n) ∷ rest) memory input output short table_is library small arrives_at room words fits i l =
-      let far = less_is_far n (All-head OperandFits (Word (negsuc n)) rest fits) in
-      further 15 (lit≤ tt) (lit< tt) (way_bars g acts (length marks) line by table i (negsuc n) rest memory input output l (omega arith) library small arrives_at room)
-  chooses_way {q} {at} g acts to line by table start marks (Word (pos (suc k)) ∷ rest) memory input output short table_is library small arrives_at room words fits i l = cases (slice_get marks k) refl
-    where
-      cases : (m : Option ℕ) → slice_get marks k ≡ m → Chooses prog image 15 to start g false line acts output q (to_mark_of_switch m (record { operands = rest; memory = memory; input = input; output = output }))
-      cases (Some m) is =
-          further 6 (lit≤ tt) (lit< tt)
-          (way_to g acts (length marks) line by table i (pos (suc k)) rest memory input output l (start m) k refl (slice_get_within marks k m is) short table_is (words k m is))
-      cases None none =
-          let fits_k = number_fits k (All-head OperandFits (Word (pos (suc k))) rest fits) in
-          let e = from_zero k fits_k in
-          let long = not_within marks k none in
-          further 15 (lit≤ tt) (lit< tt) (way_bars g acts (length marks) line by table i (pos (suc k)) rest memory input output l (omega arith) library small arrives_at room)
+  chooses_way g acts to line by table start marks operands memory input output short table_is library small arrives_at room words fits i l =
+      marked rows prog image g acts 15 to start line marks to_mark_of_switch operands memory input output short fits l
+      (λ k m rest is l.
+      further 6 (lit≤ tt) (lit< tt)
+      (way_to g acts (length marks) line by table i (pos (suc k)) rest memory input output l (start m) k refl (slice_get_within marks k m is) short table_is (words k m is)))
+      (λ z rest same far l.
+      further 15 (lit≤ tt) (lit< tt)
+      (way_bars g acts (length marks) line by table i z rest memory input output l far library small arrives_at (subst (λ xs. operand_words xs < level acts) same room)))

@@ -1,10 +1,10 @@
 -- The way of a switch whose labels stand in the body at work.
-use Rattle.std.proofs.Common.{◌≡◌, ℕ, ◌+◌, ◌*◌, ◌%◌, ◌≤◌, true, false, List, [], ◌∷◌, Option, Some, None, subst, arith, lit<, lit≤}
+use Rattle.std.proofs.Common.{◌≡◌, ℕ, ◌+◌, ◌*◌, ◌%◌, ◌≤◌, true, false, List, [], Some, subst, arith, lit<, lit≤}
 use Rattle.std.specs.Prelude.{slice_get}
 use Rattle.cw_unit.specs.Stop.{SwitchRange, Running}
-use Rattle.cw_unit.specs.Words.{Operand, Word, Held, Words, with_operands}
+use Rattle.cw_unit.specs.Words.{Words}
 use Rattle.cw_order.specs.declared.order.Order.TheVariants as order
-use Rattle.cw_order.specs.OrderState.{OrderActivation, at, stack_words}
+use Rattle.cw_order.specs.OrderState.{OrderActivation, at}
 use Rattle.cw_order.specs.OrderChanges.{way_of_one, to_mark_of_switch, mark_of_number}
 use Rattle.cw_tmpl.specs.Library.{stop_place, switch_entry}
 use Rattle.cw_tmpl.specs.Templates.{mark_words}
@@ -13,26 +13,10 @@ use Rattle.cw_tmpl.proofs.Sizes.{own_place}
 use Rattle.cw_follow.specs.Placing.{base_of}
 use Rattle.cw_follow.proofs.Watched.{Watched}
 use Rattle.cw_follow.proofs.Standing.{HasPieces, HasWord}
-use Rattle.cw_follow.proofs.Stacks.{words_split}
 use Rattle.cw_follow.proofs.States.{Given, Sound}
-use Rattle.cw_follow.proofs.Steps.{Follow, step_is, line_fits, has_code, start, chosen, by, calls, cheap, low_room, Alone, here, next, code, begins_next, Roomy}
+use Rattle.cw_follow.proofs.Steps.{Follow, step_is, line_fits, has_code, start, chosen, by, calls, cheap, low_room, Alone, here, next, code, begins_next}
 use Rattle.cw_follow.proofs.Tables.{mark_word_is}
 use Rattle.cw_follow.proofs.SwitchTables.{chooses_way}
-
--- its operand is taken
-way_roomy : (acts : List OrderActivation) (room : ℕ) (marks : List ℕ) (operands : List Operand) (w : Words) → stack_words operands acts ≤ room
-    → Roomy acts room (way_of_one (λ i v. to_mark_of_switch (mark_of_number marks i) v) operands w)
-way_roomy acts room marks [] w le = tt
-way_roomy acts room marks (Held c ∷ rest) w le = tt
-way_roomy acts room marks (Word y ∷ rest) w le = taken (mark_of_number marks y)
-  where
-    taken : (m : Option ℕ) → Roomy acts room (to_mark_of_switch m (with_operands w rest))
-    taken None = tt
-    taken (Some m) =
-        let a = words_split (Word y ∷ rest) acts in
-        let b = words_split rest acts in
-        let f : stack_words rest acts ≤ room = omega arith in
-        f
 
 module _ (known : Given) where
   open known use {rows, p, image, all, coded, few, low}
@@ -57,7 +41,7 @@ module _ (known : Given) where
         let f = st.fills.places (mark_starts s.orders m % 65536) (here + 20 + 2 * k + 2) in
         let x : st.value 3 0 (mark_starts s.orders m % 65536) (here + 20 + 2 * k + 2) ≡ (base_of p g + mark_starts s.orders m) % 65536 = omega arith in
         x in
-        chosen known s false line (way_of_one (λ x v. to_mark_of_switch (mark_of_number marks x) v) w.operands w) 15 (begins_next known s a o e) (way_roomy acts p.room marks w.operands w s.room)
+        chosen known s false line (way_of_one (λ x v. to_mark_of_switch (mark_of_number marks x) v) w.operands w) 15 (begins_next known s a o e)
         (step_is known s (Some o) e) (cheap known s o 15 (lit≤ tt) e)
         (chooses_way rows p image g acts (next known s a) line (by known s switch_entry stop) table (start known s) marks w.operands w.memory w.input w.output (has_code known s o e) table_is all.library
         (line_fits known s o e) stop_is (low_room known s)

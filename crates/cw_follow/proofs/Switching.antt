@@ -36,12 +36,12 @@ use Rattle.cw_follow.proofs.Watched.{Watched}
 use Rattle.cw_follow.proofs.Standing.{HasPieces, order_place, HasAll, HasWord}
 use Rattle.cw_follow.proofs.Chains.{Is, Leads, view, to_place, jump_to, near, last}
 use Rattle.cw_follow.proofs.Straight.{Number, Move, LoadArgument, straight}
-use Rattle.cw_follow.proofs.Routines.{with_ax}
+use Rattle.cw_follow.proofs.Routines.{with_ax, leads_then}
 use Rattle.cw_follow.proofs.Named.{shared_switch_named}
 use Rattle.cw_follow.proofs.Stacks.{SwitchNamed, control_small, OperandsAre, owner_above, level, record_of, top_is}
 use Rattle.cw_follow.proofs.Orders.{Kept, further}
 use Rattle.cw_follow.proofs.States.{Given, Sound}
-use Rattle.cw_follow.proofs.Leaving.{past, argument_of}
+use Rattle.cw_follow.proofs.Leaving.{argument_of}
 use Rattle.cw_follow.proofs.Tables.{goal_word_is, switches_to, switches_stop}
 use Rattle.cw_follow.proofs.Calling.{owned}
 use Rattle.cw_follow.proofs.Jumping.{goes_by_entry}
@@ -117,7 +117,7 @@ module _ (known : Given) where
               let arrives : (place' + 10 + 3 + by) % 65536 ≡ stop_place SwitchRange % 65536 = omega arith in
               leads_to known g place true acts w (at g place false acts w (Stopped SwitchRange (g + 1) line)) (steps + 15) (goes' ∙ ap (λ x. go_to_goal p line x to owner g place false acts w) none) paid
               (further (steps + 15) (let x : steps + 15 ≤ steps + 15 = omega arith in x) (let x : 0 < steps + 15 = omega arith in x)
-              (past way (λ r a.
+              (leads_then way (λ r a.
               switches_stop rows p image (suc a.below_top) g line acts (length gs) table by z w.memory w.input w.output a.kept routine (to_place at_routine a.is) a.below_top far all.library line_small arrives refl a.low_top)))
 
           goals : (x : Option Goal) → goal_at gs z ≡ x → Follow known S' q
@@ -141,7 +141,7 @@ module _ (known : Given) where
                   let word : HasWord image (place' + 29 + 2 * k.0) (label_place p l.0 l.1 % 65536) = subst (HasWord image (place' + 29 + 2 * k.0)) (goal_place known to found.0 found.1 x l (place' + 29 + 2 * k.0 + 2) isl ∙ whole) goal_word in
                   goes_by_entry known s by_itself (steps + 10) l.0 l.1 owner (let y : 0 < steps + 10 = omega arith in y) (goal_named known to n k.0 found.0 gs x l found.1 found.2 (named found.0 found.1) k.2 isl) (stands.1 gs z x l is isx isl)
                   (goes' ∙ ap (λ y. go_to_goal p line y to owner g place false acts w) isx ∙ ap (λ y. go_to p (with_label_owner owner y) g place false acts w) isl) (let y : steps + 10 + 5 ≤ weight p S' = omega arith in y)
-                  (past way (λ r a.
+                  (leads_then way (λ r a.
                   switches_to rows p image (suc a.below_top) g line acts (length gs) table by z w.memory w.input w.output a.kept routine (to_place at_routine a.is)
                   k.0 (length acts - owner) (label_place p l.0 l.1) k.1 (slice_get_within gs k.0 x k.2) short table_is word a.owner_is))
 

@@ -1,5 +1,5 @@
 -- What the code of a loop's way and of switches does: a number is compared, and the way is found in a table of the code.
-use Rattle.std.proofs.Common.{◌≡◌, ℕ, zero, suc, ◌+◌, ◌*◌, ◌%◌, ◌<◌, ◌≤◌, Bool, true, false, not, ℤ, pos, negsuc, List, [], ◌∷◌, length, drop, Option, Some, None, refl, ap, ◌∙◌, subst, arith, lit<, lit≤}
+use Rattle.std.proofs.Common.{◌≡◌, ℕ, zero, suc, ◌+◌, ◌*◌, ◌%◌, ◌<◌, ◌≤◌, Bool, true, false, not, ℤ, pos, negsuc, List, [], ◌∷◌, length, drop, Option, Some, None, refl, ap, ◌∙◌, subst, arith, lit<, lit≤, sym}
 use Rattle.std.specs.Prelude.{slice_get, ◌==◌}
 use Rattle.std.proofs.lemmas.Bool.Decides.{nat_tests}
 use Rattle.std.specs.List.{All}
@@ -19,10 +19,10 @@ use Rattle.cw_word.specs.Word.{unsigned}
 use Rattle.cw_unit.specs.declared.unit.Goal.{Goal}
 use Rattle.cw_unit.specs.declared.unit.Goal.TheVariants as goal
 use Rattle.cw_unit.specs.Stop.{SwitchRange, Stopped}
-use Rattle.cw_unit.specs.Words.{Operand, Word, Held}
+use Rattle.cw_unit.specs.Words.{Operand, Word, Held, Words}
 use Rattle.cw_order.specs.OrderProgram.{OrderProgram}
 use Rattle.cw_order.specs.OrderState.{OrderActivation}
-use Rattle.cw_order.specs.OrderChanges.{way_of_one, to_mark_in, mark_of_number}
+use Rattle.cw_order.specs.OrderChanges.{way_of_one, to_mark_in, mark_of_number, Way}
 use Rattle.cw_order.specs.FittingWords.{OperandFits}
 use Rattle.cw_order.specs.Activations.{segment_below}
 use Rattle.cw_tmpl.specs.Mnemonics.{entry_of_table}
@@ -36,10 +36,10 @@ use Rattle.cw_follow.proofs.Rows.{Rows}
 use Rattle.cw_follow.proofs.Chains.{Is, IsCompared, Leads, view, seen, to_place, call, near, compare_number, jump_below, pass_above, not_zero, jump_if, pass_if, through_table, more, compared_more, last}
 use Rattle.cw_follow.proofs.Acting.{act}
 use Rattle.cw_follow.proofs.Straight.{Move, Double, DifferenceNumber, straight}
-use Rattle.cw_follow.proofs.Routines.{Over, with_ax, quiet_in, quiet_library, flags_of, arrives, lifted, over}
+use Rattle.cw_follow.proofs.Routines.{Over, with_ax, quiet_in, quiet_library, flags_of, arrives, lifted, over, leads_then}
 use Rattle.cw_follow.proofs.Stacks.{level, record_of}
 use Rattle.cw_follow.proofs.Orders.{Kept, kept_under, Landed, landed, Chooses, further}
-use Rattle.cw_follow.proofs.Leaving.{past, kept_below, drops_operands}
+use Rattle.cw_follow.proofs.Leaving.{kept_below, drops_operands}
 use Rattle.cw_i86.specs.State.{sign_extended}
 
 -- ---- numbers
@@ -60,6 +60,11 @@ number_fits n fits = omega (arith, ints)
 some_left : (n : ℕ) → 0 < n → (n == 0) ≡ false
 some_left n lt = grind (arith, nat_tests)
 
+-- the only entry of a list of one
+only : (m k x : ℕ) → slice_get (m ∷ []) k ≡ Some x → (k ≡ 0) × (x ≡ m)
+only m zero x is = (refl, cc)
+only m (suc k) x is = absurd (cc)
+
 pub not_within : {A : Type 0} (xs : List A) (k : ℕ) → slice_get xs k ≡ None → length xs ≤ k
 not_within [] k e = omega arith
 not_within (x ∷ xs) zero e = absurd (cc)
@@ -70,21 +75,24 @@ not_within (x ∷ xs) (suc k) e = omega (arith, not_within xs k e)
 word_anywhere : (image : Image) (m n v w : ℕ) → m ≡ n → v ≡ w → HasWord image m v → HasWord image n w
 word_anywhere image m n v w e f h = subst (λ x. HasWord image x w) e (subst (λ x. HasWord image m x) f h)
 
-pub mark_word_is : (image : Image) (value : Filling) (names : Names) (at : ℕ) (ms : List ℕ) (k m : ℕ) → HasPieces image value at (mark_words names ms) → slice_get ms k ≡ Some m
-    → HasWord image (at + 2 * k) (value 3 0 (mark_place names m % 65536) (at + 2 * k + 2))
-mark_word_is image value names at [] k m h is = absurd (cc)
-mark_word_is image value names at (x ∷ xs) zero m h is =
-    let same : x ≡ m = cc in
+-- the word of an entry of a table, whose code stands at its place
+table_word : {A : Type 0} (image : Image) (value : A → ℕ → ℕ) (Stand : ℕ → List A → Type 0) → ((at : ℕ) (x : A) (xs : List A) → Stand at (x ∷ xs) → HasWord image at (value x (at + 2)) × Stand (at + 2) xs)
+    → (at : ℕ) (xs : List A) (k : ℕ) (x : A) → Stand at xs → slice_get xs k ≡ Some x → HasWord image (at + 2 * k) (value x (at + 2 * k + 2))
+table_word image value Stand first at [] k x h is = absurd (cc)
+table_word image value Stand first at (y ∷ xs) zero x h is =
+    let same : y ≡ x = cc in
     let e : at ≡ at + 2 * 0 = omega arith in
     let f : at + 2 ≡ at + 2 * 0 + 2 = omega arith in
-    word_anywhere image at (at + 2 * 0) (value 3 0 (mark_place names x % 65536) (at + 2)) (value 3 0 (mark_place names m % 65536) (at + 2 * 0 + 2)) e
-    (ap (λ y. value 3 0 (mark_place names y % 65536) (at + 2)) same ∙ ap (value 3 0 (mark_place names m % 65536)) f) h.0
-mark_word_is image value names at (x ∷ xs) (suc k) m h is =
-    let w = mark_word_is image value names (at + 2) xs k m h.1 is in
+    word_anywhere image at (at + 2 * 0) (value y (at + 2)) (value x (at + 2 * 0 + 2)) e (ap (λ z. value z (at + 2)) same ∙ ap (value x) f) (first at y xs h).0
+table_word image value Stand first at (y ∷ xs) (suc k) x h is =
+    let w = table_word image value Stand first (at + 2) xs k x (first at y xs h).1 is in
     let e : at + 2 + 2 * k ≡ at + 2 * suc k = omega arith in
     let f : at + 2 + 2 * k + 2 ≡ at + 2 * suc k + 2 = omega arith in
-    word_anywhere image (at + 2 + 2 * k) (at + 2 * suc k) (value 3 0 (mark_place names m % 65536) (at + 2 + 2 * k + 2)) (value 3 0 (mark_place names m % 65536) (at + 2 * suc k + 2)) e
-    (ap (value 3 0 (mark_place names m % 65536)) f) w
+    word_anywhere image (at + 2 + 2 * k) (at + 2 * suc k) (value x (at + 2 + 2 * k + 2)) (value x (at + 2 * suc k + 2)) e (ap (value x) f) w
+
+pub mark_word_is : (image : Image) (value : Filling) (names : Names) (at : ℕ) (ms : List ℕ) (k m : ℕ) → HasPieces image value at (mark_words names ms) → slice_get ms k ≡ Some m
+    → HasWord image (at + 2 * k) (value 3 0 (mark_place names m % 65536) (at + 2 * k + 2))
+mark_word_is image value names = table_word image (λ m after. value 3 0 (mark_place names m % 65536) after) (λ at ms. HasPieces image value at (mark_words names ms)) (λ at x xs h. (h.0, h.1))
 
 -- the word of a goal
 abbrev pub goal_value : Filling → Names → Goal → ℕ → ℕ
@@ -93,29 +101,23 @@ goal_value value names (goal.Common d) after = value 4 d 0 after
 
 pub goal_word_is : (image : Image) (value : Filling) (names : Names) (at : ℕ) (gs : List Goal) (k : ℕ) (x : Goal) → HasPieces image value at (goal_words names gs) → slice_get gs k ≡ Some x
     → HasWord image (at + 2 * k) (goal_value value names x (at + 2 * k + 2))
-goal_word_is image value names at [] k x h is = absurd (cc)
-goal_word_is image value names at (goal.Own l ∷ gs) zero x h is =
-    let same : goal.Own l ≡ x = cc in
-    let e : at ≡ at + 2 * 0 = omega arith in
-    let f : at + 2 ≡ at + 2 * 0 + 2 = omega arith in
-    word_anywhere image at (at + 2 * 0) (goal_value value names (goal.Own l) (at + 2)) (goal_value value names x (at + 2 * 0 + 2)) e
-    (ap (λ y. goal_value value names y (at + 2)) same ∙ ap (goal_value value names x) f) h.0
-goal_word_is image value names at (goal.Common d ∷ gs) zero x h is =
-    let same : goal.Common d ≡ x = cc in
-    let e : at ≡ at + 2 * 0 = omega arith in
-    let f : at + 2 ≡ at + 2 * 0 + 2 = omega arith in
-    word_anywhere image at (at + 2 * 0) (goal_value value names (goal.Common d) (at + 2)) (goal_value value names x (at + 2 * 0 + 2)) e
-    (ap (λ y. goal_value value names y (at + 2)) same ∙ ap (goal_value value names x) f) h.0
-goal_word_is image value names at (goal.Own l ∷ gs) (suc k) x h is =
-    let w = goal_word_is image value names (at + 2) gs k x h.1 is in
-    let e : at + 2 + 2 * k ≡ at + 2 * suc k = omega arith in
-    let f : at + 2 + 2 * k + 2 ≡ at + 2 * suc k + 2 = omega arith in
-    word_anywhere image (at + 2 + 2 * k) (at + 2 * suc k) (goal_value value names x (at + 2 + 2 * k + 2)) (goal_value value names x (at + 2 * suc k + 2)) e (ap (goal_value value names x) f) w
-goal_word_is image value names at (goal.Common d ∷ gs) (suc k) x h is =
-    let w = goal_word_is image value names (at + 2) gs k x h.1 is in
-    let e : at + 2 + 2 * k ≡ at + 2 * suc k = omega arith in
-    let f : at + 2 + 2 * k + 2 ≡ at + 2 * suc k + 2 = omega arith in
-    word_anywhere image (at + 2 + 2 * k) (at + 2 * suc k) (goal_value value names x (at + 2 + 2 * k + 2)) (goal_value value names x (at + 2 * suc k + 2)) e (ap (goal_value value names x) f) w
+goal_word_is image value names = table_word image (goal_value value names) (λ at gs. HasPieces image value at (goal_words names gs)) first
+  where
+    first : (at : ℕ) (x : Goal) (xs : List Goal) → HasPieces image value at (goal_words names (x ∷ xs)) → HasWord image at (goal_value value names x (at + 2)) × HasPieces image value (at + 2) (goal_words names xs)
+    first at (goal.Own l) xs h = (h.0, h.1)
+    first at (goal.Common d) xs h = (h.0, h.1)
+
+-- the entry of a table that a number leads to
+pub record Entry (at n k table : ℕ) (z : ℤ) : Type 0 where
+  pub low : word_difference (unsigned z) 1 < n
+  pub small : word_difference (unsigned z) 1 < 32768
+  pub there : (2 * word_difference (unsigned z) 1 + table) % 65536 ≡ at + 20 + 2 * k
+
+pub table_entry : (image : Image) (at n k table to : ℕ) (z : ℤ) → z ≡ pos (suc k) → k < n → n < 32768 → table ≡ (at + 20) % 65536 → HasWord image (at + 20 + 2 * k) (to % 65536) → length image.bytes ≤ 65536 → Entry at n k table z
+table_entry image at n k table to z is_z lt short table_is word fits =
+    let is : word_difference (unsigned z) 1 ≡ k = ap (λ x. word_difference (unsigned x) 1) is_z ∙ from_zero k (omega arith) in
+    let within = word.within in
+    record { low = omega arith; small = omega arith; there = omega arith }
 
 module _ (rows : Rows) (prog : OrderProgram) (image : Image) where
   -- ---- the number
@@ -127,6 +129,29 @@ module _ (rows : Rows) (prog : OrderProgram) (image : Image) where
   compares {q} {at} u n wrote i s =
       straight rows (DifferenceNumber 1 ∷ Move 3 0 ∷ []) {n = 1} wrote (i.0, (i.1.0, tt)) (tt, (tt, tt)) s (λ q t.
       last rows t wrote (compare_number rows n i.1.1.0 t))
+
+  -- the number on top is that of a mark, or there is no mark for it; where no number is on top nothing is asked
+  pub marked : {q : Watched} {at : ℕ} (g : ℕ) (acts : List OrderActivation) (limit to : ℕ) (start : ℕ → ℕ) (line : ℕ) (marks : List ℕ) (f : Option ℕ → Words → Way) (operands : List Operand) (memory : List ℤ) (input output : List ℕ) → length marks < 32768
+      → All OperandFits operands → Landed prog image at g true acts (record { operands = operands; memory = memory; input = input; output = output }) q
+      → ((k m : ℕ) (rest : List Operand) → slice_get marks k ≡ Some m → Landed prog image at g true acts (record { operands = Word (pos (suc k)) ∷ rest; memory = memory; input = input; output = output }) q
+      → Chooses prog image limit to start g false line acts output q (f (Some m) (record { operands = rest; memory = memory; input = input; output = output })))
+      → ((z : ℤ) (rest : List Operand) → operands ≡ Word z ∷ rest → length marks ≤ word_difference (unsigned z) 1 → Landed prog image at g true acts (record { operands = Word z ∷ rest; memory = memory; input = input; output = output }) q
+      → Chooses prog image limit to start g false line acts output q (f None (record { operands = rest; memory = memory; input = input; output = output })))
+      → Chooses prog image limit to start g false line acts output q (way_of_one (λ i v. f (mark_of_number marks i) v) operands (record { operands = operands; memory = memory; input = input; output = output }))
+  marked g acts limit to start line marks f [] memory input output short fits l some none = tt
+  marked g acts limit to start line marks f (Held c ∷ rest) memory input output short fits l some none = tt
+  marked g acts limit to start line marks f (Word (pos zero) ∷ rest) memory input output short fits l some none = none (pos 0) rest refl (let e = none_is_far in omega arith) l
+  marked g acts limit to start line marks f (Word (negsuc n) ∷ rest) memory input output short fits l some none =
+      let far = less_is_far n (All-head OperandFits (Word (negsuc n)) rest fits) in
+      none (negsuc n) rest refl (omega arith) l
+  marked {q} g acts limit to start line marks f (Word (pos (suc k)) ∷ rest) memory input output short fits l some none = cases (slice_get marks k) refl
+    where
+      cases : (m : Option ℕ) → slice_get marks k ≡ m → Chooses prog image limit to start g false line acts output q (f m (record { operands = rest; memory = memory; input = input; output = output }))
+      cases (Some m) is = some k m rest is l
+      cases None is =
+          let e = from_zero k (number_fits k (All-head OperandFits (Word (pos (suc k))) rest fits)) in
+          let long = not_within marks k is in
+          none (pos (suc k)) rest refl (omega arith) l
 
   -- ---- the way of a loop
 
@@ -151,24 +176,19 @@ module _ (rows : Rows) (prog : OrderProgram) (image : Image) where
     loop_to : (to k : ℕ) → z ≡ pos (suc k) → k < n → n < 32768 → table ≡ (at + 20) % 65536 → HasWord image (at + 20 + 2 * k) (to % 65536)
         → Leads output 6 q (Landed prog image to g false acts (record { operands = rest; memory = memory; input = input; output = output }))
     loop_to to k is_z lt short table_is word =
-        let v_is : v ≡ k = ap (λ x. word_difference (unsigned x) 1) is_z ∙ from_zero k (omega arith) in
-        let low : v < n = omega arith in
-        let small : v < 32768 = omega arith in
-        let within = word.within in
-        let fits = l.stacked.is.sees.fits in
-        let entry : (2 * v + table) % 65536 ≡ at + 20 + 2 * k = omega arith in
-        past {m = 3} {n = 3} compared (λ r c.
-        compared_more rows {Between = Is image (at + 3 + 2 + 3 + 2 + 3) (seen_with v (difference_overflows v n))} c.is l.kept.wrote (jump_below rows 3 low i.1.1.1.0 c) (λ r t.
-        straight rows (Double 3 ∷ []) {n = 1} l.kept.wrote (i.1.1.1.1.1.0, tt) (small, tt) t (λ r t.
+        let e = table_entry image at n k table to z is_z lt short table_is word l.stacked.is.sees.fits in
+        leads_then {n = 3} {m = 3} compared (λ r c.
+        compared_more rows {Between = Is image (at + 3 + 2 + 3 + 2 + 3) (seen_with v (difference_overflows v n))} c.is l.kept.wrote (jump_below rows 3 e.low i.1.1.1.0 c) (λ r t.
+        straight rows (Double 3 ∷ []) {n = 1} l.kept.wrote (i.1.1.1.1.1.0, tt) (e.small, tt) t (λ r t.
         last rows t l.kept.wrote
-        (landed rows prog image g acts false to l.top rest memory input output refl l.operands.1 l.kept (through_table rows table (at + 20 + 2 * k) to entry within word.is i.1.1.1.1.1.1.0 t)))))
+        (landed rows prog image g acts false to l.top rest memory input output refl l.operands.1 l.kept (through_table rows table (at + 20 + 2 * k) to e.there word.within word.is i.1.1.1.1.1.1.0 t)))))
 
     -- and one that has none
     loop_past : (to : ℕ) → n ≤ v → (at + 13 + by) % 65536 ≡ to % 65536
         → Leads output 5 q (Landed prog image to g false acts (record { operands = rest; memory = memory; input = input; output = output }))
     loop_past to le arrives =
         let there : (at + 3 + 2 + 3 + 2 + 3 + by) % 65536 ≡ to % 65536 = omega arith in
-        past {m = 3} {n = 2} compared (λ r c.
+        leads_then {n = 3} {m = 2} compared (λ r c.
         compared_more rows {Between = Is image (at + 3 + 2 + 3 + 2) (seen_with v (difference_overflows v n))} c.is l.kept.wrote (pass_above rows 3 le i.1.1.1.0 c) (λ r t.
         last rows t l.kept.wrote (landed rows prog image g acts false to l.top rest memory input output refl l.operands.1 l.kept (to_place there (near rows by i.1.1.1.1.0 t)))))
 
@@ -177,22 +197,10 @@ module _ (rows : Rows) (prog : OrderProgram) (image : Image) where
       → ((k m : ℕ) → slice_get marks k ≡ Some m → HasWord image (at + 20 + 2 * k) (start m % 65536)) → All OperandFits operands → LoopCode at (length marks) by table
       → Landed prog image at g true acts (record { operands = operands; memory = memory; input = input; output = output }) q
       → Chooses prog image 6 to start g false 0 acts output q (way_of_one (λ i v. to_mark_in (mark_of_number marks i) v) operands (record { operands = operands; memory = memory; input = input; output = output }))
-  loops g acts to by table start marks [] memory input output short table_is arrives words fits i l = tt
-  loops g acts to by table start marks (Held c ∷ rest) memory input output short table_is arrives words fits i l = tt
-  loops g acts to by table start marks (Word (pos zero) ∷ rest) memory input output short table_is arrives words fits i l =
-      further 5 (lit≤ tt) (lit< tt) (loop_past g acts (length marks) by table i (pos zero) rest memory input output l to (let e = none_is_far in omega arith) arrives)
-  loops g acts to by table start marks (Word (negsuc n) ∷ rest) memory input output short table_is arrives words fits i l =
-      let far = less_is_far n (All-head OperandFits (Word (negsuc n)) rest fits) in
-      further 5 (lit≤ tt) (lit< tt) (loop_past g acts (length marks) by table i (negsuc n) rest memory input output l to (omega arith) arrives)
-  loops {q} {at} g acts to by table start marks (Word (pos (suc k)) ∷ rest) memory input output short table_is arrives words fits i l = cases (slice_get marks k) refl
-    where
-      cases : (m : Option ℕ) → slice_get marks k ≡ m → Chooses prog image 6 to start g false 0 acts output q (to_mark_in m (record { operands = rest; memory = memory; input = input; output = output }))
-      cases (Some m) is = further 6 (lit≤ tt) (lit< tt) (loop_to g acts (length marks) by table i (pos (suc k)) rest memory input output l (start m) k refl (slice_get_within marks k m is) short table_is (words k m is))
-      cases None none =
-          let small = number_fits k (All-head OperandFits (Word (pos (suc k))) rest fits) in
-          let e = from_zero k small in
-          let long = not_within marks k none in
-          further 5 (lit≤ tt) (lit< tt) (loop_past g acts (length marks) by table i (pos (suc k)) rest memory input output l to (omega arith) arrives)
+  loops g acts to by table start marks operands memory input output short table_is arrives words fits i l =
+      marked g acts 6 to start 0 marks to_mark_in operands memory input output short fits l
+      (λ k m rest is l. further 6 (lit≤ tt) (lit< tt) (loop_to g acts (length marks) by table i (pos (suc k)) rest memory input output l (start m) k refl (slice_get_within marks k m is) short table_is (words k m is)))
+      (λ z rest same far l. further 5 (lit≤ tt) (lit< tt) (loop_past g acts (length marks) by table i z rest memory input output l to far arrives))
 
   -- ---- the way of a loop of one element
 
@@ -231,19 +239,12 @@ module _ (rows : Rows) (prog : OrderProgram) (image : Image) where
       → at + 6 ≡ to → (at + 6 + by) % 65536 ≡ start m % 65536 → All OperandFits operands → HasAll image at (i86.Dec 0 ∷ i86.JumpIf 5 3 ∷ i86.Jump by ∷ [])
       → Landed prog image at g true acts (record { operands = operands; memory = memory; input = input; output = output }) q
       → Chooses prog image 3 to start g false 0 acts output q (way_of_one (λ i v. to_mark_in (mark_of_number (m ∷ []) i) v) operands (record { operands = operands; memory = memory; input = input; output = output }))
-  loops_once g acts to by start m [] memory input output e arrives fits i l = tt
-  loops_once g acts to by start m (Held c ∷ rest) memory input output e arrives fits i l = tt
-  loops_once g acts to by start m (Word (pos zero) ∷ rest) memory input output e arrives fits i l =
-      further 2 (lit≤ tt) (lit< tt) (one_past g acts by i (pos zero) rest memory input output l to refl e)
-  loops_once g acts to by start m (Word (pos (suc zero)) ∷ rest) memory input output e arrives fits i l =
-      further 3 (lit≤ tt) (lit< tt) (one_to g acts by i (pos 1) rest memory input output l (start m) refl arrives)
-  loops_once g acts to by start m (Word (pos (suc (suc k))) ∷ rest) memory input output e arrives fits i l =
-      let small = number_fits (suc k) (All-head OperandFits (Word (pos (suc (suc k)))) rest fits) in
-      let left = from_zero (suc k) small in
-      further 2 (lit≤ tt) (lit< tt) (one_past g acts by i (pos (suc (suc k))) rest memory input output l to (some_left _ (omega arith)) e)
-  loops_once g acts to by start m (Word (negsuc n) ∷ rest) memory input output e arrives fits i l =
-      let far = less_is_far n (All-head OperandFits (Word (negsuc n)) rest fits) in
-      further 2 (lit≤ tt) (lit< tt) (one_past g acts by i (negsuc n) rest memory input output l to (some_left _ (omega arith)) e)
+  loops_once g acts to by start m operands memory input output e arrives fits i l =
+      marked g acts 3 to start 0 (m ∷ []) to_mark_in operands memory input output (lit< tt) fits l
+      (λ k x rest is l.
+      let o = only m k x is in
+      further 3 (lit≤ tt) (lit< tt) (one_to g acts by i (pos (suc k)) rest memory input output l (start x) (ap (λ j. word_difference (unsigned (pos (suc j))) 1 == 0) o.0) (arrives ∙ ap (λ y. start y % 65536) (sym o.1))))
+      (λ z rest same far l. further 2 (lit≤ tt) (lit< tt) (one_past g acts by i z rest memory input output l to (some_left _ (omega arith)) e))
 
   -- the same with a short jump
   module _ {q : Watched} {at : ℕ} (g : ℕ) (acts : List OrderActivation) (by : ℕ) (i : HasAll image at (i86.Dec 0 ∷ i86.JumpIf 4 by ∷ [])) (z : ℤ) (rest : List Operand) (memory : List ℤ) (input output : List ℕ)
@@ -279,19 +280,12 @@ module _ (rows : Rows) (prog : OrderProgram) (image : Image) where
       → at + 3 ≡ to → (at + 3 + sign_extended by) % 65536 ≡ start m % 65536 → All OperandFits operands → HasAll image at (i86.Dec 0 ∷ i86.JumpIf 4 by ∷ [])
       → Landed prog image at g true acts (record { operands = operands; memory = memory; input = input; output = output }) q
       → Chooses prog image 3 to start g false 0 acts output q (way_of_one (λ i v. to_mark_in (mark_of_number (m ∷ []) i) v) operands (record { operands = operands; memory = memory; input = input; output = output }))
-  loops_close g acts to by start m [] memory input output e arrives fits i l = tt
-  loops_close g acts to by start m (Held c ∷ rest) memory input output e arrives fits i l = tt
-  loops_close g acts to by start m (Word (pos zero) ∷ rest) memory input output e arrives fits i l =
-      further 2 (lit≤ tt) (lit< tt) (short_past g acts by i (pos zero) rest memory input output l to refl e)
-  loops_close g acts to by start m (Word (pos (suc zero)) ∷ rest) memory input output e arrives fits i l =
-      further 2 (lit≤ tt) (lit< tt) (short_to g acts by i (pos 1) rest memory input output l (start m) refl arrives)
-  loops_close g acts to by start m (Word (pos (suc (suc k))) ∷ rest) memory input output e arrives fits i l =
-      let small = number_fits (suc k) (All-head OperandFits (Word (pos (suc (suc k)))) rest fits) in
-      let left = from_zero (suc k) small in
-      further 2 (lit≤ tt) (lit< tt) (short_past g acts by i (pos (suc (suc k))) rest memory input output l to (some_left _ (omega arith)) e)
-  loops_close g acts to by start m (Word (negsuc n) ∷ rest) memory input output e arrives fits i l =
-      let far = less_is_far n (All-head OperandFits (Word (negsuc n)) rest fits) in
-      further 2 (lit≤ tt) (lit< tt) (short_past g acts by i (negsuc n) rest memory input output l to (some_left _ (omega arith)) e)
+  loops_close g acts to by start m operands memory input output e arrives fits i l =
+      marked g acts 3 to start 0 (m ∷ []) to_mark_in operands memory input output (lit< tt) fits l
+      (λ k x rest is l.
+      let o = only m k x is in
+      further 2 (lit≤ tt) (lit< tt) (short_to g acts by i (pos (suc k)) rest memory input output l (start x) (ap (λ j. word_difference (unsigned (pos (suc j))) 1 == 0) o.0) (arrives ∙ ap (λ y. start y % 65536) (sym o.1))))
+      (λ z rest same far l. further 2 (lit≤ tt) (lit< tt) (short_past g acts by i z rest memory input output l to (some_left _ (omega arith)) e))
 
   -- ---- switches
 
@@ -316,10 +310,10 @@ module _ (rows : Rows) (prog : OrderProgram) (image : Image) where
         let area = prog.limits.area in
         let o = double_overflows v in
         let d = i.1.1.1.1.1.1.1 in
-        past {m = 3} {n = 7} (compares (unsigned z) n kept.wrote (i.0, (i.1.0, (i.1.1.0, tt))) s) (λ r c.
+        leads_then {n = 3} {m = 7} (compares (unsigned z) n kept.wrote (i.0, (i.1.0, (i.1.1.0, tt))) s) (λ r c.
         compared_more rows {Between = Is image (at + 3 + 2 + 3 + 2 + 3) (view v cx line v (2 * top) (record_of acts) si area (difference_overflows v n) cells stack left told)} c.is kept.wrote (jump_below rows 3 low i.1.1.1.0 c) (λ r t.
         straight rows (Double 3 ∷ Move 5 6 ∷ []) {n = 4} kept.wrote (i.1.1.1.1.1.0, (i.1.1.1.1.1.1.0, tt)) (small, (tt, tt)) t (λ r t.
-        past {m = 3} {n = 1} (drops_operands rows prog image here kept.wrote (d.0, (d.1.0, (d.1.1.0, tt))) (seen refl (ap (λ x. view v cx line (2 * v) (2 * top) x si area o cells stack left told) owner) t)) (λ r t.
+        leads_then {n = 3} {m = 1} (drops_operands rows prog image here kept.wrote (d.0, (d.1.0, (d.1.1.0, tt))) (seen refl (ap (λ x. view v cx line (2 * v) (2 * top) x si area o cells stack left told) owner) t)) (λ r t.
         let there = seen {to = at + 3 + 2 + 3 + 2 + 3 + 2 + 2 + 2 + 3 + 2} (let e : at + 3 + 2 + 3 + 2 + 3 + 2 + 2 + 7 ≡ at + 3 + 2 + 3 + 2 + 3 + 2 + 2 + 2 + 3 + 2 = omega arith in e) refl t in
         last rows there kept.wrote (landed rows prog image (segment_below m g acts) here false to (level here) [] memory input output refl refl (kept_below m kept)
         (through_table rows table (at + 29 + 2 * k) to entry within word.is d.1.1.1.0 there))))))
@@ -340,7 +334,7 @@ module _ (rows : Rows) (prog : OrderProgram) (image : Image) where
         let pushed : ℕ → ℕ = put_word stack m back in
         let there : (at + 3 + 2 + 3 + 2 + 3 + by) % 65536 ≡ stop_place SwitchRange % 65536 = omega arith in
         let wrote : told.output ≡ output = kept.wrote in
-        past {m = 3} {n = 12} (compares (unsigned z) n wrote (i.0, (i.1.0, (i.1.1.0, tt))) s) (λ r c.
+        leads_then {n = 3} {m = 12} (compares (unsigned z) n wrote (i.0, (i.1.0, (i.1.1.0, tt))) s) (λ r c.
         compared_more rows {Between = Is image (at + 3 + 2 + 3 + 2) (view v cx line v (2 * top) bp si area o cells stack left told)} c.is wrote (pass_above rows 3 le i.1.1.1.0 c) (λ r t.
         more rows {to = stop_place SwitchRange} {w = view v cx line v (2 * m) bp si area o cells pushed left told} t wrote (to_place there (call rows by m back fits sp refl i.1.1.1.1.0 t)) (λ r t.
         subst (λ x. Leads x 10 r (Over (record { output = x; end = Stopped SwitchRange (g + 1) line }))) wrote

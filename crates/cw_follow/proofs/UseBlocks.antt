@@ -1,6 +1,6 @@
 -- Blocks that save the top operand, put a simple one and use both.
 use Rattle.std.proofs.Common.{◌≡◌, ℕ, suc, ◌+◌, ◌*◌, ◌%◌, ◌<◌, ◌≤◌, Bool, true, false, not, ℤ, pos, ◌+ℤ◌, ◌-ℤ◌, ◌*ℤ◌, List, [], ◌∷◌, ◌++◌, length, drop, None, Some, refl, sym, ap, ap₂, ◌∙◌, subst, arith, lit<, lit≤}
-use Rattle.std.specs.Prelude.{bit_and, bit_or, bit_xor, nat_lt, if◌then◌else◌}
+use Rattle.std.specs.Prelude.{nat_lt, if◌then◌else◌}
 use borrow.Author.Tests.{ltb-true}
 use Rattle.std.specs.List.{All}
 use Rattle.std.proofs.lemmas.List.Elements.{All-head}
@@ -9,12 +9,13 @@ use Rattle.cw_i86.specs.declared.instr.Imm.TheVariants as imm
 use Rattle.cw_i86.specs.declared.instr.Rm.TheVariants as rms
 use Rattle.cw_i86.specs.declared.instr.Place.TheVariants as places
 use Rattle.cw_run86.specs.Views.{product_low, product_overflows}
-use Rattle.cw_rows86.specs.Operations.{Add, Or, And, Subtract, Xor, Compare, number_of}
+use Rattle.cw_rows86.specs.Operations.{Add, Or, And, Subtract, Xor, Compare, number_of, WordOperation}
 use Rattle.cw_word.specs.FixedPoint.{FitsWord, fits_word, scaled_product}
 use Rattle.cw_word.specs.Word.{signed, unsigned}
+use Rattle.cw_unit.specs.declared.unit.LogicOp.{LogicOp}
 use Rattle.cw_unit.specs.declared.unit.LogicOp.TheVariants as logic
 use Rattle.cw_unit.specs.Stop.{Running}
-use Rattle.cw_unit.specs.Words.{Operand, Word, Held, Words, Outcome, Changed, Impossible, put, put_value, word_at, through, is_below, number_of as number_in}
+use Rattle.cw_unit.specs.Words.{Operand, Word, Held, Words, Outcome, Changed, Impossible, put, put_value, word_at, on_one, logic_word}
 use Rattle.cw_unit.specs.Operation.{Fetch, Combine, Multiply, perform, holds}
 use Rattle.cw_unit.specs.Operation as operation
 use Rattle.cw_order.specs.declared.order.Comparator.{Comparator}
@@ -41,25 +42,25 @@ use Rattle.cw_tmpl.specs.Templates.{frame_size, with_operand, product_with, chec
 use Rattle.cw_tmpl.specs.ShortForms.{check_of, is_short}
 use Rattle.cw_tmpl.specs.ReferenceCode.{names_of, mark_starts, reach_of}
 use Rattle.cw_i86.specs.Encoding.{bytes_of}
-use Rattle.cw_follow.proofs.Fields.{doubled_small, field_denotes}
+use Rattle.cw_follow.proofs.Fields.{field_denotes, frame_word_at}
 use Rattle.cw_follow.specs.Placing.{base_of}
 use Rattle.cw_tmpl.proofs.Lengths.{field_loaded, field_operated}
 use Rattle.cw_tmpl.proofs.Sizes.{frame_used_long, own_place, size_by}
 use Rattle.cw_tmpl.proofs.Endings.{checked_long}
-use Rattle.cw_follow.proofs.Standing.{HasPieces, order_place, Has, HasAll}
+use Rattle.cw_follow.proofs.Standing.{HasPieces, Has, HasAll}
 use Rattle.cw_follow.proofs.Watched.{Watched}
 use Rattle.cw_follow.proofs.Chains.{Is, Leads, view, done, more, load_at, move as moved_to}
 use Rattle.cw_follow.proofs.Straight.{Number, Move, Product, LoadSlot, LoadWord, straight}
-use Rattle.cw_follow.proofs.Stacks.{level, record_of, top_is, base_word}
-use Rattle.cw_follow.proofs.Orders.{Landed, Does, Chooses, Checked, below_area, later, sooner}
-use Rattle.cw_follow.proofs.Operands.{Setting, words, DoesHere}
-use Rattle.cw_follow.proofs.Operating.{Named, number_named, word_named, sum_of, difference_of, mask_of, union_of, difference_in_bits, comparison_of, product_of}
+use Rattle.cw_follow.proofs.Stacks.{level, record_of, top_is, base_word, base_there}
+use Rattle.cw_follow.proofs.Orders.{Landed, Does, Chooses, Checked, later, sooner, through_word}
+use Rattle.cw_follow.proofs.Operands.{Setting, words, DoesHere, unrefused_one}
+use Rattle.cw_follow.proofs.Operating.{Named, number_named, word_named, sum_of, difference_of, instruction_of, combination_of, comparison_of, product_of}
 use Rattle.cw_follow.proofs.Addresses.{product_overflows_is, product_is}
 use Rattle.cw_follow.proofs.Scales.{turned_overflows, turned_is}
 use Rattle.cw_follow.proofs.Indexed.{element_steps, few_element}
 use Rattle.cw_follow.proofs.States.{Given, Sound}
 use Rattle.cw_follow.proofs.InBlocks.{chain}
-use Rattle.cw_follow.proofs.Steps.{Follow, setting, weight_is, line_fits, block_code, block_ends, start_place, order_here, last_does, start, last_chooses, two_roomy, way_after, reaches_mark}
+use Rattle.cw_follow.proofs.Steps.{Follow, setting, weight_is, line_fits, block_code, block_ends, start_place, order_here, last_does, start, last_chooses, way_after, reaches_mark, code_end}
 use Rattle.cw_follow.proofs.CheckedBlocks.{checked_block}
 use Rattle.cw_follow.proofs.OperandCode.{named_at, named_size, naming, offset_at, operand_code, alone_code, named_end, OneOperation, tested_size, operand_long, compare_size, compared_size}
 use Rattle.cw_follow.proofs.BlockOrders.{WithoutAddress, room_in, operand_puts, block_follows, saved, step_in, number_small}
@@ -106,64 +107,34 @@ module _ (c : Setting) (memory : List ℤ) (input output : List ℕ) where
 
   -- where the operation stands, and where its code ends
   module _ {p : Watched} (at : ℕ) (s : Simple) (to w : ℕ) (y : ℤ) (operands : List Operand) (fy : FitsWord y) (fits : All OperandFits operands) (named : NamedFrom at w s y operands p) where
+    -- a word below y and y, once the code comes to the instruction
+    on_both : (limit bound line : ℕ) (f : ℤ → Words → Outcome) → 7 + limit ≤ bound
+        → ((x : ℤ) (rest : List Operand) → FitsWord x → (q : Watched) → Named c memory input output (named_at s at) (named_size s) (naming w s) x y rest q → DoesHere c memory input output limit to true line q (f x (words rest memory input output)))
+        → DoesHere c memory input output bound to true line p (on_one f operands (words operands memory input output))
+    on_both limit bound line f le does = cases operands refl
+      where
+        cases : (xs : List Operand) → operands ≡ xs → DoesHere c memory input output bound to true line p (on_one f xs (words xs memory input output))
+        cases [] is = tt
+        cases (Held d ∷ rest) is = tt
+        cases (Word x ∷ rest) is =
+            let few = few_steps s in
+            later c.program c.image limit to c.g true line c.acts (steps_to s) bound (f x (words rest memory input output)) (omega arith) (named x rest is) (does x rest (top_fits operands fits x rest is))
+
     -- an operation and its test
     module _ (line : ℕ) (small : line < 65536) (i : Checked c.image (named_at s at + named_size s) to line) where
       add_used : Has c.image (named_at s at) (naming w s Add) → DoesHere c memory input output 22 to true line p (perform c.program.limits.area operation.Add (put y (words operands memory input output)))
-      add_used h = cases operands refl
-        where
-          cases : (xs : List Operand) → operands ≡ xs → DoesHere c memory input output 22 to true line p (perform c.program.limits.area operation.Add (put y (words xs memory input output)))
-          cases [] is = tt
-          cases (Held d ∷ rest) is = tt
-          cases (Word x ∷ rest) is =
-              let few = few_steps s in
-              later c.program c.image 15 to c.g true line c.acts (steps_to s) 22 (put_value (x +ℤ y) (words rest memory input output)) (omega arith) (named x rest is)
-              (λ q r. sum_of c memory input output to line x y rest (top_fits operands fits x rest is) fy small h i r)
+      add_used h = on_both 15 22 line (λ x v. put_value (x +ℤ y) v) (lit≤ tt) (λ x rest fx q r. sum_of c memory input output to line x y rest fx fy small h i r)
 
       subtract_used : Has c.image (named_at s at) (naming w s Subtract) → DoesHere c memory input output 22 to true line p (perform c.program.limits.area operation.Subtract (put y (words operands memory input output)))
-      subtract_used h = cases operands refl
-        where
-          cases : (xs : List Operand) → operands ≡ xs → DoesHere c memory input output 22 to true line p (perform c.program.limits.area operation.Subtract (put y (words xs memory input output)))
-          cases [] is = tt
-          cases (Held d ∷ rest) is = tt
-          cases (Word x ∷ rest) is =
-              let few = few_steps s in
-              later c.program c.image 15 to c.g true line c.acts (steps_to s) 22 (put_value (x -ℤ y) (words rest memory input output)) (omega arith) (named x rest is)
-              (λ q r. difference_of c memory input output to line x y rest (top_fits operands fits x rest is) fy small h i r)
+      subtract_used h = on_both 15 22 line (λ x v. put_value (x -ℤ y) v) (lit≤ tt) (λ x rest fx q r. difference_of c memory input output to line x y rest fx fy small h i r)
 
     -- bits
-    module _ (e : named_at s at + named_size s ≡ to) where
-      mask_used : Has c.image (named_at s at) (naming w s And) → DoesHere c memory input output 8 to true 0 p (unrefused (perform c.program.limits.area (Combine logic.Mask) (put y (words operands memory input output))))
-      mask_used h = cases operands refl
-        where
-          cases : (xs : List Operand) → operands ≡ xs → DoesHere c memory input output 8 to true 0 p (unrefused (perform c.program.limits.area (Combine logic.Mask) (put y (words xs memory input output))))
-          cases [] is = tt
-          cases (Held d ∷ rest) is = tt
-          cases (Word x ∷ rest) is =
-              let few = few_steps s in
-              later c.program c.image 1 to c.g true 0 c.acts (steps_to s) 8 (Changed (put (signed (bit_and (unsigned x) (unsigned y))) (words rest memory input output))) (omega arith) (named x rest is)
-              (λ q r. mask_of c memory input output to x y rest (top_fits operands fits x rest is) fy e h r)
-
-      union_used : Has c.image (named_at s at) (naming w s Or) → DoesHere c memory input output 8 to true 0 p (unrefused (perform c.program.limits.area (Combine logic.Union) (put y (words operands memory input output))))
-      union_used h = cases operands refl
-        where
-          cases : (xs : List Operand) → operands ≡ xs → DoesHere c memory input output 8 to true 0 p (unrefused (perform c.program.limits.area (Combine logic.Union) (put y (words xs memory input output))))
-          cases [] is = tt
-          cases (Held d ∷ rest) is = tt
-          cases (Word x ∷ rest) is =
-              let few = few_steps s in
-              later c.program c.image 1 to c.g true 0 c.acts (steps_to s) 8 (Changed (put (signed (bit_or (unsigned x) (unsigned y))) (words rest memory input output))) (omega arith) (named x rest is)
-              (λ q r. union_of c memory input output to x y rest (top_fits operands fits x rest is) fy e h r)
-
-      differ_used : Has c.image (named_at s at) (naming w s Xor) → DoesHere c memory input output 8 to true 0 p (unrefused (perform c.program.limits.area (Combine logic.Differ) (put y (words operands memory input output))))
-      differ_used h = cases operands refl
-        where
-          cases : (xs : List Operand) → operands ≡ xs → DoesHere c memory input output 8 to true 0 p (unrefused (perform c.program.limits.area (Combine logic.Differ) (put y (words xs memory input output))))
-          cases [] is = tt
-          cases (Held d ∷ rest) is = tt
-          cases (Word x ∷ rest) is =
-              let few = few_steps s in
-              later c.program c.image 1 to c.g true 0 c.acts (steps_to s) 8 (Changed (put (signed (bit_xor (unsigned x) (unsigned y))) (words rest memory input output))) (omega arith) (named x rest is)
-              (λ q r. difference_in_bits c memory input output to x y rest (top_fits operands fits x rest is) fy e h r)
+    combine_used : (op : LogicOp) → named_at s at + named_size s ≡ to → Has c.image (named_at s at) (naming w s (instruction_of op))
+        → DoesHere c memory input output 8 to true 0 p (unrefused (perform c.program.limits.area (Combine op) (put y (words operands memory input output))))
+    combine_used op e h =
+        let f : ℤ → Words → Outcome = λ x v. Changed (put (signed (logic_word op (unsigned x) (unsigned y))) v) in
+        subst (DoesHere c memory input output 8 to true 0 p) (unrefused_one f operands (words operands memory input output))
+        (on_both 1 8 0 f (lit≤ tt) (λ x rest fx q r. combination_of c memory input output op to x y rest fx fy e h r))
 
     -- a comparison
     compare_used : (short : Bool) (by : ℕ) (start : ℕ → ℕ) (k : Comparator) (m : ℕ) → named_at s at + named_size s + branch_size short ≡ to → (named_at s at + named_size s + branch_size short + goes_by short by) % 65536 ≡ start m % 65536 → Has c.image (named_at s at) (naming w s Compare)
@@ -208,19 +179,12 @@ module _ (c : Setting) (memory : List ℤ) (input output : List ℕ) where
         let l' = subst (λ xs. Landed c.program c.image at c.g true c.acts (words xs memory input output) p) is l in
         let s = l'.stacked in
         let kept = l'.kept in
-        let low = c.low in
-        let r = level c.acts in
-        let bp = record_of c.acts in
-        let base : r + 1 < 32768 = omega arith in
-        let slot_base : (bp + 65530) % 65536 ≡ 2 * (r + 1) = omega arith in
         let twice = 2 * a.frame_base % 65536 in
-        let base_is : base_word c.program c.acts ≡ twice = ap (base_word c.program) acts_are in
-        let k_low : k < 32768 = omega arith in
-        let address : (twice + 2 * n % 65536) % 65536 ≡ 2 * k = omega arith in
-        straight c.rows (LoadSlot bx 0xFA (r + 1) twice ∷ []) {n = 0} kept.wrote i ((base, slot_base, kept.piled.0.base_is ∙ base_is), tt) s.is
+        let d = frame_word_at c.program.limits.area a.frame_base n k c.low within same in
+        straight c.rows (LoadSlot bx 0xFA (level c.acts + 1) twice ∷ []) {n = 0} kept.wrote i (base_there c.program c.acts (ap (base_word c.program) acts_are) kept.piled.0, tt) s.is
         (λ q t.
         done
-        (word_named c memory input output (frame_size n + 2) k (field (2 * n % 65536)) (word_at memory k) x rest l'.operands.0 (kept.words k within) (field_denotes c.image.bytes (s.ax ∷ s.cx ∷ s.dx ∷ twice ∷ 2 * l'.top ∷ bp ∷ s.si ∷ c.program.limits.area ∷ []) (2 * n % 65536) k k_low (doubled_small a.frame_base) address)
+        (word_named c memory input output (frame_size n + 2) k (field (2 * n % 65536)) (word_at memory k) x rest l'.operands.0 (kept.words k within) (field_denotes c.image.bytes (s.ax ∷ s.cx ∷ s.dx ∷ twice ∷ 2 * l'.top ∷ record_of c.acts ∷ s.si ∷ c.program.limits.area ∷ []) (2 * n % 65536) k d.low d.small d.there)
         (λ op. field_operated (number_of op) ax (2 * n % 65536)) (let some : 0 < frame_size n + 2 = omega arith in some)
         (some_room x rest l' (subst (λ xs. operand_words xs < level c.acts) is room)) l'.operands.1 kept t))
 
@@ -273,18 +237,11 @@ module _ (c : Setting) (memory : List ℤ) (input output : List ℕ) {p : Watche
   frame_multiplies a under n k acts_are within same fy h i =
       let s = l.stacked in
       let kept = l.kept in
-      let low = c.low in
-      let r = level c.acts in
-      let bp = record_of c.acts in
-      let base : r + 1 < 32768 = omega arith in
-      let slot_base : (bp + 65530) % 65536 ≡ 2 * (r + 1) = omega arith in
       let twice = 2 * a.frame_base % 65536 in
-      let base_is : base_word c.program c.acts ≡ twice = ap (base_word c.program) acts_are in
-      let k_low : k < 32768 = omega arith in
-      let address : (twice + 2 * n % 65536) % 65536 ≡ 2 * k = omega arith in
+      let d = frame_word_at c.program.limits.area a.frame_base n k c.low within same in
       later c.program c.image 15 to c.g true line c.acts 3 24 (put_value (scaled_product x (word_at memory k) (pos 0)) (words rest memory input output)) (lit≤ tt)
-      (straight c.rows (Move cx ax ∷ LoadSlot bx 0xFA (r + 1) twice ∷ LoadWord ax (2 * n % 65536) k (unsigned (word_at memory k)) ∷ []) {n = 0} kept.wrote (h.0, (h.1.0, (h.1.1.0, tt)))
-      (tt, ((base, slot_base, kept.piled.0.base_is ∙ base_is), ((k_low, doubled_small a.frame_base, address, kept.words k within), tt))) s.is (λ q t. done t))
+      (straight c.rows (Move cx ax ∷ LoadSlot bx 0xFA (level c.acts + 1) twice ∷ LoadWord ax (2 * n % 65536) k (unsigned (word_at memory k)) ∷ []) {n = 0} kept.wrote (h.0, (h.1.0, (h.1.1.0, tt)))
+      (tt, (base_there c.program c.acts (ap (base_word c.program) acts_are) kept.piled.0, ((d.low, d.small, d.there, kept.words k within), tt))) s.is (λ q t. done t))
       (λ q t.
       other_multiplies (word_at memory k) fy
       (subst (λ m. Is c.image (at + 2 + 3 + length (bytes_of (load ax (field (2 * n % 65536))))) (view (unsigned (word_at memory k)) m s.dx twice (2 * l.top) (record_of c.acts) s.si c.program.limits.area s.overflow l.cells l.stack l.input l.told) q) l.operands.0 t)
@@ -296,10 +253,6 @@ module _ (known : Given) where
   open known use {rows, p, image, all, coded, few, low}
 
   module _ {q : Watched} {g place : ℕ} {loaded : Bool} {acts : List OrderActivation} {w : Words} (s : Sound p image g place loaded acts w q) where
-    -- where the code of the block ends, where its last order is at work
-    abbrev pub block_end : ℕ
-    block_end = order_place (base_of p g) s.orders (place + 1)
-
     abbrev pub here_at : ℕ
     here_at = start_place known s
 
@@ -308,24 +261,16 @@ module _ (known : Given) where
 
     -- the word of an address, and what is done with it
     fetched_does : (a limit line : ℕ) (f : Words → Outcome) → a < 65536
-        → ((k : ℕ) → k < p.limits.area → k ≡ a → Does p image limit block_end g true line acts s.before.output q (f (put (word_at s.before.memory k) s.before)))
-        → Does p image limit block_end g true line acts s.before.output q (chain (chain (unrefused (perform p.limits.area (Fetch None) (put (signed a) s.before))) Changed) f)
-    fetched_does a limit line f small each = cases (is_below (signed a) p.limits.area) refl
-      where
-        cases : (b : Bool) → is_below (signed a) p.limits.area ≡ b
-            → Does p image limit block_end g true line acts s.before.output q (chain (chain (unrefused (through b (λ i v. Changed (put (word_at v.memory i) v)) (signed a) s.before)) Changed) f)
-        cases false is = tt
-        cases true is = let b = below_area rows.words p.limits.area a low small is in each (number_in (signed a)) b.within b.same
+        → ((k : ℕ) → k < p.limits.area → k ≡ a → Does p image limit (code_end known s) g true line acts s.before.output q (f (put (word_at s.before.memory k) s.before)))
+        → Does p image limit (code_end known s) g true line acts s.before.output q (chain (chain (unrefused (perform p.limits.area (Fetch None) (put (signed a) s.before))) Changed) f)
+    fetched_does a limit line f small each =
+        through_word rows.words p.limits.area a low small (λ k v. Changed (put (word_at v.memory k) v)) s.before (λ o. Does p image limit (code_end known s) g true line acts s.before.output q (chain (chain (unrefused o) Changed) f)) tt each
 
     fetched_chooses : (a limit : ℕ) (f : Words → Way) → a < 65536
-        → ((k : ℕ) → k < p.limits.area → k ≡ a → Chooses p image limit block_end (start known s) g false 0 acts s.before.output q (f (put (word_at s.before.memory k) s.before)))
-        → Chooses p image limit block_end (start known s) g false 0 acts s.before.output q (way_after (chain (unrefused (perform p.limits.area (Fetch None) (put (signed a) s.before))) Changed) f)
-    fetched_chooses a limit f small each = cases (is_below (signed a) p.limits.area) refl
-      where
-        cases : (b : Bool) → is_below (signed a) p.limits.area ≡ b
-            → Chooses p image limit block_end (start known s) g false 0 acts s.before.output q (way_after (chain (unrefused (through b (λ i v. Changed (put (word_at v.memory i) v)) (signed a) s.before)) Changed) f)
-        cases false is = tt
-        cases true is = let b = below_area rows.words p.limits.area a low small is in each (number_in (signed a)) b.within b.same
+        → ((k : ℕ) → k < p.limits.area → k ≡ a → Chooses p image limit (code_end known s) (start known s) g false 0 acts s.before.output q (f (put (word_at s.before.memory k) s.before)))
+        → Chooses p image limit (code_end known s) (start known s) g false 0 acts s.before.output q (way_after (chain (unrefused (perform p.limits.area (Fetch None) (put (signed a) s.before))) Changed) f)
+    fetched_chooses a limit f small each =
+        through_word rows.words p.limits.area a low small (λ k v. Changed (put (word_at v.memory k) v)) s.before (λ o. Chooses p image limit (code_end known s) (start known s) g false 0 acts s.before.output q (way_after (chain (unrefused o) Changed) f)) tt each
 
     -- ---- one order with two operands, the upper one from the code
 
@@ -338,7 +283,7 @@ module _ (known : Given) where
 
     -- that of a block whose last order has such an outcome
     abbrev pub Ended : Use → Outcome → Type 0
-    Ended u o = Does p image (bound u) block_end g true (line_of (order_of u)) acts s.before.output q o
+    Ended u o = Does p image (bound u) (code_end known s) g true (line_of (order_of u)) acts s.before.output q o
 
     pub step_goes : (u : Use) → Computes u → carry_with p (loaded_after (order_of u) true) (order_of u) g place loaded acts w ≡ after p.room (line_of (order_of u)) (outcome p.limits.area u w) g place true acts w
     step_goes (uses.Add line) h = refl
@@ -376,63 +321,62 @@ module _ (known : Given) where
     short_use o u = is_short (reach_of s.orders) s.from (block.Operate o u) order.Save
 
     -- that of a product
-    pub product_checked : (o : Simple) (line at : ℕ) → Checks o (uses.Multiply line) → here_at + size_by (is_short (reach_of s.orders)) s.from (block.Operate o (uses.Multiply line)) order.Save ≡ block_end → at ≡ here_at + pieces_size (product_with o)
-        → HasPieces image (all.stands g s.orders s.unit).value at (checked_by (short_use o (uses.Multiply line)) line (own_place s.orders s.from + pieces_size (product_with o)) (call_place (names_of s.orders) s.from)) → Checked image at block_end line
+    pub product_checked : (o : Simple) (line at : ℕ) → Checks o (uses.Multiply line) → here_at + size_by (is_short (reach_of s.orders)) s.from (block.Operate o (uses.Multiply line)) order.Save ≡ code_end known s → at ≡ here_at + pieces_size (product_with o)
+        → HasPieces image (all.stands g s.orders s.unit).value at (checked_by (short_use o (uses.Multiply line)) line (own_place s.orders s.from + pieces_size (product_with o)) (call_place (names_of s.orders) s.from)) → Checked image at (code_end known s) line
     product_checked o line test checks ends place h =
-        checks line (pieces_size (product_with o)) test block_end (short_use o (uses.Multiply line)) refl refl (sym (checked_long (short_use o (uses.Multiply line)) (product_with o) line (0 + pieces_size (product_with o)) (call_place no_names 0))) place ends h
+        checks line (pieces_size (product_with o)) test (code_end known s) (short_use o (uses.Multiply line)) refl refl (sym (checked_long (short_use o (uses.Multiply line)) (product_with o) line (0 + pieces_size (product_with o)) (call_place no_names 0))) place ends h
 
     -- the product with an operand
     abbrev pub Multiplies : Simple → ℤ → Type 0
     Multiplies o y =
-        (line : ℕ) → line < 65536 → Code o (uses.Multiply line) → Checks o (uses.Multiply line) → here_at + size_by (is_short (reach_of s.orders)) s.from (block.Operate o (uses.Multiply line)) order.Save ≡ block_end
-        → Does p image 24 block_end g true line acts s.before.output q (perform p.limits.area (Multiply (pos 0)) (put y s.before))
+        (line : ℕ) → line < 65536 → Code o (uses.Multiply line) → Checks o (uses.Multiply line) → here_at + size_by (is_short (reach_of s.orders)) s.from (block.Operate o (uses.Multiply line)) order.Save ≡ code_end known s
+        → Does p image 24 (code_end known s) g true line acts s.before.output q (perform p.limits.area (Multiply (pos 0)) (put y s.before))
 
-    pub used_law : (o : Simple) (u : Use) (y : ℤ) → Computes u → FitsWord y → line_of (order_of u) < 65536 → here_at + size_by (is_short (reach_of s.orders)) s.from (block.Operate o u) order.Save ≡ block_end → Code o u → Checks o u → (OneOperation u → NamedHere o y) → Multiplies o y
+    -- the instruction of an operation, and the check behind it
+    operation_code : (o : Simple) (u : Use) (op : WordOperation) (line : ℕ) → check_of (block.Operate o u) order.Save ≡ Some line
+        → ((short : Bool) → pieces_size (with_operand (number_of op) o) + (if short then 2 else 7) ≡ block_size short (block.Operate o u) order.Save)
+        → here_at + size_by (is_short (reach_of s.orders)) s.from (block.Operate o u) order.Save ≡ code_end known s
+        → HasPieces image (all.stands g s.orders s.unit).value here_at (with_operand (number_of op) o ++ checked_by (short_use o u) line (own_place s.orders s.from + pieces_size (with_operand (number_of op) o)) (call_place (names_of s.orders) s.from))
+        → Checks o u → Has image (named_at o here_at) (naming (offset_at (all.stands g s.orders s.unit).value o here_at) o op) × Checked image (named_at o here_at + named_size o) (code_end known s) line
+    operation_code o u op line checks_line sized ends i checks =
+        let n = pieces_size (with_operand (number_of op) o) in
+        let k = operand_code image (all.stands g s.orders s.unit).value here_at o op (checked_by (short_use o u) line (own_place s.orders s.from + n) (call_place (names_of s.orders) s.from)) i in
+        let long = operand_long op o in
+        let place = named_end o here_at in
+        (k.1, checks line n (named_at o here_at + named_size o) (code_end known s) (short_use o u) checks_line refl (sized (short_use o u)) (omega arith) ends k.2)
+
+    pub used_law : (o : Simple) (u : Use) (y : ℤ) → Computes u → FitsWord y → line_of (order_of u) < 65536 → here_at + size_by (is_short (reach_of s.orders)) s.from (block.Operate o u) order.Save ≡ code_end known s → Code o u → Checks o u → (OneOperation u → NamedHere o y) → Multiplies o y
         → Ended u (outcome p.limits.area u (put y s.before))
     used_law o (uses.Add line) y h fy small ends i checks named product =
-        let short = short_use o (uses.Add line) in
-        let n = pieces_size (with_operand 0 o) in
-        let call = call_place (names_of s.orders) s.from in
-        let k = operand_code image (all.stands g s.orders s.unit).value here_at o Add (checked_by short line (own_place s.orders s.from + n) call) i in
         let v = s.before in
-        let test = named_at o here_at + named_size o in
-        let long = operand_long Add o in
-        let place = named_end o here_at in
-        let sized : n + (if short then 2 else 7) ≡ block_size short (block.Operate o (uses.Add line)) order.Save = sym (checked_long short (with_operand 0 o) line (0 + n) (call_place no_names 0)) in
-        add_used (setting known s) v.memory v.input v.output here_at o block_end _ y v.operands fy s.fits_before.operands (named tt) line small (checks line n test block_end short refl refl sized (omega arith) ends k.2) k.1
+        let k = operation_code o (uses.Add line) Add line refl (λ short. sym (checked_long short (with_operand 0 o) line (0 + pieces_size (with_operand 0 o)) (call_place no_names 0))) ends i checks in
+        add_used (setting known s) v.memory v.input v.output here_at o (code_end known s) _ y v.operands fy s.fits_before.operands (named tt) line small k.1 k.0
     used_law o (uses.Subtract line) y h fy small ends i checks named product =
-        let short = short_use o (uses.Subtract line) in
-        let n = pieces_size (with_operand 5 o) in
-        let call = call_place (names_of s.orders) s.from in
-        let k = operand_code image (all.stands g s.orders s.unit).value here_at o Subtract (checked_by short line (own_place s.orders s.from + n) call) i in
         let v = s.before in
-        let test = named_at o here_at + named_size o in
-        let long = operand_long Subtract o in
-        let place = named_end o here_at in
-        let sized : n + (if short then 2 else 7) ≡ block_size short (block.Operate o (uses.Subtract line)) order.Save = sym (checked_long short (with_operand 5 o) line (0 + n) (call_place no_names 0)) in
-        subtract_used (setting known s) v.memory v.input v.output here_at o block_end _ y v.operands fy s.fits_before.operands (named tt) line small (checks line n test block_end short refl refl sized (omega arith) ends k.2) k.1
+        let k = operation_code o (uses.Subtract line) Subtract line refl (λ short. sym (checked_long short (with_operand 5 o) line (0 + pieces_size (with_operand 5 o)) (call_place no_names 0))) ends i checks in
+        subtract_used (setting known s) v.memory v.input v.output here_at o (code_end known s) _ y v.operands fy s.fits_before.operands (named tt) line small k.1 k.0
     used_law o (uses.Multiply line) y h fy small ends i checks named product = product line small i checks ends
     used_law o uses.Mask y h fy small ends i checks named product =
         let k = operand_code image (all.stands g s.orders s.unit).value here_at o And [] (alone_code image (all.stands g s.orders s.unit).value here_at o 4 i) in
         let v = s.before in
-        mask_used (setting known s) v.memory v.input v.output here_at o block_end _ y v.operands fy s.fits_before.operands (named tt) (omega (arith, ends, tested_size o uses.Mask tt, named_end o here_at)) k.1
+        combine_used (setting known s) v.memory v.input v.output here_at o (code_end known s) _ y v.operands fy s.fits_before.operands (named tt) logic.Mask (omega (arith, ends, tested_size o uses.Mask tt, named_end o here_at)) k.1
     used_law o uses.Union y h fy small ends i checks named product =
         let k = operand_code image (all.stands g s.orders s.unit).value here_at o Or [] (alone_code image (all.stands g s.orders s.unit).value here_at o 1 i) in
         let v = s.before in
-        union_used (setting known s) v.memory v.input v.output here_at o block_end _ y v.operands fy s.fits_before.operands (named tt) (omega (arith, ends, tested_size o uses.Union tt, named_end o here_at)) k.1
+        combine_used (setting known s) v.memory v.input v.output here_at o (code_end known s) _ y v.operands fy s.fits_before.operands (named tt) logic.Union (omega (arith, ends, tested_size o uses.Union tt, named_end o here_at)) k.1
     used_law o uses.Differ y h fy small ends i checks named product =
         let k = operand_code image (all.stands g s.orders s.unit).value here_at o Xor [] (alone_code image (all.stands g s.orders s.unit).value here_at o 6 i) in
         let v = s.before in
-        differ_used (setting known s) v.memory v.input v.output here_at o block_end _ y v.operands fy s.fits_before.operands (named tt) (omega (arith, ends, tested_size o uses.Differ tt, named_end o here_at)) k.1
+        combine_used (setting known s) v.memory v.input v.output here_at o (code_end known s) _ y v.operands fy s.fits_before.operands (named tt) logic.Differ (omega (arith, ends, tested_size o uses.Differ tt, named_end o here_at)) k.1
     used_law o (uses.Compare c m) y h fy small ends i checks named product = absurd h
 
     -- ---- products
 
     -- where there is no word below the operand, nothing is asked
     on_word : (limit line : ℕ) (y : ℤ) → ((x : ℤ) (rest : List Operand) → FitsWord x → operand_words (Word x ∷ rest) < level acts → Landed p image here_at g true acts (words (Word x ∷ rest) s.before.memory s.before.input s.before.output) q
-        → Does p image limit block_end g true line acts s.before.output q (put_value (scaled_product x y (pos 0)) (words rest s.before.memory s.before.input s.before.output)))
+        → Does p image limit (code_end known s) g true line acts s.before.output q (put_value (scaled_product x y (pos 0)) (words rest s.before.memory s.before.input s.before.output)))
         → (operands : List Operand) → operand_words operands < level acts → All OperandFits operands → Landed p image here_at g true acts (words operands s.before.memory s.before.input s.before.output) q
-        → Does p image limit block_end g true line acts s.before.output q (perform p.limits.area (Multiply (pos 0)) (put y (words operands s.before.memory s.before.input s.before.output)))
+        → Does p image limit (code_end known s) g true line acts s.before.output q (perform p.limits.area (Multiply (pos 0)) (put y (words operands s.before.memory s.before.input s.before.output)))
     on_word limit line y does [] room fits l = tt
     on_word limit line y does (Held d ∷ rest) room fits l = tt
     on_word limit line y does (Word x ∷ rest) room fits l = does x rest (All-head OperandFits (Word x) rest fits) room l
@@ -442,7 +386,7 @@ module _ (known : Given) where
         let v = s.before in
         let check = product_checked (simple.Number n) line (here_at + 3 + 2) checks ends (omega arith) i.1.1 in
         on_word 24 line (signed n)
-        (λ x rest fx room t. number_multiplies (setting known s) v.memory v.input v.output x rest fx room t block_end line small n lt (i.0, (i.1.0, tt)) check)
+        (λ x rest fx room t. number_multiplies (setting known s) v.memory v.input v.output x rest fx room t (code_end known s) line small n lt (i.0, (i.1.0, tt)) check)
         v.operands (room_in known s) s.fits_before.operands l
 
     word_product : (f n k : ℕ) → k < p.limits.area → (all.stands g s.orders s.unit).value 2 f n (here_at + 2 + 3) ≡ 2 * k → Landed p image here_at g true acts s.before q
@@ -453,7 +397,7 @@ module _ (known : Given) where
         let check = product_checked (simple.Contents (cell.Word f n)) line (here_at + 2 + 3 + 2) checks ends (omega arith) i.1.1.1 in
         on_word 24 line (word_at v.memory k)
         (λ x rest fx room t.
-        word_multiplies (setting known s) v.memory v.input v.output x rest fx room t block_end line small offset k within e (memory_word k within) (i.0, (i.1.0, (i.1.1.0, tt))) check)
+        word_multiplies (setting known s) v.memory v.input v.output x rest fx room t (code_end known s) line small offset k within e (memory_word k within) (i.0, (i.1.0, (i.1.1.0, tt))) check)
         v.operands (room_in known s) s.fits_before.operands l
 
     frame_product : (a : OrderActivation) (under : List OrderActivation) (n k : ℕ) → acts ≡ a ∷ under → k < p.limits.area → k ≡ a.frame_base + n → Landed p image here_at g true acts s.before q
@@ -467,19 +411,19 @@ module _ (known : Given) where
         let check = product_checked o line test checks ends there i.1.1.1.1 in
         on_word 24 line (word_at v.memory k)
         (λ x rest fx room t.
-        frame_multiplies (setting known s) v.memory v.input v.output x rest fx room t block_end line small a under n k acts_are within same (memory_word k within) (i.0, (i.1.0, (i.1.1.0, (i.1.1.1.0, tt)))) check)
+        frame_multiplies (setting known s) v.memory v.input v.output x rest fx room t (code_end known s) line small a under n k acts_are within same (memory_word k within) (i.0, (i.1.0, (i.1.1.0, (i.1.1.1.0, tt)))) check)
         v.operands (room_in known s) s.fits_before.operands l
 
     -- ---- the last order
 
     -- an operation with a number, with a word of the data area and with one of the frame
-    number_does : (n : ℕ) (u : Use) → Computes u → n < 65536 → line_of (order_of u) < 65536 → here_at + size_by (is_short (reach_of s.orders)) s.from (block.Operate (simple.Number n) u) order.Save ≡ block_end → Code (simple.Number n) u → Checks (simple.Number n) u → Landed p image here_at g true acts s.before q
+    number_does : (n : ℕ) (u : Use) → Computes u → n < 65536 → line_of (order_of u) < 65536 → here_at + size_by (is_short (reach_of s.orders)) s.from (block.Operate (simple.Number n) u) order.Save ≡ code_end known s → Code (simple.Number n) u → Checks (simple.Number n) u → Landed p image here_at g true acts s.before q
         → Ended u (outcome p.limits.area u (put (signed n) s.before))
     number_does n u h lt small ends i checks l =
         let v = s.before in
         used_law (simple.Number n) u (signed n) h (rows.words.signed_fits n lt) small ends i checks (λ one. number_from (setting known s) v.memory v.input v.output v.operands (room_in known s) l n lt) (number_product n lt l)
 
-    word_does : (f n : ℕ) (u : Use) → Computes u → line_of (order_of u) < 65536 → here_at + size_by (is_short (reach_of s.orders)) s.from (block.Operate (simple.Contents (cell.Word f n)) u) order.Save ≡ block_end → Code (simple.Contents (cell.Word f n)) u → Checks (simple.Contents (cell.Word f n)) u
+    word_does : (f n : ℕ) (u : Use) → Computes u → line_of (order_of u) < 65536 → here_at + size_by (is_short (reach_of s.orders)) s.from (block.Operate (simple.Contents (cell.Word f n)) u) order.Save ≡ code_end known s → Code (simple.Contents (cell.Word f n)) u → Checks (simple.Contents (cell.Word f n)) u
         → Landed p image here_at g true acts s.before q
         → Ended u (chain (chain (unrefused (perform p.limits.area (Fetch None) (put (signed (home_word p.addresses g f n)) s.before))) Changed) (outcome p.limits.area u))
     word_does f n u h small ends i checks l =
@@ -507,7 +451,7 @@ module _ (known : Given) where
     abbrev fetched_frame : ℕ → Outcome
     fetched_frame n = chain (put_address (frame_word p.limits.area acts n) s.before) (λ v. chain (unrefused (perform p.limits.area (Fetch None) v)) Changed)
 
-    frame_does : (n : ℕ) (u : Use) → Computes u → line_of (order_of u) < 65536 → here_at + size_by (is_short (reach_of s.orders)) s.from (block.Operate (simple.Contents (cell.Frame n)) u) order.Save ≡ block_end → Code (simple.Contents (cell.Frame n)) u → Checks (simple.Contents (cell.Frame n)) u
+    frame_does : (n : ℕ) (u : Use) → Computes u → line_of (order_of u) < 65536 → here_at + size_by (is_short (reach_of s.orders)) s.from (block.Operate (simple.Contents (cell.Frame n)) u) order.Save ≡ code_end known s → Code (simple.Contents (cell.Frame n)) u → Checks (simple.Contents (cell.Frame n)) u
         → Landed p image here_at g true acts s.before q → Ended u (chain (fetched_frame n) (outcome p.limits.area u))
     frame_does n u h small ends i checks l = cases acts refl
       where
@@ -564,7 +508,7 @@ module _ (known : Given) where
     -- ---- comparisons
 
     abbrev pub Chosen : Way → Type 0
-    Chosen way = Chooses p image 10 block_end (start known s) g false 0 acts s.before.output q way
+    Chosen way = Chooses p image 10 (code_end known s) (start known s) g false 0 acts s.before.output q way
 
     abbrev pub way_of : Comparator → ℕ → Words → Way
     way_of c m v = way_of_two (λ x y t. to_mark_if (holds (comparison c) x y) m t) v
@@ -576,7 +520,7 @@ module _ (known : Given) where
     abbrev pub Reaches : Simple → Comparator → ℕ → Type 0
     Reaches o c m = short_on o c m ≡ true → is_close (own_place s.orders s.from + block_size true (block.Operate o (uses.Compare c m)) order.Save) (mark_starts s.orders m) ≡ true
 
-    pub compares_with : (o : Simple) (c : Comparator) (m : ℕ) (y : ℤ) → FitsWord y → here_at + block_size (short_on o c m) (block.Operate o (uses.Compare c m)) order.Save ≡ block_end → Code o (uses.Compare c m) → Reaches o c m → NamedHere o y
+    pub compares_with : (o : Simple) (c : Comparator) (m : ℕ) (y : ℤ) → FitsWord y → here_at + block_size (short_on o c m) (block.Operate o (uses.Compare c m)) order.Save ≡ code_end known s → Code o (uses.Compare c m) → Reaches o c m → NamedHere o y
         → Chosen (way_of c m (put y s.before))
     compares_with o c m y fy ends i reached named = cases (short_on o c m) ends i reached
       where
@@ -589,7 +533,7 @@ module _ (known : Given) where
         to : ℕ
         to = mark_starts s.orders m
 
-        cases : (short : Bool) → here_at + block_size short (block.Operate o (uses.Compare c m)) order.Save ≡ block_end
+        cases : (short : Bool) → here_at + block_size short (block.Operate o (uses.Compare c m)) order.Save ≡ code_end known s
             → HasPieces image (all.stands g s.orders s.unit).value here_at (with_operand 7 o ++ branch_by short c behind to)
             → (short ≡ true → is_close (own + block_size true (block.Operate o (uses.Compare c m)) order.Save) to ≡ true) → Chosen (way_of c m (put y s.before))
         cases short ends i reached =
@@ -599,16 +543,16 @@ module _ (known : Given) where
             let sized = compared_size short o c m in
             let close : short ≡ true → is_close (behind + 2) to ≡ true = λ is. ap (λ n. is_close n to) (let e : behind + 2 ≡ own + block_size true (block.Operate o (uses.Compare c m)) order.Save = omega (arith, compared_size true o c m, size) in e) ∙ reached is in
             let there = branch_arrives (base_of p g) own (pieces_size (with_operand 7 o)) to short close in
-            compare_used (setting known s) v.memory v.input v.output here_at o block_end _ y v.operands fy s.fits_before.operands named short (jump_word short (behind + branch_size short) to) (start known s) c m
+            compare_used (setting known s) v.memory v.input v.output here_at o (code_end known s) _ y v.operands fy s.fits_before.operands named short (jump_word short (behind + branch_size short) to) (start known s) c m
             (omega (arith, ends, sized, named_end o here_at)) (omega (arith, named_end o here_at, size, there)) k.1 (branch_stands image (all.stands g s.orders s.unit).value _ short c behind to k.2)
 
-    number_chooses : (n : ℕ) (c : Comparator) (m : ℕ) → n < 65536 → here_at + block_size (short_on (simple.Number n) c m) (block.Operate (simple.Number n) (uses.Compare c m)) order.Save ≡ block_end → Code (simple.Number n) (uses.Compare c m) → Reaches (simple.Number n) c m → Landed p image here_at g true acts s.before q
+    number_chooses : (n : ℕ) (c : Comparator) (m : ℕ) → n < 65536 → here_at + block_size (short_on (simple.Number n) c m) (block.Operate (simple.Number n) (uses.Compare c m)) order.Save ≡ code_end known s → Code (simple.Number n) (uses.Compare c m) → Reaches (simple.Number n) c m → Landed p image here_at g true acts s.before q
         → Chosen (way_of c m (put (signed n) s.before))
     number_chooses n c m lt ends i reached l =
         let v = s.before in
         compares_with (simple.Number n) c m (signed n) (rows.words.signed_fits n lt) ends i reached (number_from (setting known s) v.memory v.input v.output v.operands (room_in known s) l n lt)
 
-    frame_chooses : (n : ℕ) (c : Comparator) (m : ℕ) → here_at + block_size (short_on (simple.Contents (cell.Frame n)) c m) (block.Operate (simple.Contents (cell.Frame n)) (uses.Compare c m)) order.Save ≡ block_end → Code (simple.Contents (cell.Frame n)) (uses.Compare c m) → Reaches (simple.Contents (cell.Frame n)) c m
+    frame_chooses : (n : ℕ) (c : Comparator) (m : ℕ) → here_at + block_size (short_on (simple.Contents (cell.Frame n)) c m) (block.Operate (simple.Contents (cell.Frame n)) (uses.Compare c m)) order.Save ≡ code_end known s → Code (simple.Contents (cell.Frame n)) (uses.Compare c m) → Reaches (simple.Contents (cell.Frame n)) c m
         → Landed p image here_at g true acts s.before q → Chosen (way_after (fetched_frame n) (way_of c m))
     frame_chooses n c m ends i reached l = cases acts refl
       where
@@ -637,7 +581,7 @@ module _ (known : Given) where
         let ends = block_ends known s b order.Save os 2 is_done e is refl refl in
         let before = saved known s true 1 os is_done e refl in
         let paid : 10 ≤ weight p (at g place loaded acts w Running) = let y = weight_is known s (order.JumpIf c m) here in omega arith in
-        last_chooses known s false 0 (way_of c m) 10 2 _ is_done e ends.begins (two_roomy acts p.room m c w.operands w s.room) (step_in known s true (order.JumpIf c m) before.now here) paid
+        last_chooses known s false 0 (way_of c m) 10 2 _ is_done e ends.begins (step_in known s true (order.JumpIf c m) before.now here) paid
         (number_chooses n c m (number_small known s n (order.JumpIf c m ∷ rest) e) ends.behind (block_code known s b order.Save os e is) (reaches_mark known s b order.Save os m e is refl) before.landed)
     compares_last (simple.Contents (cell.Word f n)) c m rest without is_done e is =
         let os = order.Home f n ∷ order.Load ∷ order.JumpIf c m ∷ rest in
@@ -651,7 +595,7 @@ module _ (known : Given) where
         let word = home_word p.addresses g f n in
         let offset = st.fills.bytes f n (here_at + 4) in
         let paid : 10 ≤ weight p (at g place loaded acts w Running) = let y = weight_is known s (order.JumpIf c m) here in omega arith in
-        last_chooses known s false 0 (way_of c m) 10 3 _ is_done e ends.begins (two_roomy acts p.room m c w.operands w s.room) (step_in known s true (order.JumpIf c m) before.now here) paid
+        last_chooses known s false 0 (way_of c m) 10 3 _ is_done e ends.begins (step_in known s true (order.JumpIf c m) before.now here) paid
         (fetched_chooses word 10 (way_of c m) (omega arith)
         (λ k within same.
         compares_with o c m (word_at v.memory k) (memory_word k within) ends.behind (block_code known s b order.Save os e is) (reaches_mark known s b order.Save os m e is refl)
@@ -664,7 +608,7 @@ module _ (known : Given) where
         let ends = block_ends known s b order.Save os 3 is_done e is refl refl in
         let before = saved known s true 2 os is_done e refl in
         let paid : 10 ≤ weight p (at g place loaded acts w Running) = let y = weight_is known s (order.JumpIf c m) here in omega arith in
-        last_chooses known s false 0 (way_of c m) 10 3 _ is_done e ends.begins (two_roomy acts p.room m c w.operands w s.room) (step_in known s true (order.JumpIf c m) before.now here) paid
+        last_chooses known s false 0 (way_of c m) 10 3 _ is_done e ends.begins (step_in known s true (order.JumpIf c m) before.now here) paid
         (frame_chooses n c m ends.behind (block_code known s b order.Save os e is) (reaches_mark known s b order.Save os m e is refl) before.landed)
 
     -- the orders of a block that uses a simple operand whose address is not formed

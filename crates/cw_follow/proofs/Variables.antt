@@ -4,7 +4,6 @@ use Rattle.std.specs.List.{All}
 use Rattle.std.specs.Prelude.{nat_lt}
 use Rattle.std.proofs.lemmas.List.Elements.{All-head, All-tail}
 use borrow.Author.Tests.{ltb-true}
-use Rattle.cw_track.proofs.Paths.{join}
 use Rattle.cw_i86.specs.declared.instr.Instr.TheVariants as i86
 use Rattle.cw_run86.specs.Processor.{Processor, Told}
 use Rattle.cw_run86.specs.Views.{put_word}
@@ -20,10 +19,10 @@ use Rattle.cw_tmpl.specs.Mnemonics.{dx, set_word}
 use Rattle.cw_tmpl.specs.Library.{set_variable_place, add_step_place, put_variable_place}
 use Rattle.cw_routines.specs.Ways.{Within}
 use Rattle.cw_routines.specs.Results.{Quiet, Holds, Ends, Fetched, Fetches}
-use Rattle.cw_follow.proofs.Watched.{Watched, watched_machine, fresh}
+use Rattle.cw_follow.proofs.Watched.{Watched, fresh}
 use Rattle.cw_follow.proofs.Chains.{Is, Leads, view, to_place, call, last}
 use Rattle.cw_follow.proofs.Straight.{Number, straight}
-use Rattle.cw_follow.proofs.Routines.{Over, put_at, with_ax, quiet_in, quiet_library, flags_of, arrives, returned, lifted, over}
+use Rattle.cw_follow.proofs.Routines.{Over, put_at, with_ax, quiet_in, quiet_library, flags_of, arrives, returned, lifted, over, joined, Around}
 use Rattle.cw_follow.proofs.Numbers.{unsigned_pos}
 use Rattle.cw_follow.proofs.Stacks.{level, record_of, StackIs, top_is, same_put, stack_same}
 use Rattle.cw_follow.proofs.Orders.{Kept, kept_same, kept_under, Landed, Leading, landed}
@@ -42,12 +41,8 @@ module _ (c : Setting) (memory : List ℤ) (input output : List ℕ) where
   pub record AtRoutine (place back line ax bx : ℕ) (rest : List Operand) (q : Watched) : Type 0 where
     pub cx : ℕ
     pub si : ℕ
-    pub overflow : Bool
-    pub top : ℕ
-    pub cells : ℕ → ℕ
-    pub stack : ℕ → ℕ
-    pub left : List ℕ
-    pub told : Told
+    pub around : Around
+    pub open around use *
     pub low : top < level c.acts
     pub is : Is c.image place (view ax cx line bx (2 * top) (record_of c.acts) si c.program.limits.area overflow cells stack left told) q
     pub way : stack top ≡ back
@@ -69,12 +64,7 @@ module _ (c : Setting) (memory : List ℤ) (input output : List ℕ) where
       (record {
         cx = cx;
         si = si;
-        overflow = overflow;
-        top = n;
-        cells = cells;
-        stack = put_word stack n back;
-        left = left;
-        told = told;
+        around = record { overflow = overflow; top = n; cells = cells; stack = put_word stack n back; left = left; told = told };
         low = low;
         is = to_place there (call c.rows by n back lt up behind i s);
         way = put_at stack n back;
@@ -94,29 +84,19 @@ module _ (c : Setting) (memory : List ℤ) (input output : List ℕ) where
       straight c.rows (Number 2 line ∷ []) {n = 1} l.kept.wrote (i.0, tt) (tt, tt) (with_ax l.operands.0 l.stacked.is) (λ q t.
       reaches place by (to % 65536) rest l.top (omega arith) there behind i.1.0 l.operands.1 l.kept t)
 
-  -- what a routine does from here on, and what that means for the processor that is watched
-  pub record Runs (o : List ℕ) (limit : ℕ) (q : Watched) (V : Watched → Type 0) : Type 1 where
-    pub watches : q.overlooks ≡ false
-    pub silent : q.begun ≡ []
-    pub wrote : o ≡ output
-    pub U : Processor → Type 0
-    pub law : Within (Quiet (quiet_in q.places)) c.image.bytes o limit q.processor U
-    pub means : (r : Processor) → U r → V (fresh q.places q.area r)
-
-  -- so many instructions, and the routine
-  pub runs : {p : Watched} {T V : Watched → Type 0} (n limit bound : ℕ) → suc n + limit ≤ bound → Leads output (suc n) p T → ((q : Watched) → T q → (o : List ℕ) × Runs o limit q V)
-      → Leading output bound p V
-  runs {p} {T} {V} n limit bound le l on =
-      let r = (on l.reached l.there).1 in
-      let k = r.law.spent in
-      let within = r.law.within in
-      let rest : Leads output k l.reached V = subst (λ x. Leads x k l.reached V) r.wrote (lifted c.rows r.watches r.silent r.law.leads r.means) in
-      record {
-        spent = suc n + k;
-        some = omega arith;
-        within = omega arith;
-        leads = record { reached = rest.reached; path = join _ watched_machine (suc n) k (suc n + k) p l.reached rest.reached refl l.path rest.path; there = rest.there };
-      }
+  -- so many instructions to a routine, what it does from there on, and what that means for the processor that is watched
+  pub runs : {p : Watched} {place back line ax bx : ℕ} {rest : List Operand} {V : Watched → Type 0} {U : (q : Watched) → AtRoutine place back line ax bx rest q → Processor → Type 0} (n limit bound : ℕ) → suc n + limit ≤ bound
+      → Leads output (suc n) p (AtRoutine place back line ax bx rest)
+      → ((q : Watched) (r : AtRoutine place back line ax bx rest q) → Within (Quiet (quiet_in q.places)) c.image.bytes r.told.output limit q.processor (U q r))
+      → ((q : Watched) (r : AtRoutine place back line ax bx rest q) (u : Processor) → U q r u → V (fresh q.places q.area u)) → Leading output bound p V
+  runs {V = V} n limit bound le l law means =
+      let q = l.reached in
+      let r = l.there in
+      let t = law q r in
+      let k = t.spent in
+      let within = t.within in
+      let behind : Leads output k q V = subst (λ x. Leads x k q V) r.kept.wrote (lifted c.rows r.is.overlooks r.is.silent t.leads (means q r)) in
+      record { spent = suc n + k; some = omega arith; within = omega arith; leads = joined l behind }
 
   -- ---- what comes of it
 
@@ -153,36 +133,16 @@ module _ (c : Setting) (memory : List ℤ) (input output : List ℕ) where
       → Leads output 2 p (AtRoutine place (to % 65536) line ax bx operands) → ((q : Watched) (r : AtRoutine place (to % 65536) line ax bx operands q) → Stored to line limit rest o r)
       → DoesHere c memory input output bound to false line p o
   stored to line limit bound rest (Changed v) keeps le l each =
-      runs 1 limit bound le l (λ q r.
+      runs 1 limit bound le l (λ q r. (each q r).law) (λ q r u e.
       let t = each q r in
-      let k = r.kept in (
-        r.told.output,
-        record {
-          watches = r.is.overlooks;
-          silent = r.is.silent;
-          wrote = k.wrote;
-          U = _;
-          law = t.law;
-          means = λ u e.
-              subst (λ x. Landed c.program c.image to c.g false c.acts x (fresh q.places q.area u)) (sym keeps)
-              (landed c.rows c.program c.image c.g c.acts false to t.top rest v.memory input output refl t.under
-              (record { words = e.holds_words.words; long = e.holds_words.long; piled = k.piled; read = k.read; wrote = k.wrote; kind = k.kind })
-              (to_place (let m : to % 65536 % 65536 ≡ to % 65536 = omega arith in m) (returned q r.is.ignores e.back.is)));
-        },
-      ))
+      let k = r.kept in
+      subst (λ x. Landed c.program c.image to c.g false c.acts x (fresh q.places q.area u)) (sym keeps)
+      (landed c.rows c.program c.image c.g c.acts false to t.top rest v.memory input output refl t.under
+      (record { words = e.holds_words.words; long = e.holds_words.long; piled = k.piled; read = k.read; wrote = k.wrote; kind = k.kind })
+      (to_place (let m : to % 65536 % 65536 ≡ to % 65536 = omega arith in m) (returned q r.is.ignores e.back.is))))
   stored to line limit bound rest (Refused kind) keeps le l each =
-      runs 1 limit bound le l (λ q r.
-      let t = each q r in (
-        r.told.output,
-        record {
-          watches = r.is.overlooks;
-          silent = r.is.silent;
-          wrote = r.kept.wrote;
-          U = _;
-          law = t.law;
-          means = λ u e. subst (λ x. Over (record { output = x; end = Stopped kind (c.g + 1) line }) (fresh q.places q.area u)) r.kept.wrote (over q e);
-        },
-      ))
+      runs 1 limit bound le l (λ q r. (each q r).law)
+      (λ q r u e. subst (λ x. Over (record { output = x; end = Stopped kind (c.g + 1) line }) (fresh q.places q.area u)) r.kept.wrote (over q e))
   stored to line limit bound rest Impossible keeps le l each = tt
 
   -- where the loop's words are in the area
@@ -288,32 +248,13 @@ module _ (c : Setting) (memory : List ℤ) (input output : List ℕ) where
       puts : (n : ℕ) → n < area → unsigned a ≡ n → (b : Bool) → is_below (word_at memory n) area ≡ b
           → DoesHere c memory input output 18 to true line p (variable_put b a (word_at memory n) (words rest memory input output))
       puts n within same true is =
-          runs 1 16 18 (lit≤ tt) (reaches_at_line to put_variable_place by line a rest e there room i l) (λ q r. (
-            r.told.output,
-            record {
-              watches = r.is.overlooks;
-              silent = r.is.silent;
-              wrote = r.kept.wrote;
-              U = _;
-              law = law n within same true is q r;
-              means = λ u f.
-                  let low = r.low in
-                  let x = word_at memory (number_of (word_at memory n)) in
-                  landed c.rows c.program c.image c.g c.acts true to r.top (Word a ∷ Word x ∷ rest) memory input output refl
-                  (sym same, (f.word_is, stack_same c.program c.acts r.stack f.stack (suc r.top) rest (λ k le. f.above k (omega arith)) r.under))
-                  (kept_same f.stack (λ k le. f.above k (omega arith)) r.kept)
-                  (to_place (let m : to % 65536 % 65536 ≡ to % 65536 = omega arith in m) (returned q r.is.ignores f.is));
-            },
-          ))
+          runs 1 16 18 (lit≤ tt) (reaches_at_line to put_variable_place by line a rest e there room i l) (λ q r. law n within same true is q r) (λ q r u f.
+          let low = r.low in
+          let x = word_at memory (number_of (word_at memory n)) in
+          landed c.rows c.program c.image c.g c.acts true to r.top (Word a ∷ Word x ∷ rest) memory input output refl
+          (sym same, (f.word_is, stack_same c.program c.acts r.stack f.stack (suc r.top) rest (λ k le. f.above k (omega arith)) r.under))
+          (kept_same f.stack (λ k le. f.above k (omega arith)) r.kept)
+          (to_place (let m : to % 65536 % 65536 ≡ to % 65536 = omega arith in m) (returned q r.is.ignores f.is)))
       puts n within same false is =
-          runs 1 16 18 (lit≤ tt) (reaches_at_line to put_variable_place by line a rest e there room i l) (λ q r. (
-            r.told.output,
-            record {
-              watches = r.is.overlooks;
-              silent = r.is.silent;
-              wrote = r.kept.wrote;
-              U = _;
-              law = law n within same false is q r;
-              means = λ u f. subst (λ x. Over (record { output = x; end = Stopped AddressRange (c.g + 1) line }) (fresh q.places q.area u)) r.kept.wrote (over q f);
-            },
-          ))
+          runs 1 16 18 (lit≤ tt) (reaches_at_line to put_variable_place by line a rest e there room i l) (λ q r. law n within same false is q r)
+          (λ q r u f. subst (λ x. Over (record { output = x; end = Stopped AddressRange (c.g + 1) line }) (fresh q.places q.area u)) r.kept.wrote (over q f))

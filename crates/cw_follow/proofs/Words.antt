@@ -1,18 +1,19 @@
 -- The steps of orders on words, each of which is a block of its own.
-use Rattle.std.proofs.Common.{◌≡◌, ℕ, zero, suc, ◌+◌, ◌<◌, ◌≤◌, Bool, true, false, not, inl, inr, ℤ, pos, negsuc, ◌-ℤ◌, List, [], ◌∷◌, Some, None, refl, sym, ap, ◌∙◌, subst, arith, lit<, lit≤}
+use Rattle.std.proofs.Common.{◌≡◌, ℕ, zero, suc, ◌+◌, ◌<◌, ◌≤◌, Bool, true, false, not, inl, inr, ℤ, pos, negsuc, ◌-ℤ◌, List, [], ◌∷◌, Some, None, refl, sym, ap, ◌∙◌, subst, arith, lit<, lit≤, length}
 use Rattle.std.proofs.lemmas.Bool.{cases_lt}
 use Rattle.std.proofs.lemmas.List.Elements.{All-head}
 use Rattle.std.specs.List.{All}
-use Rattle.std.specs.Prelude.{slice_get, bit_and, bit_or, bit_xor}
+use Rattle.std.specs.Prelude.{slice_get}
 use Rattle.std.specs.Int.Bits.{xor_self}
 use Rattle.cw_i86.specs.declared.instr.Instr.TheVariants as i86
 use Rattle.cw_i86.specs.declared.instr.Imm.TheVariants as imm
 use Rattle.cw_i86.specs.declared.instr.Rm.TheVariants as rms
 use Rattle.cw_word.specs.BitField.{unsigned_field}
 use Rattle.cw_word.specs.Word.{signed, unsigned, word_difference}
+use Rattle.cw_unit.specs.declared.unit.LogicOp.{LogicOp}
 use Rattle.cw_unit.specs.declared.unit.LogicOp.TheVariants as logic
-use Rattle.cw_unit.specs.Stop.{Running, Stuck}
-use Rattle.cw_unit.specs.Words.{Operand, Word, Held, Words, Outcome, Changed, Refused, Impossible, put, on_one, with_operands}
+use Rattle.cw_unit.specs.Stop.{Running}
+use Rattle.cw_unit.specs.Words.{Operand, Word, Held, Words, Outcome, Changed, Refused, Impossible, put, on_one, with_operands, logic_word}
 use Rattle.cw_unit.specs.Operation.{Fetch, Store, StoreBits, Add, Subtract, Negate, Combine, Extract, Form, Taken, InBounds, WriteByte, ReadByte, perform}
 use Rattle.cw_order.specs.declared.order.Order.{Order}
 use Rattle.cw_order.specs.declared.order.Order.TheVariants as order
@@ -27,20 +28,24 @@ use Rattle.cw_tmpl.specs.declared.blocks.Block.TheVariants as block
 use Rattle.cw_tmpl.specs.Templates.{template_by}
 use Rattle.cw_tmpl.specs.ShortForms.{is_short}
 use Rattle.cw_tmpl.specs.ReferenceCode.{names_of, reach_of}
-use Rattle.cw_tmpl.proofs.Sizes.{own_place}
+use Rattle.cw_tmpl.proofs.Sizes.{own_place, size_by}
 use Rattle.cw_follow.proofs.Watched.{Watched}
 use Rattle.cw_follow.proofs.Chains.{seen, number, done}
-use Rattle.cw_follow.proofs.Orders.{Landed, Tells, Checked, landed, further, puts, saves, adds, subtracts, negates, loads, stores, writes}
-use Rattle.cw_follow.proofs.States.{Given, Sound, went_on, never_on, not_stuck}
-use Rattle.cw_follow.proofs.Straight.{Both, Either, One, straight_from}
+use Rattle.cw_follow.proofs.Orders.{Landed, Tells, Checked, landed, further, puts, saves, loads, stores, writes}
+use Rattle.cw_follow.proofs.States.{Given, Sound, went_on}
+use Rattle.cw_follow.proofs.Straight.{Both, Either, One, straight_from, Act, instruction, Needs}
 use Rattle.cw_follow.proofs.Operands.{words}
-use Rattle.cw_follow.proofs.Bits.{part, drops, combines, differs, ands, ors, xors, lesses, takes, takes_all, loads_part, stores_part}
+use Rattle.cw_follow.proofs.Bits.{part, drops, Sets, combines, differs, logic_turned, lesses, takes, takes_all, loads_part, stores_part}
 use Rattle.cw_follow.proofs.Shifts.{part_steps, without_steps}
 use Rattle.cw_follow.proofs.Addresses.{indexes_less, in_areas, BoundsCode, bounds_kept, bounds_from_zero}
 use Rattle.cw_follow.proofs.Inputs.{reads}
-use Rattle.cw_follow.proofs.Steps.{Follow, Alone, leads_to, onward, few_segments, order_is, step_is, sound_at, does, tells, by, calls, setting, cheap, has_code, line_fits, low_room, here, next, code, behind, begins_next, silent, FollowFrom, begins_here, begun_here, landed_here}
-use Rattle.cw_follow.proofs.Standing.{Has, HasAt, HasPieces}
+use Rattle.cw_follow.proofs.Steps.{Follow, Alone, leads_to, onward, order_is, step_is, sound_at, does, tells, by, calls, setting, cheap, has_code, line_fits, low_room, here, next, code, behind, begins_next, silent, FollowFrom, begins_here, begun_here, landed_here, stuck_here, is_codeless}
+use Rattle.cw_follow.proofs.Standing.{Has, HasAt, HasPieces, HasAll}
 use Rattle.cw_follow.proofs.CheckedBlocks.{checked_alone}
+use Rattle.cw_follow.proofs.Sums.{adds, subtracts, negates}
+use Rattle.cw_i86.specs.Encoding.{bytes_of}
+use Rattle.cw_run86.specs.Views.{View}
+use Rattle.cw_word.specs.FixedPoint.{FitsWord}
 
 module _ (known : Given) where
   open known use {rows, p, image, all, coded, few, low}
@@ -110,26 +115,31 @@ module _ (known : Given) where
         let o = order.Save in
         let goes : step p (at g place true acts w Running) ≡ at g (place + 1) false acts w Running = step_is known s (Some o) e in
         leads_to known g place true acts w (at g (place + 1) false acts w Running) 1 goes (cheap known s o 1 (lit≤ tt) e)
-        (onward known (λ r l. inl (sound_at known s (place + 1) false w r (begins_next known s a o e) s.room goes l))
+        (onward known (λ r l. inl (sound_at known s (place + 1) false w r (begins_next known s a o e) goes l))
         (saves rows p image g acts (next known s a) w.operands w.memory w.input w.output (behind known s a o e) (low_room known s) (code known s a o e).0 a.landed))
 
-    pub drop_follows : slice_get s.orders.list place ≡ Some order.Drop → Follow known (at g place true acts w Running) q
-    drop_follows e = cases w.operands refl
+    -- what an order does with the top word, by no code
+    top_follows : (o : Order) (m : Bool) (f : ℤ → Words → Words) → slice_get s.orders.list place ≡ Some o → carry_out p (Some o) g place true acts w ≡ after p.room 0 (unrefused (on_one (λ x v. Changed (f x v)) w.operands w)) g place m acts w
+        → size_by (is_short (reach_of s.orders)) place block.Single o ≡ 0 → is_codeless o ≡ true
+        → ((z : ℤ) (rest : List Operand) → FitsWord z → (at : ℕ) → Landed p image at g true acts (words (Word z ∷ rest) w.memory w.input w.output) q → Landed p image at g m acts (f z (words rest w.memory w.input w.output)) q)
+        → Follow known (at g place true acts w Running) q
+    top_follows o m f e goes none codeless turned = cases w.operands refl
       where
-        goes : (operands : List Operand) → w.operands ≡ operands → step p (at g place true acts w Running) ≡ after p.room 0 (unrefused (on_one (λ x v. Changed v) operands w)) g place false acts w
-        goes operands is = step_is known s (Some order.Drop) e ∙ ap (λ xs. after p.room 0 (unrefused (on_one (λ x v. Changed v) xs w)) g place false acts w) is
-
-        stuck : step p (at g place true acts w Running) ≡ at g place false acts w Stuck → Follow known (at g place true acts w Running) q
-        stuck none = absurd (not_stuck p g place false acts w (never_on p (at g place true acts w Running) (at g place false acts w Stuck) none s.never))
+        goes_on : (operands : List Operand) → w.operands ≡ operands → step p (at g place true acts w Running) ≡ after p.room 0 (unrefused (on_one (λ x v. Changed (f x v)) operands w)) g place m acts w
+        goes_on operands is = step_is known s (Some o) e ∙ goes ∙ ap (λ xs. after p.room 0 (unrefused (on_one (λ x v. Changed (f x v)) xs w)) g place m acts w) is
 
         cases : (operands : List Operand) → w.operands ≡ operands → Follow known (at g place true acts w Running) q
-        cases [] is = stuck (goes [] is)
-        cases (Held c ∷ rest) is = stuck (goes (Held c ∷ rest) is)
+        cases [] is = absurd (stuck_here known s (goes_on [] is))
+        cases (Held c ∷ rest) is = absurd (stuck_here known s (goes_on (Held c ∷ rest) is))
         cases (Word z ∷ rest) is =
-            let v = with_operands w rest in
-            let on = went_on p g place true false 0 acts w v (goes (Word z ∷ rest) is) s.never in
+            let v = f z (with_operands w rest) in
+            let on = went_on p g place true m 0 acts w v (goes_on (Word z ∷ rest) is) s.never in
             let whole : w ≡ words (Word z ∷ rest) w.memory w.input w.output = ap (λ xs. words xs w.memory w.input w.output) is in
-            silent known s a order.Drop false v e on.goes on.room refl refl (λ at l. drops (setting known s) w.memory w.input w.output z rest at (subst (λ x. Landed p image at g true acts x q) whole l))
+            let fz = All-head OperandFits (Word z) rest (subst (All OperandFits) is s.fits.operands) in
+            silent known s a o m v e on.goes none codeless (λ at l. turned z rest fz at (subst (λ x. Landed p image at g true acts x q) whole l))
+
+    pub drop_follows : slice_get s.orders.list place ≡ Some order.Drop → Follow known (at g place true acts w Running) q
+    drop_follows e = top_follows order.Drop false (λ x v. v) e refl refl refl (λ z rest fz. drops (setting known s) w.memory w.input w.output z rest)
 
     -- the code of a sum, a difference and a negative, with the check in one of its forms
     abbrev form_of : Order → Bool
@@ -157,19 +167,19 @@ module _ (known : Given) where
     add_follows line e =
         let o = order.Add line in
         does known s true line (perform p.limits.area Add w) 16 (begins_next known s a o e) (step_is known s (Some o) e) (cheap known s o 16 (lit≤ tt) e)
-        (adds rows p image g acts (next known s a) line w.operands w.memory w.input w.output all.library (few_segments known s) (line_fits known s o e) s.fits.operands (add_code line (form_of o) e refl (code known s a o e)) a.landed)
+        (adds (setting known s) w.memory w.input w.output (next known s a) line w.operands (line_fits known s o e) (low_room known s) s.fits.operands (add_code line (form_of o) e refl (code known s a o e)) a.landed)
 
     pub subtract_follows : (line : ℕ) → slice_get s.orders.list place ≡ Some (order.Sub line) → Follow known (at g place true acts w Running) q
     subtract_follows line e =
         let o = order.Sub line in
         does known s true line (perform p.limits.area Subtract w) 17 (begins_next known s a o e) (step_is known s (Some o) e) (cheap known s o 17 (lit≤ tt) e)
-        (subtracts rows p image g acts (next known s a) line w.operands w.memory w.input w.output all.library (few_segments known s) (line_fits known s o e) s.fits.operands (subtract_code line (form_of o) e refl (code known s a o e)) a.landed)
+        (subtracts (setting known s) w.memory w.input w.output (next known s a) line w.operands (line_fits known s o e) (low_room known s) s.fits.operands (subtract_code line (form_of o) e refl (code known s a o e)) a.landed)
 
     pub negate_follows : (line : ℕ) → slice_get s.orders.list place ≡ Some (order.Neg line) → Follow known (at g place true acts w Running) q
     negate_follows line e =
         let o = order.Neg line in
         does known s true line (perform p.limits.area Negate w) 15 (begins_next known s a o e) (step_is known s (Some o) e) (cheap known s o 15 (lit≤ tt) e)
-        (negates rows p image g acts (next known s a) line w.operands w.memory w.input w.output all.library (few_segments known s) (line_fits known s o e) (low_room known s) s.fits.operands
+        (negates (setting known s) w.memory w.input w.output (next known s a) line w.operands (line_fits known s o e) (low_room known s) s.fits.operands
         (negate_code line (form_of o) e refl (code known s a o e)) a.landed)
 
     pub load_follows : slice_get s.orders.list place ≡ Some order.Load → Follow known (at g place true acts w Running) q
@@ -204,23 +214,9 @@ module _ (known : Given) where
 
     -- all bits of a word, by no code
     take_all : slice_get s.orders.list place ≡ Some (order.Take 16 0) → Follow known (at g place true acts w Running) q
-    take_all e = cases w.operands refl
-      where
-        goes : (operands : List Operand) → w.operands ≡ operands → step p (at g place true acts w Running) ≡ after p.room 0 (unrefused (on_one (λ x v. Changed (put (signed (unsigned_field (unsigned x) 16 0)) v)) operands w)) g place true acts w
-        goes operands is = step_is known s (Some (order.Take 16 0)) e ∙ ap (λ xs. after p.room 0 (unrefused (on_one (λ x v. Changed (put (signed (unsigned_field (unsigned x) 16 0)) v)) xs w)) g place true acts w) is
-
-        stuck : step p (at g place true acts w Running) ≡ at g place true acts w Stuck → Follow known (at g place true acts w Running) q
-        stuck none = absurd (not_stuck p g place true acts w (never_on p (at g place true acts w Running) (at g place true acts w Stuck) none s.never))
-
-        cases : (operands : List Operand) → w.operands ≡ operands → Follow known (at g place true acts w Running) q
-        cases [] is = stuck (goes [] is)
-        cases (Held c ∷ rest) is = stuck (goes (Held c ∷ rest) is)
-        cases (Word z ∷ rest) is =
-            let v = put (signed (unsigned_field (unsigned z) 16 0)) (with_operands w rest) in
-            let on = went_on p g place true true 0 acts w v (goes (Word z ∷ rest) is) s.never in
-            let whole : w ≡ words (Word z ∷ rest) w.memory w.input w.output = ap (λ xs. words xs w.memory w.input w.output) is in
-            let fz = All-head OperandFits (Word z) rest (subst (All OperandFits) is s.fits.operands) in
-            silent known s a (order.Take 16 0) true v e on.goes on.room refl refl (λ at l. takes_all (setting known s) w.memory w.input w.output at z rest fz (subst (λ x. Landed p image at g true acts x q) whole l))
+    take_all e =
+        top_follows (order.Take 16 0) true (λ x v. put (signed (unsigned_field (unsigned x) 16 0)) v) e refl refl refl
+        (λ z rest fz at. takes_all (setting known s) w.memory w.input w.output at z rest fz)
 
     pub take_follows : (t b : ℕ) → slice_get s.orders.list place ≡ Some (order.Take t b) → Follow known (at g place true acts w Running) q
     take_follows t b e = elim (cases_lt 0 (part_steps t b false)) [
@@ -231,26 +227,28 @@ module _ (known : Given) where
           take_all (subst (λ n. slice_get s.orders.list place ≡ Some (order.Take n 0)) all_bits.0 (subst (λ n. slice_get s.orders.list place ≡ Some (order.Take t n)) all_bits.1 e))
     ]
 
+    -- the instruction of each, on AX and BX
+    abbrev logic_act : LogicOp → Act
+    logic_act logic.Mask = Both 0 3
+    logic_act logic.Union = Either 0 3
+    logic_act logic.Differ = One 0 3
+
+    combines_follow : (op : LogicOp) (o : Order) → slice_get s.orders.list place ≡ Some o → carry_out p (Some o) g place true acts w ≡ after p.room 0 (unrefused (perform p.limits.area (Combine op) w)) g place true acts w → 2 ≤ weight_of o
+        → here known s a + 3 ≡ next known s a → length (bytes_of (instruction (logic_act op))) ≡ 2 → Sets (logic_act op) (logic_word op) (λ a b o. false) → ((v : View) → Needs (logic_act op) v)
+        → HasAll image (here known s a) (i86.Pop 3 ∷ instruction (logic_act op) ∷ []) → Follow known (at g place true acts w Running) q
+    combines_follow op o e goes paid ends long sets needs i =
+        does known s true 0 (unrefused (perform p.limits.area (Combine op) w)) 2 (begins_next known s a o e) (step_is known s (Some o) e ∙ goes) (cheap known s o 2 paid e)
+        (combines (setting known s) w.memory w.input w.output (next known s a) (logic_act op) (logic_word op) (λ a b o. false) (λ x y. signed (logic_word op (unsigned x) (unsigned y))) w.operands ends long sets needs
+        (logic_turned (setting known s) w.memory w.input w.output op) (low_room known s) s.fits.operands i a.landed)
+
     pub and_follows : slice_get s.orders.list place ≡ Some order.And → Follow known (at g place true acts w Running) q
-    and_follows e =
-        let o = order.And in
-        does known s true 0 (unrefused (perform p.limits.area (Combine logic.Mask) w)) 2 (begins_next known s a o e) (step_is known s (Some o) e) (cheap known s o 2 (lit≤ tt) e)
-        (combines (setting known s) w.memory w.input w.output (next known s a) (Both 0 3) bit_and (λ a b o. false) (λ x y. signed (bit_and (unsigned x) (unsigned y))) w.operands (behind known s a o e) refl
-        (λ a cx dx b sp bp si di o cells stack i t. refl) (λ v. tt) (ands (setting known s) w.memory w.input w.output) (low_room known s) s.fits.operands (code known s a o e) a.landed)
+    and_follows e = combines_follow logic.Mask order.And e refl (lit≤ tt) (behind known s a order.And e) refl (λ a cx dx b sp bp si di o cells stack i t. refl) (λ v. tt) (code known s a order.And e)
 
     pub or_follows : slice_get s.orders.list place ≡ Some order.Or → Follow known (at g place true acts w Running) q
-    or_follows e =
-        let o = order.Or in
-        does known s true 0 (unrefused (perform p.limits.area (Combine logic.Union) w)) 2 (begins_next known s a o e) (step_is known s (Some o) e) (cheap known s o 2 (lit≤ tt) e)
-        (combines (setting known s) w.memory w.input w.output (next known s a) (Either 0 3) bit_or (λ a b o. false) (λ x y. signed (bit_or (unsigned x) (unsigned y))) w.operands (behind known s a o e) refl
-        (λ a cx dx b sp bp si di o cells stack i t. refl) (λ v. tt) (ors (setting known s) w.memory w.input w.output) (low_room known s) s.fits.operands (code known s a o e) a.landed)
+    or_follows e = combines_follow logic.Union order.Or e refl (lit≤ tt) (behind known s a order.Or e) refl (λ a cx dx b sp bp si di o cells stack i t. refl) (λ v. tt) (code known s a order.Or e)
 
     pub xor_follows : slice_get s.orders.list place ≡ Some order.Xor → Follow known (at g place true acts w Running) q
-    xor_follows e =
-        let o = order.Xor in
-        does known s true 0 (unrefused (perform p.limits.area (Combine logic.Differ) w)) 2 (begins_next known s a o e) (step_is known s (Some o) e) (cheap known s o 2 (lit≤ tt) e)
-        (combines (setting known s) w.memory w.input w.output (next known s a) (One 0 3) bit_xor (λ a b o. false) (λ x y. signed (bit_xor (unsigned x) (unsigned y))) w.operands (behind known s a o e) refl
-        (λ a cx dx b sp bp si di o cells stack i t. refl) (λ v. tt) (xors (setting known s) w.memory w.input w.output) (low_room known s) s.fits.operands (code known s a o e) a.landed)
+    xor_follows e = combines_follow logic.Differ order.Xor e refl (lit≤ tt) (behind known s a order.Xor e) refl (λ a cx dx b sp bp si di o cells stack i t. refl) (λ v. tt) (code known s a order.Xor e)
 
     pub less_follows : slice_get s.orders.list place ≡ Some order.Less → Follow known (at g place true acts w Running) q
     less_follows e =

@@ -178,35 +178,7 @@ module _ (finds : Finds) (Quiet : ℕ → Type 0) (code : List ℕ) (stands : St
       (Pop 6 n at (2 * suc n % 65536) ∷ Number 5 0 ∷ Load 4 (Register 5) ∷ Load 7 (InCode (places.Plain 4) at area)
       ∷ PushFrom (InCode (places.Near 4 6) (at + 6) segment) 32767 ∷ PushFrom (InCode (places.Near 4 4) (at + 4) calls) 32766
       ∷ PushFrom (InCode (places.Near 4 2) (at + 2) frames) 32765 ∷ PushFrom (InCode (places.Near 4 2) (at + 2) frames) 32764 ∷ SumShort 6 8 ∷ []) {n = 1} (quiet 33 (lit≤ tt)) refl
-      (h.0, (h.1.0, (h.1.1.0, (h.1.1.1.0, (h.1.1.1.1.0, (h.1.1.1.1.1.0, (h.1.1.1.1.1.1.0, (h.1.1.1.1.1.1.1.0, (h.1.1.1.1.1.1.1.1.0, tt))))))))) (
-        (lit< tt, lit≤ tt),
-        (lt, top, is, refl),
-        (
-          (lit< tt, lit≤ tt),
-          tt,
-          (
-            (lit< tt, lit≤ tt),
-            tt,
-            (
-              (lit< tt, lit≤ tt),
-              (refl, d),
-              (
-                (lit< tt, lit≤ tt),
-                ((e6, w6), lit< tt, refl),
-                (
-                  (lit< tt, lit≤ tt),
-                  ((e4, w4), lit< tt, refl),
-                  (
-                    (lit< tt, lit≤ tt),
-                    ((e2, w2), lit< tt, refl),
-                    ((lit< tt, lit≤ tt), ((e2, w2), lit< tt, refl), ((lit< tt, lit≤ tt), tt, tt)),
-                  ),
-                ),
-              ),
-            ),
-          ),
-        ),
-      ) s (λ q u.
+      (h.0, (h.1.0, (h.1.1.0, (h.1.1.1.0, (h.1.1.1.1.0, (h.1.1.1.1.1.0, (h.1.1.1.1.1.1.0, (h.1.1.1.1.1.1.1.0, (h.1.1.1.1.1.1.1.1.0, tt))))))))) ((lt, top, is, refl), (tt, (tt, ((refl, d), (((e6, w6), lit< tt, refl), (((e4, w4), lit< tt, refl), (((e2, w2), lit< tt, refl), (((e2, w2), lit< tt, refl), (tt, tt))))))))) s (λ q u.
       last Quiet code told.output finds u (library 33 (lit< tt)) refl (record {
         ax = ax;
         cx = cx;
@@ -240,7 +212,7 @@ module _ (finds : Finds) (Quiet : ℕ → Type 0) (code : List ℕ) (stands : St
           let up : 2 * suc (m + 4) % 65536 ≡ 2 * suc (m + 4) = omega arith in
           straight Quiet code told.output finds (Pop 6 (m + 4) at (2 * suc (m + 4)) ∷ Load 0 (Slot (places.Near 6 0xFC) (r + 2) calls) ∷ DifferenceNumber 1 ∷ []) {n = 0}
           (quiet 98 (lit≤ tt)) refl (h.0, (h.1.0, (h.1.1.0, tt)))
-          ((lit< tt, lit≤ tt), (lt, top, there, up), ((lit< tt, lit≤ tt), (refl, c.0, c.1, i.left), ((lit< tt, lit≤ tt), tt, tt))) s (λ q u. done Quiet code told.output u)
+          ((lt, top, there, up), ((refl, c.0, c.1, i.left), (tt, tt))) s (λ q u. done Quiet code told.output u)
 
       -- where there was one, the words of the frame are taken from those that are left
       taken : 0 < calls
@@ -253,7 +225,7 @@ module _ (finds : Finds) (Quiet : ℕ → Type 0) (code : List ℕ) (stands : St
           more Quiet code told.output finds u (library 98 (lit< tt)) refl (passes_if finds 2 0xEF h.1.1.1.0 (carry calls 1 ∙ le-ltb calls 1 some) u) (λ q u.
           straight Quiet code told.output finds (Load 1 (Slot (places.Near 6 0xF8) r rest) ∷ Difference 1 (InCode (places.Plain 4) at size) ∷ []) {n = 0}
           (quiet 106 (lit≤ tt)) refl (h.1.1.1.1.0, (h.1.1.1.1.1.0, tt))
-          ((lit< tt, lit≤ tt), (refl, b.0, b.1, i.rest_is), ((lit< tt, lit≤ tt), (refl, words), tt)) u (λ q u. done Quiet code told.output u)))
+          ((refl, b.0, b.1, i.rest_is), ((refl, words), tt)) u (λ q u. done Quiet code told.output u)))
 
       by_frame : (b : Bool) → nat_le size rest ≡ b → 0 < calls
           → Within Quiet code told.output 18 p (Begins code told.output true b line segment
@@ -282,31 +254,7 @@ module _ (finds : Finds) (Quiet : ℕ → Type 0) (code : List ℕ) (stands : St
           (Load 3 (Register 7) ∷ Difference 3 (Slot (places.Near 6 0xF8) r rest) ∷ DoubleWord 3
           ∷ Push 5 (m + 4) ∷ Load 5 (Register 4) ∷ PushFrom (InCode (places.Near 4 2) (at + 2) number) (m + 3) ∷ Push 0 (m + 2) ∷ Push 3 (m + 1) ∷ Push 1 m ∷ SumShort 6 4 ∷ []) {n = 1}
           (quiet 128 (lit≤ tt)) refl
-          (g.0, (g.1.0, (g.1.1.0, (g.1.1.1.0, (g.1.1.1.1.0, (g.1.1.1.1.1.0, (g.1.1.1.1.1.1.0, (g.1.1.1.1.1.1.1.0, (g.1.1.1.1.1.1.1.1.0, (g.1.1.1.1.1.1.1.1.1.0, tt)))))))))) (
-            (lit< tt, lit≤ tt),
-            tt,
-            (
-              (lit< tt, lit≤ tt),
-              (refl, b.0, b.1, i.rest_is),
-              (
-                (lit< tt, lit≤ tt),
-                tt,
-                (
-                  (lit< tt, lit≤ tt),
-                  w.slot4,
-                  (
-                    (lit< tt, lit≤ tt),
-                    tt,
-                    (
-                      (lit< tt, lit≤ tt),
-                      ((e2, names), w.slot3.0, w.slot3.1),
-                      ((lit< tt, lit≤ tt), w.slot2, ((lit< tt, lit≤ tt), w.slot1, ((lit< tt, lit≤ tt), w.slot0, ((lit< tt, lit≤ tt), tt, tt)))),
-                    ),
-                  ),
-                ),
-              ),
-            ),
-          ) u (λ q u.
+          (g.0, (g.1.0, (g.1.1.0, (g.1.1.1.0, (g.1.1.1.1.0, (g.1.1.1.1.1.0, (g.1.1.1.1.1.1.0, (g.1.1.1.1.1.1.1.0, (g.1.1.1.1.1.1.1.1.0, (g.1.1.1.1.1.1.1.1.1.0, tt)))))))))) (tt, ((refl, b.0, b.1, i.rest_is), (tt, (w.slot4, (tt, (((e2, names), w.slot3.0, w.slot3.1), (w.slot2, (w.slot1, (w.slot0, (tt, tt)))))))))) u (λ q u.
           last Quiet code told.output finds u (library 128 (lit< tt)) refl (record {
             ax = word_difference calls 1;
             cx = word_difference rest size;
@@ -347,9 +295,9 @@ module _ (finds : Finds) (Quiet : ℕ → Type 0) (code : List ℕ) (stands : St
       let lt : n < 32768 = omega arith in
       within Quiet code told.output 5 6 (lit≤ tt)
       (more Quiet code told.output finds s (library 130 (lit< tt)) refl (acts.take finds s 0x11 h.0) (λ q u.
-      straight Quiet code told.output finds (TestLow ∷ []) {n = 3} (quiet 134 (lit≤ tt)) refl (h.1.0, tt) ((lit< tt, lit≤ tt), tt, tt) u (λ q u.
+      straight Quiet code told.output finds (TestLow ∷ []) {n = 3} (quiet 134 (lit≤ tt)) refl (h.1.0, tt) (tt, tt) u (λ q u.
       more Quiet code told.output finds u (library 134 (lit< tt)) refl (jumps_if finds 5 5 h.1.1.0 (tested_some (ax / 256 * 256 + 1) f (one_low ax)) u) (λ q u.
-      straight Quiet code told.output finds (Number 0 65535 ∷ []) {n = 1} (quiet 144 (lit≤ tt)) refl (h.1.1.1.1.1.1.0, tt) ((lit< tt, lit≤ tt), tt, tt) u (λ q u.
+      straight Quiet code told.output finds (Number 0 65535 ∷ []) {n = 1} (quiet 144 (lit≤ tt)) refl (h.1.1.1.1.1.1.0, tt) (tt, tt) u (λ q u.
       last Quiet code told.output finds u (library 144 (lit< tt)) refl
       (record { ax = 65535; cx = cx; dx = dx; bx = bx; si = si; flags = _; is = acts.return finds u n (2 * suc n) back h.1.1.1.1.1.1.1.0 lt top up (there ∙ whole); answers = refl }))))))
   reads_byte n back (b ∷ rest) {ax} {cx} {dx} {bx} {bp} {si} {area} {f} {cells} {stack} {told} {p} byte low there small s =
@@ -363,10 +311,10 @@ module _ (finds : Finds) (Quiet : ℕ → Type 0) (code : List ℕ) (stands : St
       (more Quiet code told.output finds s (library 130 (lit< tt)) refl
       (subst (λ t. At code 132 (view (ax / 256 * 256 + (if t then 1 else 0)) cx dx bx (2 * n) bp si area cells stack (b ∷ rest) told) f (processor_step p)) some
       (acts.take finds s 0x11 h.0)) (λ q u.
-      straight Quiet code told.output finds (TestLow ∷ []) {n = 4} (quiet 134 (lit≤ tt)) refl (h.1.0, tt) ((lit< tt, lit≤ tt), tt, tt) u (λ q u.
+      straight Quiet code told.output finds (TestLow ∷ []) {n = 4} (quiet 134 (lit≤ tt)) refl (h.1.0, tt) (tt, tt) u (λ q u.
       more Quiet code told.output finds u (library 134 (lit< tt)) refl (passes_if finds 5 5 h.1.1.0 (tested_none (ax / 256 * 256 + 0) f (none_low ax)) u) (λ q u.
       more Quiet code told.output finds u (library 136 (lit< tt)) refl (acts.take finds u 0x10 h.1.1.1.0) (λ q u.
-      straight Quiet code told.output finds (HighByte 0 ∷ []) {n = 1} (quiet 140 (lit≤ tt)) refl (h.1.1.1.1.0, tt) ((lit< tt, lit≤ tt), tt, tt) u (λ q u.
+      straight Quiet code told.output finds (HighByte 0 ∷ []) {n = 1} (quiet 140 (lit≤ tt)) refl (h.1.1.1.1.0, tt) (tt, tt) u (λ q u.
       last Quiet code told.output finds u (library 140 (lit< tt)) refl
       (record { ax = _; cx = cx; dx = dx; bx = bx; si = si; flags = _; is = acts.return finds u n (2 * suc n) back h.1.1.1.1.1.0 lt top up (there ∙ whole); answers = byte_low (ax / 256 * 256 + 0) b byte })))))))
 
@@ -393,7 +341,7 @@ module _ (finds : Finds) (Quiet : ℕ → Type 0) (code : List ℕ) where
       let within = h.1.1.0.within in
       let here : (at + 2 + 1) % 65536 ≡ at + 2 + 1 = omega arith in
       each_of Quiet code told.output finds (Load 4 (Register 5) ∷ Pop 5 b caller (2 * suc b) ∷ []) {n = 1} (silent.0, (silent.1.0, tt)) refl (h.0, (h.1.0, tt))
-      ((lit< tt, lit≤ tt), tt, ((lit< tt, lit≤ tt), (lt, top, c, up), tt)) s (λ q u.
+      (tt, ((lt, top, c, up), tt)) s (λ q u.
       last Quiet code told.output finds u (subst Quiet (sym here) silent.1.1.0) refl
       (acts.return_past finds u (suc b) (2 * words) (2 * (b + 2 + words) % 65536) back h.1.1.0 lt' top' after (ap stack next ∙ r ∙ whole)))
 
@@ -420,7 +368,7 @@ module _ (finds : Finds) (Quiet : ℕ → Type 0) (code : List ℕ) where
 
       first : Leads Quiet code told.output 1 p (At code (at + 2) (view ax cx dx (bit_or bx bx) sp bp si di cells stack input told) (logic_flags 32768 (bit_or bx bx) f))
       first = each_of Quiet code told.output finds (Either 3 (Register 3) ∷ []) {n = 0} (silent.0, tt) refl (h.0, tt)
-          ((lit< tt, lit≤ tt), tt, tt) s (λ q u. done Quiet code told.output u)
+          (tt, tt) s (λ q u. done Quiet code told.output u)
 
       cases : (b : Bool) → (bx == 0) ≡ b
           → Leads Quiet code told.output 2 p (At code (if b then at + 4 else at + 4 + by) (view ax cx dx bx sp bp si di cells stack input told) (logic_flags 32768 bx f))

@@ -1,7 +1,7 @@
 -- Chains of instructions.
-use Rattle.std.proofs.Common.{◌≡◌, ℕ, suc, ◌+◌, ◌*◌, ◌/◌, ◌%◌, ◌<◌, ◌≤◌, true, false, List, [], ◌∷◌, ◌++◌, length, refl, sym, ap, subst, ◌∙◌, arith}
+use Rattle.std.proofs.Common.{◌≡◌, ℕ, suc, ◌+◌, ◌*◌, ◌/◌, ◌%◌, ◌<◌, ◌≤◌, true, false, List, [], ◌∷◌, ◌++◌, length, refl, sym, ap, subst, ◌∙◌, arith, Bool, lit<, lit≤, length-append}
 use Rattle.std.specs.Prelude.{bit_and, bit_or, bit_xor}
-use Rattle.cw_i86.specs.Encoding.{bytes_of}
+use Rattle.cw_i86.specs.Encoding.{bytes_of, with_rm, with_mem}
 use Rattle.cw_i86.specs.Sums.{sum_flags, difference_flags, logic_flags, keeping_carry}
 use Rattle.cw_i86.specs.Shifts.{shift_flags}
 use Rattle.cw_i86.specs.Products.{product_flags}
@@ -13,6 +13,7 @@ use Rattle.cw_i86.specs.declared.instr.Instr.TheVariants as i86
 use Rattle.cw_i86.specs.declared.instr.Imm.TheVariants as imm
 use Rattle.cw_i86.specs.declared.instr.Rm.TheVariants as rms
 use Rattle.cw_i86.specs.declared.instr.Place.{Place}
+use Rattle.cw_i86.specs.declared.instr.Place.TheVariants.{Direct, Plain, Near, Far}
 use Rattle.cw_run86.specs.Processor.{Processor, processor_step}
 use Rattle.cw_run86.specs.Views.{View, Has, register, with_register, with_cell, with_stack, with_pair, word_sum, word_difference, word_up, word_down, word_down_signed, product_low, product_high, product_overflows, sign_of}
 use Rattle.cw_run86.proofs.Tests.{Finds}
@@ -20,6 +21,7 @@ use Rattle.cw_tmpl.specs.Mnemonics.{memory}
 use Rattle.cw_routines.specs.Ways.{QuietAll, At, standing, HasAll, Way, stay, go, Leads, Within}
 use Rattle.cw_routines.proofs.Sources.{Source, rm_of, SourceNeeds, value_of, offset_in}
 use Rattle.cw_routines.proofs.Acts as acts
+use Rattle.cw_i86.specs.declared.instr.Rm.{Rm}
 
 -- ---- several
 
@@ -97,6 +99,33 @@ size a = length (bytes_of (instruction a))
 
 abbrev pub IsShort : Act → Type 0
 IsShort a = (0 < size a) × (size a ≤ 7)
+
+mem_short : (opcode reg : ℕ) (cs : Bool) (place : Place) → (0 < length (with_mem opcode reg (record { cs = cs; place = place }))) × (length (with_mem opcode reg (record { cs = cs; place = place })) ≤ 6)
+mem_short opcode reg true (Direct at) = (lit< tt, lit≤ tt)
+mem_short opcode reg true (Plain form) = (lit< tt, lit≤ tt)
+mem_short opcode reg true (Near form by) = (lit< tt, lit≤ tt)
+mem_short opcode reg true (Far form by) = (lit< tt, lit≤ tt)
+mem_short opcode reg false (Direct at) = (lit< tt, lit≤ tt)
+mem_short opcode reg false (Plain form) = (lit< tt, lit≤ tt)
+mem_short opcode reg false (Near form by) = (lit< tt, lit≤ tt)
+mem_short opcode reg false (Far form by) = (lit< tt, lit≤ tt)
+
+rm_short : (opcode reg : ℕ) (rm : Rm) → (0 < length (with_rm opcode reg rm)) × (length (with_rm opcode reg rm) ≤ 6)
+rm_short opcode reg (rms.Reg r) = (lit< tt, lit≤ tt)
+rm_short opcode reg (rms.Mem mem) = mem_short opcode reg mem.cs mem.place
+
+-- each has one byte at least, and few
+short : (a : Act) → IsShort a
+short (Load r src) = let n = rm_short 0x8B r (rm_of src) in (n.0, omega arith)
+short (Store place r k) = let n = rm_short 0x89 r (memory place) in (n.0, omega arith)
+short (Sum r src) = let n = rm_short 3 r (rm_of src) in (n.0, omega arith)
+short (Difference r src) = let n = rm_short 43 r (rm_of src) in (n.0, omega arith)
+short (Either r src) = let n = rm_short 11 r (rm_of src) in (n.0, omega arith)
+short (One r src) = let n = rm_short 51 r (rm_of src) in (n.0, omega arith)
+short (Comparison r src) = let n = rm_short 59 r (rm_of src) in (n.0, omega arith)
+short (ComparisonShort src b) = let n = rm_short 0x83 7 (rm_of src) in (omega (arith, length-append (with_rm 0x83 7 (rm_of src)) (b ∷ [])), omega (arith, length-append (with_rm 0x83 7 (rm_of src)) (b ∷ [])))
+short (PushFrom src n) = let k = rm_short 0xFF 6 (rm_of src) in (k.0, omega arith)
+short _ = (lit< tt, lit≤ tt)
 
 -- what has to be known before it
 abbrev pub Needs : List ℕ → Act → View → Type 0
@@ -181,7 +210,7 @@ codes (a ∷ list) = instruction a ∷ codes list
 
 abbrev pub NeedsAll : List ℕ → List Act → View → Type 0
 NeedsAll code [] v = Unit {0}
-NeedsAll code (a ∷ list) v = IsShort a × Needs code a v × NeedsAll code list (after a v)
+NeedsAll code (a ∷ list) v = Needs code a v × NeedsAll code list (after a v)
 
 abbrev pub after_all : List Act → View → View
 after_all [] v = v
@@ -212,50 +241,50 @@ quiet (Push r n) v = refl
 quiet _ v = refl
 
 module _ (finds : Finds) where
-  step : (a : Act) {code : List ℕ} {at : ℕ} {v : View} {f : Flags} {p : Processor} → IsShort a → Has code at (instruction a) → Needs code a v → At code at v f p
+  step : (a : Act) {code : List ℕ} {at : ℕ} {v : View} {f : Flags} {p : Processor} → Has code at (instruction a) → Needs code a v → At code at v f p
       → At code (at + size a) (after a v) (flags_after a v f) (processor_step p)
-  step (Number r w) short h n s = acts.number finds s r w h
-  step (LowByte b) short h n s = acts.low_byte finds s b h
-  step (HighByte b) short h n s = acts.high_byte finds s b h
-  step LowFromHigh short h n s = acts.low_from_high finds s h
-  step (Load r src) short h n s = acts.load finds s r src short.0 short.1 h n
-  step (Store place r k) short h n s = acts.store finds s place r k short.0 short.1 h n.0 n.1 n.2
-  step (Sum r src) short h n s = acts.sum finds s r src short.0 short.1 h n
-  step (Difference r src) short h n s = acts.difference finds s r src short.0 short.1 h n
-  step (Either r src) short h n s = acts.either finds s r src short.0 short.1 h n
-  step (One r src) short h n s = acts.one_of finds s r src short.0 short.1 h n
-  step (Comparison r src) short h n s = acts.comparison finds s r src short.0 short.1 h n
-  step (ComparisonShort src b) short h n s = acts.comparison_short finds s src b short.0 short.1 h n
-  step (SumShort r b) short h n s = acts.sum_short finds s r b h
-  step (DifferenceNumber w) short h n s = acts.difference_number finds s w h
-  step (ComparisonNumber w) short h n s = acts.comparison_number finds s w h
-  step (LessOne r) short h n s = acts.less_one finds s r h
-  step (Negative r) short h n s = acts.negative finds s r h
-  step TestLow short h n s = acts.test_low finds s h
-  step OrLow short h n s = acts.or_low finds s h
-  step AddLow short h n s = acts.add_low finds s h
-  step (Double r) short h n s = acts.double finds s r h n
-  step (DoubleWord r) short h n s = acts.double_word finds s r h
-  step (Up r) short h n s = acts.up finds s r h n
-  step (Down r) short h n s = acts.down_by finds s r h
-  step (DownSigned r) short h n s = acts.down_signed finds s r h n
-  step (Product r) short h n s = acts.product finds s r h
-  step (Quotient r) short h n s = acts.quotient finds s r h n.0 n.1
-  step Sign short h n s = acts.extend finds s h
-  step (Exchange r) short h n s = acts.exchange finds s r h
-  step (Push r n) short h needs s = acts.push finds s r n h needs.0 needs.1
-  step (PushFrom src n) short h needs s = acts.push_from finds s src n short.0 short.1 h needs.0 needs.1 needs.2
-  step (Pop r n w m) short h needs s = acts.pop finds s r n w m h needs.0 needs.1 needs.2 needs.3
+  step (Number r w) h n s = acts.number finds s r w h
+  step (LowByte b) h n s = acts.low_byte finds s b h
+  step (HighByte b) h n s = acts.high_byte finds s b h
+  step LowFromHigh h n s = acts.low_from_high finds s h
+  step (Load r src) h n s = acts.load finds s r src (short (Load r src)).0 (short (Load r src)).1 h n
+  step (Store place r k) h n s = acts.store finds s place r k (short (Store place r k)).0 (short (Store place r k)).1 h n.0 n.1 n.2
+  step (Sum r src) h n s = acts.sum finds s r src (short (Sum r src)).0 (short (Sum r src)).1 h n
+  step (Difference r src) h n s = acts.difference finds s r src (short (Difference r src)).0 (short (Difference r src)).1 h n
+  step (Either r src) h n s = acts.either finds s r src (short (Either r src)).0 (short (Either r src)).1 h n
+  step (One r src) h n s = acts.one_of finds s r src (short (One r src)).0 (short (One r src)).1 h n
+  step (Comparison r src) h n s = acts.comparison finds s r src (short (Comparison r src)).0 (short (Comparison r src)).1 h n
+  step (ComparisonShort src b) h n s = acts.comparison_short finds s src b (short (ComparisonShort src b)).0 (short (ComparisonShort src b)).1 h n
+  step (SumShort r b) h n s = acts.sum_short finds s r b h
+  step (DifferenceNumber w) h n s = acts.difference_number finds s w h
+  step (ComparisonNumber w) h n s = acts.comparison_number finds s w h
+  step (LessOne r) h n s = acts.less_one finds s r h
+  step (Negative r) h n s = acts.negative finds s r h
+  step TestLow h n s = acts.test_low finds s h
+  step OrLow h n s = acts.or_low finds s h
+  step AddLow h n s = acts.add_low finds s h
+  step (Double r) h n s = acts.double finds s r h n
+  step (DoubleWord r) h n s = acts.double_word finds s r h
+  step (Up r) h n s = acts.up finds s r h n
+  step (Down r) h n s = acts.down_by finds s r h
+  step (DownSigned r) h n s = acts.down_signed finds s r h n
+  step (Product r) h n s = acts.product finds s r h
+  step (Quotient r) h n s = acts.quotient finds s r h n.0 n.1
+  step Sign h n s = acts.extend finds s h
+  step (Exchange r) h n s = acts.exchange finds s r h
+  step (Push r n) h needs s = acts.push finds s r n h needs.0 needs.1
+  step (PushFrom src n) h needs s = acts.push_from finds s src n (short (PushFrom src n)).0 (short (PushFrom src n)).1 h needs.0 needs.1 needs.2
+  step (Pop r n w m) h needs s = acts.pop finds s r n w m h needs.0 needs.1 needs.2 needs.3
 
 -- ---- ways
 
 -- the places of a list are quiet where all from the first one on are
-quiets_of : {Quiet : ℕ → Type 0} (code : List ℕ) (list : List Act) {at : ℕ} (v : View) → ((k : ℕ) → at ≤ k → k < behind list at → Quiet k) → NeedsAll code list v → QuietAll Quiet at (codes list)
-quiets_of code [] v quiet_all needs = tt
-quiets_of code (a ∷ list) {at} v quiet_all needs =
-    let some = needs.0.0 in
+quiets_of : {Quiet : ℕ → Type 0} (list : List Act) {at : ℕ} → ((k : ℕ) → at ≤ k → k < behind list at → Quiet k) → QuietAll Quiet at (codes list)
+quiets_of [] quiet_all = tt
+quiets_of (a ∷ list) {at} quiet_all =
+    let some = (short a).0 in
     let up = not_before list (at + size a) in
-    (quiet_all at (omega arith) (omega arith), quiets_of code list (after a v) (λ k lo hi. quiet_all k (omega arith) hi) needs.2)
+    (quiet_all at (omega arith) (omega arith), quiets_of list (λ k lo hi. quiet_all k (omega arith) hi))
 
 module _ (Quiet : ℕ → Type 0) (code output : List ℕ) where
   pub done : {p : Processor} {T : Processor → Type 0} → T p → Leads Quiet code output 0 p T
@@ -315,16 +344,16 @@ module _ (Quiet : ℕ → Type 0) (code output : List ℕ) where
     each_of (a ∷ list) {at} {n} {v} {f} {p} {T} quiets told h needs s on =
         let within = h.0.within in
         let fits = s.sees.fits in
-        let some = needs.0.0 in
+        let some = (short a).0 in
         let here : at % 65536 ≡ at = omega arith in
         let first : Quiet (at % 65536) = subst Quiet (sym here) quiets.0 in
         let told' : (after a v).told.output ≡ output = ap (λ t. t.output) (quiet a v) ∙ told in
         let e : suc (length list + n) ≡ suc (length list) + n = omega arith in
         subst (λ m. Leads Quiet code output m p T) e
-        (more s first told (step finds a needs.0 h.0 needs.1 s) (λ q u. each_of list quiets.1 told' h.1 needs.2 u on))
+        (more s first told (step finds a h.0 needs.0 s) (λ q u. each_of list quiets.1 told' h.1 needs.1 u on))
 
     -- so where all places from the first one on are quiet
     pub straight : (list : List Act) {at n : ℕ} {v : View} {f : Flags} {p : Processor} {T : Processor → Type 0} → ((k : ℕ) → at ≤ k → k < behind list at → Quiet k)
         → v.told.output ≡ output → HasAll code at (codes list) → NeedsAll code list v → At code at v f p
         → ((q : Processor) → At code (behind list at) (after_all list v) (flags_all list v f) q → Leads Quiet code output n q T) → Leads Quiet code output (length list + n) p T
-    straight list {v = v} quiet_all told h needs s on = each_of list (quiets_of code list v quiet_all needs) told h needs s on
+    straight list quiet_all told h needs s on = each_of list (quiets_of list quiet_all) told h needs s on

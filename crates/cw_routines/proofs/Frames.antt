@@ -67,7 +67,7 @@ module _ (finds : Finds) (Quiet : ℕ → Type 0) (code : List ℕ) (stands : St
       first =
           let c = calls_there i in
           each_of Quiet code told.output finds (Load 1 (Slot (places.Near 6 0xFC) (r + 2) calls) ∷ []) {n = 0} (silent.0, tt) refl (h.0, tt)
-          ((lit< tt, lit≤ tt), (refl, c.0, c.1, i.left), tt) s (λ q u. done Quiet code told.output u)
+          ((refl, c.0, c.1, i.left), tt) s (λ q u. done Quiet code told.output u)
 
       here3 : (at + 3) % 65536 ≡ at + 3
       here3 = let lt = inside in omega arith
@@ -83,7 +83,7 @@ module _ (finds : Finds) (Quiet : ℕ → Type 0) (code : List ℕ) (stands : St
           more Quiet code told.output finds u (subst Quiet (sym here3) silent.1.0) refl (passes_if_some finds 14 h.1.0 some u) (λ q u.
           each_of Quiet code told.output finds (Load 0 (Slot (places.Near 6 0xF8) r rest) ∷ Load 3 (Register 7) ∷ Difference 3 (Register 0) ∷ DoubleWord 3 ∷ DifferenceNumber size ∷ []) {n = 0}
           (z.0, (z.1.0, (z.1.1.0, (z.1.1.1.0, (z.1.1.1.1.0, tt))))) refl (g.0, (g.1.0, (g.1.1.0, (g.1.1.1.0, (g.1.1.1.1.0, tt)))))
-          ((lit< tt, lit≤ tt), (refl, b.0, b.1, i.rest_is), ((lit< tt, lit≤ tt), tt, ((lit< tt, lit≤ tt), tt, ((lit< tt, lit≤ tt), tt, ((lit< tt, lit≤ tt), tt, tt)))))
+          ((refl, b.0, b.1, i.rest_is), (tt, (tt, (tt, (tt, tt)))))
           u (λ q u. done Quiet code told.output u))
 
       here17 : (at + 3 + 2 + 3 + 2 + 2 + 2 + 3) % 65536 ≡ at + 3 + 2 + 3 + 2 + 2 + 2 + 3
@@ -113,19 +113,7 @@ module _ (finds : Finds) (Quiet : ℕ → Type 0) (code : List ℕ) (stands : St
           each_of Quiet code told.output finds
           (LessOne 1 ∷ Push 5 (m + 4) ∷ Load 5 (Register 4) ∷ PushFrom (InCode (places.Direct place) place number) (m + 3) ∷ Push 1 (m + 2) ∷ Push 3 (m + 1) ∷ Push 0 m ∷ []) {n = 0}
           (z.0, (z.1.0, (z.1.1.0, (z.1.1.1.0, (z.1.1.1.1.0, (z.1.1.1.1.1.0, (z.1.1.1.1.1.1.0, tt))))))) refl
-          (g.0, (g.1.0, (g.1.1.0, (g.1.1.1.0, (g.1.1.1.1.0, (g.1.1.1.1.1.0, (g.1.1.1.1.1.1.0, tt))))))) (
-            (lit< tt, lit≤ tt),
-            tt,
-            (
-              (lit< tt, lit≤ tt),
-              w.slot4,
-              (
-                (lit< tt, lit≤ tt),
-                tt,
-                ((lit< tt, lit≤ tt), ((refl, named), w.slot3.0, w.slot3.1), ((lit< tt, lit≤ tt), w.slot2, ((lit< tt, lit≤ tt), w.slot1, ((lit< tt, lit≤ tt), w.slot0, tt)))),
-              ),
-            ),
-          ) u (λ q u.
+          (g.0, (g.1.0, (g.1.1.0, (g.1.1.1.0, (g.1.1.1.1.0, (g.1.1.1.1.1.0, (g.1.1.1.1.1.1.0, tt))))))) (tt, (w.slot4, (tt, (((refl, named), w.slot3.0, w.slot3.1), (w.slot2, (w.slot1, (w.slot0, tt))))))) u (λ q u.
           done Quiet code told.output (record {
             ax = word_difference rest size;
             cx = word_difference calls 1;

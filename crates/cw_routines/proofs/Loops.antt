@@ -87,11 +87,7 @@ module _ (finds : Finds) (laws : WordLaws) (Quiet : ℕ → Type 0) (code : List
             let up : 2 * suc n % 65536 ≡ 2 * suc n = omega arith in
             straight Quiet code told.output finds (Pop 6 n back (2 * suc n) ∷ Load 3 (Register 0) ∷ Double 3 ∷ Load 3 (Cell (places.Plain 7) a (unsigned (word_at w.memory a)))
             ∷ Comparison 3 (Register 7) ∷ []) {n = 0} (quiet 154 (lit≤ tt)) refl
-            (g.0, (g.1.0, (g.1.1.0, (g.1.1.1.0, (g.1.1.1.1.0, tt))))) (
-              (lit< tt, lit≤ tt),
-              (lt, top, way, up),
-              ((lit< tt, lit≤ tt), tt, ((lit< tt, lit≤ tt), e, ((lit< tt, lit≤ tt), (refl, e, refl, h.words a inside_area), ((lit< tt, lit≤ tt), tt, tt)))),
-            ) s
+            (g.0, (g.1.0, (g.1.1.0, (g.1.1.1.0, (g.1.1.1.1.0, tt))))) ((lt, top, way, up), (tt, (e, ((refl, e, refl, h.words a inside_area), (tt, tt))))) s
             (λ q u. done Quiet code told.output u)
 
         cases : (b : Bool) → is_below (word_at w.memory a) area ≡ b
@@ -123,7 +119,7 @@ module _ (finds : Finds) (laws : WordLaws) (Quiet : ℕ → Type 0) (code : List
             more Quiet code told.output finds u (library 154 (lit< tt)) refl (passes_if finds 3 0xAB g.0 (below (unsigned (word_at w.memory a)) area lower) u) (λ q u.
             straight Quiet code told.output finds (Double 3 ∷ Pop 0 (suc n) (unsigned x) (2 * suc (suc n)) ∷ Store (places.Plain 7) 0 k ∷ []) {n = 1} (quiet 161 (lit≤ tt)) refl
             (g.1.0, (g.1.1.0, (g.1.1.1.0, tt)))
-            ((lit< tt, lit≤ tt), half, ((lit< tt, lit≤ tt), (lt, top, value, up), ((lit< tt, lit≤ tt), (refl, k_low, there), tt))) u (λ q u.
+            (half, ((lt, top, value, up), ((refl, k_low, there), tt))) u (λ q u.
             last Quiet code told.output finds u (library 161 (lit< tt)) refl (record {
               cells = put_word cells k (unsigned x);
               holds_words = stored k x in_area fx h;
@@ -170,7 +166,7 @@ module _ (finds : Finds) (laws : WordLaws) (Quiet : ℕ → Type 0) (code : List
             straight Quiet code told.output finds (Double 6 ∷ Load 0 (Cell (places.Plain 4) k (unsigned (word_at w.memory k)))
             ∷ Sum 0 (Cell (places.Near 7 2) (a + 1) (unsigned (word_at w.memory (a + 1)))) ∷ []) {n = 0} (quiet 180 (lit≤ tt)) refl
             (g.0, (g.1.0, (g.1.1.0, tt)))
-            ((lit< tt, lit≤ tt), half, ((lit< tt, lit≤ tt), (refl, k_low, there, h.words k lt), ((lit< tt, lit≤ tt), (refl, e1, e2, h.words (a + 1) small), tt))) s
+            (half, ((refl, k_low, there, h.words k lt), ((refl, e1, e2, h.words (a + 1) small), tt))) s
             (λ q u. done Quiet code told.output u)
 
         cases : (b : Bool) → fits_word (word_at w.memory k +ℤ word_at w.memory (a + 1)) ≡ b
@@ -195,7 +191,7 @@ module _ (finds : Finds) (laws : WordLaws) (Quiet : ℕ → Type 0) (code : List
             (both Quiet code told.output 3 3 sums (λ q u.
             more Quiet code told.output finds u (library 180 (lit< tt)) refl
             (passes_if finds 0 0x95 g.0 (sum_overflows laws (word_at w.memory k) (word_at w.memory (a + 1)) fx fx fs ∙ ap not is) u) (λ q u.
-            straight Quiet code told.output finds (Store (places.Plain 4) 0 k ∷ []) {n = 1} (quiet 184 (lit≤ tt)) refl (g.1.0, tt) ((lit< tt, lit≤ tt), (refl, k_low, there), tt)
+            straight Quiet code told.output finds (Store (places.Plain 4) 0 k ∷ []) {n = 1} (quiet 184 (lit≤ tt)) refl (g.1.0, tt) ((refl, k_low, there), tt)
             (with_ax value u) (λ q u.
             last Quiet code told.output finds u (library 184 (lit< tt)) refl (record {
               cells = put_word cells k (unsigned z);
@@ -222,7 +218,7 @@ module _ (finds : Finds) (laws : WordLaws) (Quiet : ℕ → Type 0) (code : List
             straight Quiet code told.output finds (Load 3 (Register 0) ∷ Double 3 ∷ Load 6 (Cell (places.Plain 7) a (unsigned (word_at w.memory a))) ∷ Comparison 6 (Register 7)
             ∷ []) {n = 0} (quiet 171 (lit≤ tt)) refl
             (g.0, (g.1.0, (g.1.1.0, (g.1.1.1.0, tt))))
-            ((lit< tt, lit≤ tt), tt, ((lit< tt, lit≤ tt), e, ((lit< tt, lit≤ tt), (refl, e, refl, h.words a inside_area), ((lit< tt, lit≤ tt), tt, tt)))) s
+            (tt, (e, ((refl, e, refl, h.words a inside_area), (tt, tt)))) s
             (λ q u. done Quiet code told.output u)
 
         cases : (b : Bool) → is_below (word_at w.memory a) area ≡ b
@@ -273,11 +269,7 @@ module _ (finds : Finds) (laws : WordLaws) (Quiet : ℕ → Type 0) (code : List
             let up : 2 * suc n % 65536 ≡ 2 * suc n = omega arith in
             straight Quiet code told.output finds (Pop 6 n back (2 * suc n) ∷ Load 3 (Register 0) ∷ Double 3 ∷ Load 3 (Cell (places.Plain 7) a (unsigned (word_at memory a)))
             ∷ Comparison 3 (Register 7) ∷ []) {n = 0} (quiet 194 (lit≤ tt)) refl
-            (g.0, (g.1.0, (g.1.1.0, (g.1.1.1.0, (g.1.1.1.1.0, tt))))) (
-              (lit< tt, lit≤ tt),
-              (lt, top, way, up),
-              ((lit< tt, lit≤ tt), tt, ((lit< tt, lit≤ tt), e, ((lit< tt, lit≤ tt), (refl, e, refl, h.words a inside_area), ((lit< tt, lit≤ tt), tt, tt)))),
-            ) s
+            (g.0, (g.1.0, (g.1.1.0, (g.1.1.1.0, (g.1.1.1.1.0, tt))))) ((lt, top, way, up), (tt, (e, ((refl, e, refl, h.words a inside_area), (tt, tt))))) s
             (λ q u. done Quiet code told.output u)
 
         cases : (b : Bool) → is_below (word_at memory a) area ≡ b
@@ -309,7 +301,7 @@ module _ (finds : Finds) (laws : WordLaws) (Quiet : ℕ → Type 0) (code : List
             more Quiet code told.output finds u (library 194 (lit< tt)) refl (passes_if finds 3 0x83 g.0 (below (unsigned (word_at memory a)) area lower) u) (λ q u.
             straight Quiet code told.output finds (Double 3 ∷ Load 1 (Cell (places.Plain 7) k x) ∷ Push 1 n ∷ []) {n = 1} (quiet 201 (lit≤ tt)) refl
             (g.1.0, (g.1.1.0, (g.1.1.1.0, tt)))
-            ((lit< tt, lit≤ tt), half, ((lit< tt, lit≤ tt), (refl, k_low, there, h.words k in_area), ((lit< tt, lit≤ tt), (lt, top), tt))) u (λ q u.
+            (half, ((refl, k_low, there, h.words k in_area), ((lt, top), tt))) u (λ q u.
             last Quiet code told.output finds u (library 201 (lit< tt)) refl (record {
               cx = x;
               dx = line;
@@ -361,7 +353,7 @@ module _ (finds : Finds) (laws : WordLaws) (Quiet : ℕ → Type 0) (code : List
     on_with_it : {ax cx dx bx : ℕ} {f : Flags} {p : Processor} → There 231 ax cx dx bx (2 * suc (suc n)) back f p → Leads Quiet code told.output 2 p (Past false)
     on_with_it {ax} {cx} {dx} {bx} {f} s =
         let g = (exhausted_stands code stands).1.1.1.1.1.1.1.1.1.1.1.1.1.1 in
-        straight Quiet code told.output finds (SumShort 6 3 ∷ []) {n = 1} (quiet 234 (lit≤ tt)) refl (g.0, tt) ((lit< tt, lit≤ tt), tt, tt) s (λ q u.
+        straight Quiet code told.output finds (SumShort 6 3 ∷ []) {n = 1} (quiet 234 (lit≤ tt)) refl (g.0, tt) (tt, tt) s (λ q u.
         last Quiet code told.output finds u (library 234 (lit< tt)) refl
         (record { ax = ax; cx = cx; dx = dx; bx = bx; si = word_sum back 3; flags = _; is = acts.jump_to finds u 6 (back + 3) g.1.0 refl; answers = tt }))
 
@@ -395,7 +387,7 @@ module _ (finds : Finds) (laws : WordLaws) (Quiet : ℕ → Type 0) (code : List
         (more Quiet code told.output finds s (library 219 (lit< tt)) refl (passes_if finds 4 10 g.0 (not_equal w 0 lt (lit< tt) some) s) (λ q u.
         straight Quiet code told.output finds (One 1 (Register 2) ∷ One 3 (Register 2) ∷ Comparison 1 (Register 3) ∷ []) {n = 0} (quiet 227 (lit≤ tt)) refl
         (g.1.0, (g.1.1.0, (g.1.1.1.0, tt)))
-        ((lit< tt, lit≤ tt), tt, ((lit< tt, lit≤ tt), tt, ((lit< tt, lit≤ tt), tt, tt))) u (λ q u. done Quiet code told.output u)))
+        (tt, (tt, (tt, tt))) u (λ q u. done Quiet code told.output u)))
         (λ q u. by_order past {cx = bit_xor (unsigned x) sign} {bx = bit_xor (unsigned (word_at memory (a + 2))) sign} is u)
 
     abbrev Loaded : ℤ → Processor → Type 0
@@ -449,25 +441,5 @@ module _ (finds : Finds) (laws : WordLaws) (Quiet : ℕ → Type 0) (code : List
         (Pop 6 n back (2 * suc n) ∷ Load 3 (Register 0) ∷ Double 3 ∷ Pop 1 (suc n) (unsigned x) (2 * suc (suc n))
         ∷ Load 0 (Cell (places.Near 7 2) (a + 1) (unsigned step)) ∷ Load 3 (Cell (places.Near 7 4) (a + 2) (unsigned (word_at memory (a + 2)))) ∷ Sign ∷ ComparisonNumber 0
         ∷ []) {n = 0} (quiet 219 (lit≤ tt)) refl
-        (g.0, (g.1.0, (g.1.1.0, (g.1.1.1.0, (g.1.1.1.1.0, (g.1.1.1.1.1.0, (g.1.1.1.1.1.1.0, (g.1.1.1.1.1.1.1.0, tt)))))))) (
-          (lit< tt, lit≤ tt),
-          (n0, top0, way, up0),
-          (
-            (lit< tt, lit≤ tt),
-            tt,
-            (
-              (lit< tt, lit≤ tt),
-              e0,
-              (
-                (lit< tt, lit≤ tt),
-                (n1, top1, value, up1),
-                (
-                  (lit< tt, lit≤ tt),
-                  (refl, e1, t1, h.words (a + 1) in1),
-                  ((lit< tt, lit≤ tt), (refl, e2, t2, h.words (a + 2) small), ((lit< tt, lit≤ tt), tt, ((lit< tt, lit≤ tt), tt, tt))),
-                ),
-              ),
-            ),
-          ),
-        ) s (λ q u. done Quiet code told.output u))
+        (g.0, (g.1.0, (g.1.1.0, (g.1.1.1.0, (g.1.1.1.1.0, (g.1.1.1.1.1.0, (g.1.1.1.1.1.1.0, (g.1.1.1.1.1.1.1.0, tt)))))))) ((n0, top0, way, up0), (tt, (e0, ((n1, top1, value, up1), ((refl, e1, t1, h.words (a + 1) in1), ((refl, e2, t2, h.words (a + 2) small), (tt, (tt, tt)))))))) s (λ q u. done Quiet code told.output u))
         (λ q u. by_sign step (fits_there (a + 1) in1 h) u)

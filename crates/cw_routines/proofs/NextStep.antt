@@ -127,7 +127,7 @@ module _ (finds : Finds) (laws : WordLaws) (Quiet : ℕ → Type 0) (code : List
         let e : a < 32768 = below_half h (omega arith) in
         straight Quiet code told.output finds (Load 6 (Cell (places.Plain 7) a (unsigned (variable memory))) ∷ Comparison 6 (Register 7) ∷ []) {n = 0}
         (quiet (at + 2 + 2) (omega arith)) refl (g.0, (g.1.0, tt))
-        ((lit< tt, lit≤ tt), (refl, e, refl, h.words a (omega arith)), ((lit< tt, lit≤ tt), tt, tt)) s (λ q u. done Quiet code told.output u)
+        ((refl, e, refl, h.words a (omega arith)), (tt, tt)) s (λ q u. done Quiet code told.output u)
 
     -- outside the area
     outside_stops : (at by : ℕ) → HasAll code at (addressed by) → at + 6 ≤ 438 → (at + 2 + 2 + 2 + sign_extended by) % 65536 ≡ 416
@@ -181,7 +181,7 @@ module _ (finds : Finds) (laws : WordLaws) (Quiet : ℕ → Type 0) (code : List
         (more Quiet code told.output finds s (library 402 (lit< tt)) refl (jumps_if finds 8 6 g.0 (tested_sign (unsigned (negsuc m)) f ∙ high) s) (λ q u.
         straight Quiet code told.output finds (Load 0 (Cell (places.Near 7 4) (a + 2) (unsigned l)) ∷ Comparison 0 (Register 1) ∷ []) {n = 1} (quiet 415 (lit≤ tt)) refl
         (g.1.1.1.1.0, (g.1.1.1.1.1.0, tt))
-        ((lit< tt, lit≤ tt), lf, ((lit< tt, lit≤ tt), tt, tt)) u (λ q u.
+        (lf, (tt, tt)) u (λ q u.
         returned (not (int_lt x l)) w (lit< tt) g.1.1.1.1.1.1.0 (compared laws l x (fits 2 (lit≤ tt) h) (fits_there k lt h) ∙ not_greater l x) h u)))
     turns_by (pos zero) k f w h lt fs s =
         let g = (turned_stands code stands).1.1.1.1.1.1.1 in
@@ -203,7 +203,7 @@ module _ (finds : Finds) (laws : WordLaws) (Quiet : ℕ → Type 0) (code : List
         (more Quiet code told.output finds s (library 402 (lit< tt)) refl (passes_if finds 8 6 g.0 (tested_sign (unsigned (pos (suc m))) f ∙ not_high) s) (λ q u.
         more Quiet code told.output finds u (library 404 (lit< tt)) refl (passes_if finds 4 3 g.1.0 (tested_zero (unsigned (pos (suc m))) f ∙ some) u) (λ q u.
         straight Quiet code told.output finds (Comparison 1 (Cell (places.Near 7 4) (a + 2) (unsigned l)) ∷ []) {n = 1} (quiet 409 (lit≤ tt)) refl (g.1.1.0, tt)
-        ((lit< tt, lit≤ tt), lf, tt) u (λ q u.
+        (lf, tt) u (λ q u.
         returned (not (int_lt l x)) w (lit< tt) g.1.1.1.0 (compared laws x l (fits_there k lt h) (fits 2 (lit≤ tt) h) ∙ not_greater x l) h u))))
 
     -- behind the comparison of the address
@@ -224,7 +224,7 @@ module _ (finds : Finds) (laws : WordLaws) (Quiet : ℕ → Type 0) (code : List
         (straight Quiet code told.output finds
         (Double 6 ∷ Load 1 (Cell (places.Plain 4) k (unsigned x)) ∷ Load 0 (Cell (places.Near 7 2) (a + 1) (unsigned step)) ∷ Either 0 (Register 0) ∷ []) {n = 0}
         (quiet 402 (lit≤ tt)) refl (g.0, (g.1.0, (g.1.1.0, (g.1.1.1.0, tt))))
-        ((lit< tt, lit≤ tt), half, ((lit< tt, lit≤ tt), (refl, k_low, there, h.words k lt), ((lit< tt, lit≤ tt), sf, ((lit< tt, lit≤ tt), tt, tt)))) s
+        (half, ((refl, k_low, there, h.words k lt), (sf, (tt, tt)))) s
         (λ q u. done Quiet code told.output u))
         (λ q u. turns_by step k f w h lt (fits 1 (lit≤ tt) h) u)
 
@@ -277,7 +277,7 @@ module _ (finds : Finds) (laws : WordLaws) (Quiet : ℕ → Type 0) (code : List
             straight Quiet code told.output finds
             (Load 0 (Cell (places.Plain 4) k (unsigned (word_at w.memory k))) ∷ Sum 0 (Cell (places.Near 7 2) (a + 1) (unsigned (step_of w.memory))) ∷ []) {n = 0}
             (quiet 383 (lit≤ tt)) refl (g.0, (g.1.0, tt))
-            ((lit< tt, lit≤ tt), (refl, k_low, there, h.words k lt), ((lit< tt, lit≤ tt), sf, tt)) s (λ q u. done Quiet code told.output u)
+            ((refl, k_low, there, h.words k lt), (sf, tt)) s (λ q u. done Quiet code told.output u)
 
         jumps : (b : Bool) → fits_word (sum w.memory k) ≡ b → meets (added (word_at w.memory k) (step_of w.memory)) 0 ≡ not b
         jumps b is = let fx = fits_there k lt h in sum_overflows laws (word_at w.memory k) (step_of w.memory) fx fx (fits 1 (lit≤ tt) h) ∙ ap not is
@@ -291,7 +291,7 @@ module _ (finds : Finds) (laws : WordLaws) (Quiet : ℕ → Type 0) (code : List
             both Quiet code told.output 2 2 sums (λ q u.
             more Quiet code told.output finds u (library 383 (lit< tt)) refl (passes_if finds 0 0x23 g.0 (jumps true is) u) (λ q u.
             straight Quiet code told.output finds (Store (places.Plain 4) 0 k ∷ []) {n = 0} (quiet 387 (lit≤ tt)) refl (g.1.0, tt)
-            ((lit< tt, lit≤ tt), (refl, k_low, there), tt) (with_ax value u) (λ q u. done Quiet code told.output u)))
+            ((refl, k_low, there), tt) (with_ax value u) (λ q u. done Quiet code told.output u)))
 
         cases : (b : Bool) → fits_word (sum w.memory k) ≡ b → Within Quiet code told.output (4 + bound) p (On (Summed b k w))
         cases false is =
@@ -366,7 +366,7 @@ module _ (finds : Finds) (laws : WordLaws) (Quiet : ℕ → Type 0) (code : List
         sums =
             let g = (stepped_stands code stands).1.1.1.1.1.1.1.1.1 in
             straight Quiet code told.output finds (Sum 0 (Cell (places.Plain 4) k (unsigned (word_at w.memory k))) ∷ []) {n = 0} (quiet 365 (lit≤ tt)) refl (g.0, tt)
-            ((lit< tt, lit≤ tt), (refl, k_low, there, h.words k lt), tt) s (λ q u. done Quiet code told.output u)
+            ((refl, k_low, there, h.words k lt), tt) s (λ q u. done Quiet code told.output u)
 
         jumps : (b : Bool) → fits_word (sum w.memory k) ≡ b → meets (added (step_of w.memory) (word_at w.memory k)) 0 ≡ not b
         jumps b is = sum_overflows laws (step_of w.memory) (word_at w.memory k) fs fs fx ∙ ap not (ap fits_word same_sum ∙ is)
@@ -386,7 +386,7 @@ module _ (finds : Finds) (laws : WordLaws) (Quiet : ℕ → Type 0) (code : List
             straight Quiet code told.output finds
             (Store (places.Plain 4) 0 k ∷ Comparison 0 (Cell (places.Near 7 4) (a + 2) (unsigned (limit (summed k w).memory))) ∷ []) {n = 1}
             (quiet 372 (lit≤ tt)) refl (g.1.0, (g.1.1.0, tt))
-            ((lit< tt, lit≤ tt), (refl, k_low, there), ((lit< tt, lit≤ tt), lf, tt)) (with_ax value u) (λ q u.
+            ((refl, k_low, there), (lf, tt)) (with_ax value u) (λ q u.
             onward Quiet code told.output (λ q t. subst (λ o. On o q) (turn_is k w in_memory other named is_in up) t)
             (returned (not (int_lt (limit (summed k w).memory) (sum w.memory k))) (summed k w) (lit< tt) g.1.1.1.0 order h' u))))
 
@@ -457,7 +457,7 @@ module _ (finds : Finds) (laws : WordLaws) (Quiet : ℕ → Type 0) (code : List
         (more Quiet code told.output finds s (library 354 (lit< tt)) refl (passes_if finds 4 0x16 t.0 (not_equal (2 * k) (2 * a) e1 e2 e3) s) (λ q u.
         straight Quiet code told.output finds (Load 0 (Cell (places.Near 7 2) (a + 1) (unsigned step)) ∷ Either 0 (Register 0) ∷ []) {n = 0} (quiet 361 (lit≤ tt)) refl
         (t.1.0, (t.1.1.0, tt))
-        ((lit< tt, lit≤ tt), sf, ((lit< tt, lit≤ tt), tt, tt)) u (λ q u. done Quiet code told.output u)))
+        (sf, (tt, tt)) u (λ q u. done Quiet code told.output u)))
         (λ q u. by_sign k lt f w h (λ e. other (sym e)) named is_in (with_ax (or_self y) u))
 
     -- the first instructions of a step
@@ -482,7 +482,7 @@ module _ (finds : Finds) (laws : WordLaws) (Quiet : ℕ → Type 0) (code : List
         afterwards Quiet code told.output {T = λ q. Here 354 ax cx (2 * y) (difference_flags 32768 (2 * y) (2 * a) false) cells q} 5 21 26 (lit≤ tt)
         (both Quiet code told.output 3 2 (inside_passes 344 0x42 stepped_test (lit≤ tt) h is s) (λ q u.
         straight Quiet code told.output finds (Double 6 ∷ Comparison 6 (Register 3) ∷ []) {n = 0} (quiet 354 (lit≤ tt)) refl (t.0, (t.1.0, tt))
-        ((lit< tt, lit≤ tt), half, ((lit< tt, lit≤ tt), tt, tt)) u (λ q u. done Quiet code told.output u)))
+        (half, (tt, tt)) u (λ q u. done Quiet code told.output u)))
         (λ q u. by_place k (cases_eq k a) in_area w h refl is (subst (λ m. Here 354 ax cx m (difference_flags 32768 m (2 * a) false) cells q) twice u))
 
     -- ---- the number of the element
@@ -507,7 +507,7 @@ module _ (finds : Finds) (laws : WordLaws) (Quiet : ℕ → Type 0) (code : List
             let t = next_step_stands code stands in
             let nf = field 3 (lit≤ tt) h in
             straight Quiet code told.output finds (ComparisonShort (Cell (places.Near 7 6) (a + 3) (unsigned (word_at w.memory (a + 3)))) 1 ∷ []) {n = 0}
-            (quiet 342 (lit≤ tt)) refl (t.0, tt) ((lit< tt, lit≤ tt), nf, tt) s (λ q u. done Quiet code told.output u)
+            (quiet 342 (lit≤ tt)) refl (t.0, tt) (nf, tt) s (λ q u. done Quiet code told.output u)
 
         cases : (b : Bool) → nat_eq (number_of (word_at w.memory (a + 3))) 1 ≡ b → Within Quiet code told.output 28 p (On (stepped_if b area mark a w))
         cases true is =
@@ -527,5 +527,5 @@ module _ (finds : Finds) (laws : WordLaws) (Quiet : ℕ → Type 0) (code : List
             (both Quiet code told.output 1 4 first (λ q u.
             more Quiet code told.output finds u (library 342 (lit< tt)) refl (jumps_if finds 5 0x1D t.0 other u) (λ q u.
             straight Quiet code told.output finds (LowByte 1 ∷ OrLow ∷ []) {n = 1} (quiet 377 (lit≤ tt)) refl (g.0, (g.1.0, tt))
-            ((lit< tt, lit≤ tt), tt, ((lit< tt, lit≤ tt), tt, tt)) u (λ q u.
+            (tt, (tt, tt)) u (λ q u.
             returned false w (lit< tt) g.1.1.0 (never_at_most ax (difference_flags 32768 (unsigned (word_at w.memory (a + 3))) 1 false)) h u))))

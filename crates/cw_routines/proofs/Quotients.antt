@@ -100,7 +100,7 @@ module _ (finds : Finds) (laws : NumberLaws) (Quiet : ℕ → Type 0) (code : Li
     too_large z ax cx dx bx si f s =
         let h = too_large_stands code stands in
         straight Quiet code told.output finds (LowByte 128 ∷ AddLow ∷ []) {n = 1} (quiet 265 (lit≤ tt)) refl (h.0, (h.1.0, tt))
-        ((lit< tt, lit≤ tt), tt, ((lit< tt, lit≤ tt), tt, tt)) s (λ q u.
+        (tt, (tt, tt)) s (λ q u.
         returned (Fitting false z) 265 _ cx dx bx si _ (lit< tt) h.1.1.0 (twice_overflows ax) u)
 
     -- ---- products
@@ -188,35 +188,7 @@ module _ (finds : Finds) (laws : NumberLaws) (Quiet : ℕ → Type 0) (code : Li
                 ),
               ),
             ),
-          ) (
-            (lit< tt, lit≤ tt),
-            tt,
-            (
-              (lit< tt, lit≤ tt),
-              tt,
-              (
-                (lit< tt, lit≤ tt),
-                tt,
-                (
-                  (lit< tt, lit≤ tt),
-                  high_fits,
-                  (
-                    (lit< tt, lit≤ tt),
-                    tt,
-                    (
-                      (lit< tt, lit≤ tt),
-                      tt,
-                      (
-                        (lit< tt, lit≤ tt),
-                        high_fits,
-                        ((lit< tt, lit≤ tt), tt, ((lit< tt, lit≤ tt), tt, ((lit< tt, lit≤ tt), tt, ((lit< tt, lit≤ tt), tt, tt)))),
-                      ),
-                    ),
-                  ),
-                ),
-              ),
-            ),
-          ) s (λ q u.
+          ) (tt, (tt, (tt, (high_fits, (tt, (tt, (high_fits, (tt, (tt, (tt, (tt, tt))))))))))) s (λ q u.
           done Quiet code told.output
           (subst (λ i. Here 258 (lower_by i (16 - k)) (word_sum (word_difference 0 k) 16) (sign_of (lower_by i (16 - k))) (word_down_signed H i) si
           (difference_flags 32768 (sign_of (lower_by i (16 - k))) (word_down_signed H i) false) q) first
@@ -294,11 +266,11 @@ module _ (finds : Finds) (laws : NumberLaws) (Quiet : ℕ → Type 0) (code : Li
       divided cx f lt s =
           let h = quotient_stands code stands in
           let g = h.1.1 in
-          straight Quiet code told.output finds (Comparison 2 (Register 3) ∷ []) {n = 5} (quiet 318 (lit≤ tt)) refl (h.0, tt) ((lit< tt, lit≤ tt), tt, tt) s (λ q u.
+          straight Quiet code told.output finds (Comparison 2 (Register 3) ∷ []) {n = 5} (quiet 318 (lit≤ tt)) refl (h.0, tt) (tt, tt) s (λ q u.
           more Quiet code told.output finds u (library 318 (lit< tt)) refl (passes_if finds 3 0xC5 h.1.0 (below high d lt) u) (λ q u.
           straight Quiet code told.output finds (Quotient 3 ∷ Number 2 32768 ∷ Difference 2 (Register 6) ∷ Comparison 0 (Register 2) ∷ []) {n = 0} (quiet 329 (lit≤ tt)) refl
           (g.0, (g.1.0, (g.1.1.0, (g.1.1.1.0, tt))))
-          ((lit< tt, lit≤ tt), (some, divides_when lt), ((lit< tt, lit≤ tt), tt, ((lit< tt, lit≤ tt), tt, ((lit< tt, lit≤ tt), tt, tt)))) u (λ q u. done Quiet code told.output u)))
+          ((some, divides_when lt), (tt, (tt, (tt, tt)))) u (λ q u. done Quiet code told.output u)))
 
       end_comes : (b : Bool) → fits_word number ≡ b → (cx : ℕ) (f : Flags) {p : Processor} → Here 316 low cx high d (mask negative) f p
           → Within Quiet code told.output 11 p (Answer (Fitting b number))
@@ -316,7 +288,7 @@ module _ (finds : Finds) (laws : NumberLaws) (Quiet : ℕ → Type 0) (code : Li
           more Quiet code told.output finds u (library 329 (lit< tt)) refl (passes_if finds 3 0xBA g.0 (below result T under) u) (λ q u.
           straight Quiet code told.output finds (One 0 (Register 6) ∷ Difference 0 (Register 6) ∷ Either 0 (Register 0) ∷ []) {n = 1} (quiet 337 (lit≤ tt)) refl
           (g.1.0, (g.1.1.0, (g.1.1.1.0, tt)))
-          ((lit< tt, lit≤ tt), tt, ((lit< tt, lit≤ tt), tt, ((lit< tt, lit≤ tt), tt, tt))) u (λ q u.
+          (tt, (tt, (tt, tt))) u (λ q u.
           returned (Fitting true number) 337 (bit_or w w) cx T d S _ (lit< tt) g.1.1.1.1.0 (or_self w ∙ number_is is, refl) u))))
       end_comes false is cx f {p} s =
           let h = quotient_stands code stands in
@@ -333,7 +305,7 @@ module _ (finds : Finds) (laws : NumberLaws) (Quiet : ℕ → Type 0) (code : Li
                 too_large number result cx T d S (difference_flags 32768 result T false) u)))
             | inr above ↦
                 within Quiet code told.output 5 11 (lit≤ tt)
-                (straight Quiet code told.output finds (Comparison 2 (Register 3) ∷ []) {n = 4} (quiet 318 (lit≤ tt)) refl (h.0, tt) ((lit< tt, lit≤ tt), tt, tt) s (λ q u.
+                (straight Quiet code told.output finds (Comparison 2 (Register 3) ∷ []) {n = 4} (quiet 318 (lit≤ tt)) refl (h.0, tt) (tt, tt) s (λ q u.
                 more Quiet code told.output finds u (library 318 (lit< tt)) refl (to_place {to = 261} refl (jumps_if finds 3 0xC5 h.1.0 (not_below high d above) u)) (λ q u.
                 too_large number low cx high d S (difference_flags 32768 high d false) u)))
           ]
@@ -371,35 +343,7 @@ module _ (finds : Finds) (laws : NumberLaws) (Quiet : ℕ → Type 0) (code : Li
           (Sign ∷ Load 6 (Register 2) ∷ One 0 (Register 2) ∷ Difference 0 (Register 2) ∷ Exchange 3 ∷ Sign ∷ One 6 (Register 2) ∷ One 0 (Register 2) ∷ Difference 0 (Register 2)
           ∷ Exchange 3 ∷ []) {n = 0}
           (λ i lo hi. silent i lo (let hi' : i < at + 1 + 2 + 2 + 2 + 1 + 1 + 2 + 2 + 2 + 1 = hi in omega arith)) refl
-          (h.0, (h.1.0, (h.1.1.0, (h.1.1.1.0, (h.1.1.1.1.0, (h.1.1.1.1.1.0, (h.1.1.1.1.1.1.0, (h.1.1.1.1.1.1.1.0, (h.1.1.1.1.1.1.1.1.0, (h.1.1.1.1.1.1.1.1.1.0, tt)))))))))) (
-            (lit< tt, lit≤ tt),
-            tt,
-            (
-              (lit< tt, lit≤ tt),
-              tt,
-              (
-                (lit< tt, lit≤ tt),
-                tt,
-                (
-                  (lit< tt, lit≤ tt),
-                  tt,
-                  (
-                    (lit< tt, lit≤ tt),
-                    tt,
-                    (
-                      (lit< tt, lit≤ tt),
-                      tt,
-                      (
-                        (lit< tt, lit≤ tt),
-                        tt,
-                        ((lit< tt, lit≤ tt), tt, ((lit< tt, lit≤ tt), tt, ((lit< tt, lit≤ tt), tt, tt))),
-                      ),
-                    ),
-                  ),
-                ),
-              ),
-            ),
-          ) s (λ q u.
+          (h.0, (h.1.0, (h.1.1.0, (h.1.1.1.0, (h.1.1.1.1.0, (h.1.1.1.1.1.0, (h.1.1.1.1.1.1.0, (h.1.1.1.1.1.1.1.0, (h.1.1.1.1.1.1.1.1.0, (h.1.1.1.1.1.1.1.1.1.0, tt)))))))))) (tt, (tt, (tt, (tt, (tt, (tt, (tt, (tt, (tt, (tt, tt)))))))))) s (λ q u.
           done Quiet code told.output (_, remade there (magnitude_made a a_fits) (magnitude_made d d_fits) (signs_made a d) u))
 
       pub down_comes : (j k : ℕ) → k ≡ suc j → k ≤ 15 → (b : Bool) → fits_word (scaled_quotient x y (negsuc j)) ≡ b → {dx si : ℕ} {f : Flags} {p : Processor}
@@ -424,7 +368,7 @@ module _ (finds : Finds) (laws : NumberLaws) (Quiet : ℕ → Type 0) (code : Li
           (h.0, (h.1.0, (h.1.1.0, (h.1.1.1.0, (h.1.1.1.1.0, (h.1.1.1.1.1.0, (h.1.1.1.1.1.1.0, (h.1.1.1.1.1.1.1.0, (h.1.1.1.1.1.1.1.1.0, (h.1.1.1.1.1.1.1.1.1.0, tt)))))))))) s)
           (λ q u.
           straight Quiet code told.output finds (Down 0 ∷ Number 2 0 ∷ []) {n = 1} (quiet 287 (lit≤ tt)) refl (g.0, (g.1.0, tt))
-          ((lit< tt, lit≤ tt), tt, ((lit< tt, lit≤ tt), tt, tt)) u.1 (λ q u.
+          (tt, (tt, tt)) u.1 (λ q u.
           more Quiet code told.output finds u (library 287 (lit< tt)) refl (to_place {to = 316} refl (acts.short finds u 0x1B g.1.1.0)) (λ q u.
           done Quiet code told.output (_, with_low (ap (word_down M) first) u)))))
           (λ q u. end_comes differ 0 low D some ll b (ap fits_word value ∙ is) k u.0 u.1))
@@ -455,6 +399,6 @@ module _ (finds : Finds) (laws : NumberLaws) (Quiet : ℕ → Type 0) (code : Li
           (λ q u.
           straight Quiet code told.output finds (Load 2 (Register 0) ∷ Up 0 ∷ Negative 1 ∷ SumShort 1 16 ∷ Down 2 ∷ []) {n = 0} (quiet 316 (lit≤ tt)) refl
           (g.0, (g.1.0, (g.1.1.0, (g.1.1.1.0, (g.1.1.1.1.0, tt)))))
-          ((lit< tt, lit≤ tt), tt, ((lit< tt, lit≤ tt), ml, ((lit< tt, lit≤ tt), tt, ((lit< tt, lit≤ tt), tt, ((lit< tt, lit≤ tt), tt, tt))))) u.1 (λ q u.
+          (tt, (ml, (tt, (tt, (tt, tt))))) u.1 (λ q u.
           done Quiet code told.output (_, with_pair (ap (word_up M) first) (ap (word_down M) second) u))))
           (λ q u. end_comes differ high low D some ll b (ap fits_word value ∙ is) turned u.0 u.1))

@@ -72,11 +72,11 @@ module _ (finds : Finds) (Quiet : ℕ → Type 0) (code : List ℕ) (stands : St
       let whole : segment % 256 ≡ segment = byte_whole segment t.few in
       more Quiet code o finds s (library 55 (lit< tt)) refl (acts.out finds s 0x13 h.0) (λ q u.
       straight Quiet code o finds (Load 0 (Slot (places.Near 6 0xFE) r segment) ∷ []) {n = 6} (run 60 (lit≤ tt)) o1 (h.1.0, tt)
-      ((lit< tt, lit≤ tt), (refl, t.low, t.there, t.number), tt) u (λ q u.
+      ((refl, t.low, t.there, t.number), tt) u (λ q u.
       more Quiet code o finds u (library 60 (lit< tt)) o1 (acts.out finds u 0x14 h.1.1.0) (λ q u.
-      straight Quiet code o finds (Load 0 (Register 2) ∷ []) {n = 4} (run 64 (lit≤ tt)) o2 (h.1.1.1.0, tt) ((lit< tt, lit≤ tt), tt, tt) u (λ q u.
+      straight Quiet code o finds (Load 0 (Register 2) ∷ []) {n = 4} (run 64 (lit≤ tt)) o2 (h.1.1.1.0, tt) (tt, tt) u (λ q u.
       more Quiet code o finds u (library 64 (lit< tt)) o2 (acts.out finds u 0x15 h.1.1.1.1.0) (λ q u.
-      straight Quiet code o finds (LowFromHigh ∷ []) {n = 2} (run 68 (lit≤ tt)) o3 (h.1.1.1.1.1.0, tt) ((lit< tt, lit≤ tt), tt, tt) u (λ q u.
+      straight Quiet code o finds (LowFromHigh ∷ []) {n = 2} (run 68 (lit≤ tt)) o3 (h.1.1.1.1.1.0, tt) (tt, tt) u (λ q u.
       more Quiet code o finds u (library 68 (lit< tt)) o3 (acts.out finds u 0x16 h.1.1.1.1.1.1.0) (λ q u.
       let i = here i86.Hlt (lit< tt) h.1.1.1.1.1.1.1.0 u in
       last Quiet code o finds u (library 70 (lit< tt)) o4 (record {
@@ -91,7 +91,7 @@ module _ (finds : Finds) (Quiet : ℕ → Type 0) (code : List ℕ) (stands : St
       → At code place (view ax cx line bx sp bp si di cells stack input told) f p → Leads Quiet code told.output 10 p (Over told.output kind segment line)
   told_stops kind place by r segment {ax} {told = told} h low there t small s =
       let e : (place + 2) % 65536 ≡ place + 2 = omega arith in
-      straight Quiet code told.output finds (LowByte (stop_number kind) ∷ []) {n = 9} (run (place + 2) (omega arith)) refl (h.0, tt) ((lit< tt, lit≤ tt), tt, tt) s (λ q u.
+      straight Quiet code told.output finds (LowByte (stop_number kind) ∷ []) {n = 9} (run (place + 2) (omega arith)) refl (h.0, tt) (tt, tt) s (λ q u.
       more Quiet code told.output finds u (subst Quiet (sym e) (library (place + 2) (omega arith))) refl (to_place {to = 55} there (acts.short finds u by h.1.0)) (λ q u.
       tells kind r segment (low_is ax (stop_number kind) (few_kinds kind)) t small u))
 
@@ -105,7 +105,7 @@ module _ (finds : Finds) (Quiet : ℕ → Type 0) (code : List ℕ) (stands : St
       let top : 2 * n ≡ 2 * n % 65536 = omega arith in
       straight Quiet code told.output finds (Pop 3 n place (2 * suc n % 65536) ∷ Load 2 (InCode (places.Plain 7) place line) ∷ []) {n = 8} (run 55 (lit≤ tt)) refl
       (h.0, (h.1.0, tt))
-      ((lit< tt, lit≤ tt), (lt, top, there, refl), ((lit< tt, lit≤ tt), (refl, word), tt)) s (λ q u.
+      ((lt, top, there, refl), ((refl, word), tt)) s (λ q u.
       tells kind r segment is t small u)
 
   -- the routine of a stop with the line behind its call
@@ -117,7 +117,7 @@ module _ (finds : Finds) (Quiet : ℕ → Type 0) (code : List ℕ) (stands : St
       → At code from (view ax cx dx bx (2 * n) bp si di cells stack input told) f p → Leads Quiet code told.output 12 p (Over told.output kind segment line)
   line_stops kind from ahead h low to_line place line n r segment {ax} {told = told} lt there word small t s =
       let e : (from + 2) % 65536 ≡ from + 2 = omega arith in
-      straight Quiet code told.output finds (LowByte (stop_number kind) ∷ []) {n = 11} (run (from + 2) (omega arith)) refl (h.0, tt) ((lit< tt, lit≤ tt), tt, tt) s (λ q u.
+      straight Quiet code told.output finds (LowByte (stop_number kind) ∷ []) {n = 11} (run (from + 2) (omega arith)) refl (h.0, tt) (tt, tt) s (λ q u.
       more Quiet code told.output finds u (subst Quiet (sym e) (library (from + 2) (omega arith))) refl (to_place {to = 51} to_line (acts.short finds u ahead h.1.0)) (λ q u.
       lines kind place line n r segment (low_is ax (stop_number kind) (few_kinds kind)) lt there word small t u))
 
@@ -134,7 +134,7 @@ module _ (finds : Finds) (Quiet : ℕ → Type 0) (code : List ℕ) (stands : St
       let e : (back + 5) % 65536 ≡ back + 5 = omega arith in
       straight Quiet code told.output finds (Pop 3 n back (2 * suc n % 65536) ∷ Load 2 (InCode (places.Near 7 5) (back + 5) line) ∷ []) {n = 9} (run 427 (lit≤ tt)) refl
       (h.0, (h.1.0, tt))
-      ((lit< tt, lit≤ tt), (lt, top, there, refl), ((lit< tt, lit≤ tt), (e, word), tt)) s (λ q u.
+      ((lt, top, there, refl), ((e, word), tt)) s (λ q u.
       more Quiet code told.output finds u (library 427 (lit< tt)) refl (to_place {to = 55} refl (acts.near finds u 65161 h.1.1.0)) (λ q u.
       tells kind r segment is t small u))
 
@@ -144,7 +144,7 @@ module _ (finds : Finds) (Quiet : ℕ → Type 0) (code : List ℕ) (stands : St
       → At code 416 (view ax cx dx bx (2 * n) bp si di cells stack input told) f p → Leads Quiet code told.output 13 p (Over told.output AddressRange segment line)
   step_address_stops back line n r segment {ax} {told = told} lt there word small t s =
       let h = step_address_stands code stands in
-      straight Quiet code told.output finds (LowByte 4 ∷ []) {n = 12} (run 418 (lit≤ tt)) refl (h.0, tt) ((lit< tt, lit≤ tt), tt, tt) s (λ q u.
+      straight Quiet code told.output finds (LowByte 4 ∷ []) {n = 12} (run 418 (lit≤ tt)) refl (h.0, tt) (tt, tt) s (λ q u.
       more Quiet code told.output finds u (library 418 (lit< tt)) refl (to_place {to = 422} refl (acts.short finds u 2 h.1.0)) (λ q u.
       step_lines AddressRange back line n r segment (low_is ax 4 (lit< tt)) lt there word small t u))
 
@@ -153,5 +153,5 @@ module _ (finds : Finds) (Quiet : ℕ → Type 0) (code : List ℕ) (stands : St
       → At code 420 (view ax cx dx bx (2 * n) bp si di cells stack input told) f p → Leads Quiet code told.output 12 p (Over told.output Overflow segment line)
   step_sum_stops back line n r segment {ax} {told = told} lt there word small t s =
       let h = step_sum_stands code stands in
-      straight Quiet code told.output finds (LowByte 1 ∷ []) {n = 11} (run 422 (lit≤ tt)) refl (h.0, tt) ((lit< tt, lit≤ tt), tt, tt) s (λ q u.
+      straight Quiet code told.output finds (LowByte 1 ∷ []) {n = 11} (run 422 (lit≤ tt)) refl (h.0, tt) (tt, tt) s (λ q u.
       step_lines Overflow back line n r segment (low_is ax 1 (lit< tt)) lt there word small t u)

@@ -20,7 +20,6 @@ use Rattle.cw_unit.specs.Configuration.{address_at}
 use Rattle.cw_unit.specs.Step.{after as source_after, addressing_of, compares_in, address_step}
 use Rattle.cw_order.specs.declared.order.Order.{Order}
 use Rattle.cw_order.specs.declared.order.Order.TheVariants as order
-use Rattle.cw_order.specs.Loading.{loaded_after}
 use Rattle.cw_order.specs.OrderCosts.{weight_of}
 use Rattle.cw_gen_expr.specs.Pieces.{plain, followed_by}
 use Rattle.cw_gen_expr.specs.ReferenceExpressions.{at_line, saved, item_order, item_span, table_orders, table_span, row_order, form_orders, rescale_orders, narrow, bounds_orders, expression_piece}
@@ -28,24 +27,13 @@ use Rattle.cw_gen_expr.specs.KnownValues.{all_inside}
 use Rattle.cw_gen_expr.specs.BuiltExpressions.{whole, built_value, built_reference, is_spot}
 use Rattle.cw_gen_expr.proofs.Layers.{indexed_layer, built_spot_layer, spot-built, reference-built, reference_size, reference-size, spot-size, spot_size_layer, expression_size}
 use Rattle.cw_carry.proofs.Expressions.Standing.{Stands, Made, saved_made, one_made}
-use Rattle.cw_carry.proofs.Expressions.Effects.{IsPossible, is_silent, all_silent, total_weight, through_all, loaded_through, TellsLine, OnLine}
+use Rattle.cw_carry.proofs.Expressions.Effects.{IsPossible, is_silent, all_silent, total_weight, through_all, loaded_through, OnLine}
 use Rattle.cw_carry.proofs.Expressions.Carried.{Ready, OperationFits, operation_orders, gives_word, takes_index}
 use Rattle.cw_carry.proofs.Expressions.Operations.{FormsOf, operation-runs, form-runs, behind_item}
 use Rattle.cw_carry.proofs.Expressions.Stepping.{Compiled, source, target, IsSane, work_size, silent}
-use Rattle.cw_carry.proofs.Expressions.Moments.{both, item_silent, item_light, item_loads, item_tells, IsLight, silent_and, Moment, here_in, layout, scope, has_words, code, marks, At, Leads_to, Close, at_close, close_to, past_save, Steps, next, run, Facts, becomes, done_by}
+use Rattle.cw_carry.proofs.Expressions.Moments.{both, light_order, item_silent, item_light, item_loads, item_tells, IsLight, silent_and, Moment, here_in, layout, scope, has_words, code, marks, At, Leads_to, Close, at_close, close_to, past_save, Steps, next, run, Facts, becomes, done_by}
 
 -- ---- operations
-
--- an order of its own
-single : (line : ℕ) (l m : Bool) (o : Order) → IsTrue (is_silent o) → 0 < weight_of o → weight_of o ≤ 159 → TellsLine line o → loaded_after o l ≡ Some m → IsLight line l m (o ∷ [])
-single line l m o h some le tells turn = record {
-  quiet = silent_and (is_silent o) true h refl;
-  light = (let z : weight_of o + 0 ≤ 159 = omega (arith, le) in z);
-  some = (let z : 0 < weight_of o + 0 = omega (arith, some) in z);
-  short = (let z : 1 ≤ 12 = omega arith in z);
-  at = (tells, tt);
-  turns = ap (λ x. through_all x []) turn;
-}
 
 module _ (c : Compiled) (t : Moment c) where
   operated : (op : Operation) (os : List Order) (line : ℕ) (k : Work) (q n : ℕ) (r : Bool) (w : Words) → operation_orders line op ≡ os → IsLight line true (gives_word op) os → OperationFits op r → Stands (code c t) q (operation_orders line op) n → Ready c.limits.area r w.operands → Leads_to c t n (gives_word op) false k → Facts c t (Do op line k) w → Steps c t (Do op line k) q true w
@@ -57,7 +45,7 @@ module _ (c : Compiled) (t : Moment c) where
 
   rescaled : (b : Bool) (from to line : ℕ) (k : Work) (q n : ℕ) (r : Bool) (w : Words) → (from == to) ≡ b → Stands (code c t) q (rescale_orders line from to) n → Ready c.limits.area r w.operands → Leads_to c t n true false k → Facts c t (Do (Rescale from to) line k) w → Steps c t (Do (Rescale from to) line k) q true w
   rescaled false from to line k q n r w is stands ready carried facts =
-      operated (Rescale from to) (order.Rescale from to line ∷ []) line k q n r w (ap (λ b. if b then [] else (order.Rescale from to line ∷ [])) is) (single line true true (order.Rescale from to line) refl (omega arith) (omega arith) refl refl) tt stands ready carried facts
+      operated (Rescale from to) (order.Rescale from to line ∷ []) line k q n r w (ap (λ b. if b then [] else (order.Rescale from to line ∷ [])) is) (light_order line true true (order.Rescale from to line) refl (omega arith) (omega arith) refl refl) tt stands ready carried facts
   rescaled true from to line k q n r w is stands ready carried facts = unchanged (perform c.limits.area (Rescale from to) w) refl
     where
       none : rescale_orders line from to ≡ []
@@ -82,35 +70,35 @@ module _ (c : Compiled) (t : Moment c) where
   pub operation : (op : Operation) (line : ℕ) (k : Work) (q n : ℕ) (r : Bool) (w : Words) → OperationFits op r → Stands (code c t) q (operation_orders line op) n → Ready c.limits.area r w.operands → Leads_to c t n (gives_word op) false k → Facts c t (Do op line k) w → Steps c t (Do op line k) q true w
   operation (Rescale from to) line k q n r w f stands ready carried facts = rescaled (from == to) from to line k q n r w refl stands ready carried facts
   operation (Fetch None) line k q n r w f stands ready carried facts =
-      operated (Fetch None) (order.Load ∷ []) line k q n r w refl (single line true true order.Load refl (omega arith) (omega arith) tt refl) f stands ready carried facts
+      operated (Fetch None) (order.Load ∷ []) line k q n r w refl (light_order line true true order.Load refl (omega arith) (omega arith) tt refl) f stands ready carried facts
   operation (Fetch (Some x)) line k q n r w f stands ready carried facts =
-      operated (Fetch (Some x)) (order.LoadPart x.t x.b (not x.unsigned) ∷ []) line k q n r w refl (single line true true (order.LoadPart x.t x.b (not x.unsigned)) refl (omega arith) (omega arith) tt refl) f stands ready carried facts
+      operated (Fetch (Some x)) (order.LoadPart x.t x.b (not x.unsigned) ∷ []) line k q n r w refl (light_order line true true (order.LoadPart x.t x.b (not x.unsigned)) refl (omega arith) (omega arith) tt refl) f stands ready carried facts
   operation (Store None) line k q n r w f stands ready carried facts =
-      operated (Store None) (order.Store ∷ []) line k q n r w refl (single line true false order.Store refl (omega arith) (omega arith) tt refl) f stands ready carried facts
+      operated (Store None) (order.Store ∷ []) line k q n r w refl (light_order line true false order.Store refl (omega arith) (omega arith) tt refl) f stands ready carried facts
   operation (Store (Some x)) line k q n r w f stands ready carried facts =
-      operated (Store (Some x)) (order.StorePart x.t x.b ∷ []) line k q n r w refl (single line true false (order.StorePart x.t x.b) refl (omega arith) (omega arith) tt refl) f stands ready carried facts
+      operated (Store (Some x)) (order.StorePart x.t x.b ∷ []) line k q n r w refl (light_order line true false (order.StorePart x.t x.b) refl (omega arith) (omega arith) tt refl) f stands ready carried facts
   operation (StoreBits y b) line k q n r w f stands ready carried facts =
-      operated (StoreBits y b) (order.StorePart y b ∷ []) line k q n r w refl (single line true false (order.StorePart y b) refl (omega arith) (omega arith) tt refl) f stands ready carried facts
+      operated (StoreBits y b) (order.StorePart y b ∷ []) line k q n r w refl (light_order line true false (order.StorePart y b) refl (omega arith) (omega arith) tt refl) f stands ready carried facts
   operation Add line k q n r w f stands ready carried facts =
-      operated Add (order.Add line ∷ []) line k q n r w refl (single line true true (order.Add line) refl (omega arith) (omega arith) refl refl) f stands ready carried facts
+      operated Add (order.Add line ∷ []) line k q n r w refl (light_order line true true (order.Add line) refl (omega arith) (omega arith) refl refl) f stands ready carried facts
   operation Subtract line k q n r w f stands ready carried facts =
-      operated Subtract (order.Sub line ∷ []) line k q n r w refl (single line true true (order.Sub line) refl (omega arith) (omega arith) refl refl) f stands ready carried facts
+      operated Subtract (order.Sub line ∷ []) line k q n r w refl (light_order line true true (order.Sub line) refl (omega arith) (omega arith) refl refl) f stands ready carried facts
   operation Negate line k q n r w f stands ready carried facts =
-      operated Negate (order.Neg line ∷ []) line k q n r w refl (single line true true (order.Neg line) refl (omega arith) (omega arith) refl refl) f stands ready carried facts
+      operated Negate (order.Neg line ∷ []) line k q n r w refl (light_order line true true (order.Neg line) refl (omega arith) (omega arith) refl refl) f stands ready carried facts
   operation (Multiply x) line k q n r w f stands ready carried facts =
-      operated (Multiply x) (order.Mul (narrow x) line ∷ []) line k q n r w refl (single line true true (order.Mul (narrow x) line) refl (omega arith) (omega arith) refl refl) f stands ready carried facts
+      operated (Multiply x) (order.Mul (narrow x) line ∷ []) line k q n r w refl (light_order line true true (order.Mul (narrow x) line) refl (omega arith) (omega arith) refl refl) f stands ready carried facts
   operation (Divide x) line k q n r w f stands ready carried facts =
-      operated (Divide x) (order.Div (narrow x) line ∷ []) line k q n r w refl (single line true true (order.Div (narrow x) line) refl (omega arith) (omega arith) refl refl) f stands ready carried facts
+      operated (Divide x) (order.Div (narrow x) line ∷ []) line k q n r w refl (light_order line true true (order.Div (narrow x) line) refl (omega arith) (omega arith) refl refl) f stands ready carried facts
   operation (Combine logic.Mask) line k q n r w f stands ready carried facts =
-      operated (Combine logic.Mask) (order.And ∷ []) line k q n r w refl (single line true true order.And refl (omega arith) (omega arith) tt refl) f stands ready carried facts
+      operated (Combine logic.Mask) (order.And ∷ []) line k q n r w refl (light_order line true true order.And refl (omega arith) (omega arith) tt refl) f stands ready carried facts
   operation (Combine logic.Union) line k q n r w f stands ready carried facts =
-      operated (Combine logic.Union) (order.Or ∷ []) line k q n r w refl (single line true true order.Or refl (omega arith) (omega arith) tt refl) f stands ready carried facts
+      operated (Combine logic.Union) (order.Or ∷ []) line k q n r w refl (light_order line true true order.Or refl (omega arith) (omega arith) tt refl) f stands ready carried facts
   operation (Combine logic.Differ) line k q n r w f stands ready carried facts =
-      operated (Combine logic.Differ) (order.Xor ∷ []) line k q n r w refl (single line true true order.Xor refl (omega arith) (omega arith) tt refl) f stands ready carried facts
+      operated (Combine logic.Differ) (order.Xor ∷ []) line k q n r w refl (light_order line true true order.Xor refl (omega arith) (omega arith) tt refl) f stands ready carried facts
   operation (Extract y b) line k q n r w f stands ready carried facts =
-      operated (Extract y b) (order.Take y b ∷ []) line k q n r w refl (single line true true (order.Take y b) refl (omega arith) (omega arith) tt refl) f stands ready carried facts
+      operated (Extract y b) (order.Take y b ∷ []) line k q n r w refl (light_order line true true (order.Take y b) refl (omega arith) (omega arith) tt refl) f stands ready carried facts
   operation (InBounds x y) line k q n r w f stands ready carried facts =
-      operated (InBounds x y) (order.InBounds x y line ∷ []) line k q n r w refl (single line true true (order.InBounds x y line) refl (omega arith) (omega arith) refl refl) f stands ready carried facts
+      operated (InBounds x y) (order.InBounds x y line ∷ []) line k q n r w refl (light_order line true true (order.InBounds x y line) refl (omega arith) (omega arith) refl refl) f stands ready carried facts
   operation _ line k q n r w f stands ready carried facts = absurd f
 
 -- ---- the orders of an address
@@ -153,28 +141,28 @@ module _ (y : Layout) (line : ℕ) where
       (let z : weight_of (item_order y i 0) + total_weight (o ∷ []) ≤ 150 = omega (arith, w.1, le) in z) (omega arith)
 
   row_light : (b : Bool) (lower second : ℤ) (width span : ℕ) → IsLight line true true (row_order b lower second width span line ∷ []) × (total_weight (row_order b lower second width span line ∷ []) ≤ 40)
-  row_light true lower second width span = (single line true true (order.ElementInside lower second width span) refl (omega arith) (omega arith) tt refl, omega arith)
-  row_light false lower second width span = (single line true true (order.ElementOfTwo lower second width line) refl (omega arith) (omega arith) refl refl, omega arith)
+  row_light true lower second width span = (light_order line true true (order.ElementInside lower second width span) refl (omega arith) (omega arith) tt refl, omega arith)
+  row_light false lower second width span = (light_order line true true (order.ElementOfTwo lower second width line) refl (omega arith) (omega arith) refl refl, omega arith)
 
   form_light : (compared : Bool) (x : Spot-F Arg Cond Expr Spot Ref) → IsLight line (takes_index x) true (form_orders y compared line x)
   form_light compared (layer.Direct i) = item_and true i [] refl (omega arith) (omega arith) tt refl
   form_light compared (layer.Through i) = item_and true i (order.Load ∷ order.InArea line ∷ []) refl (omega arith) (omega arith) (tt, (refl, tt)) refl
   form_light compared (layer.One i k h e) =
       let o = order.Element k (item_span y i) line in
-      based false i o (single line true true o refl (omega arith) (omega arith) refl refl) (omega arith)
+      based false i o (light_order line true true o refl (omega arith) (omega arith) refl refl) (omega arith)
   form_light compared (layer.Two i k1 h1 k2 h2 n e f) =
       let b = all_inside compared (item_span y i) k1 h1 k2 h2 n in
       let light = row_light b k1 k2 n (item_span y i) in
       based false i (row_order b k1 k2 n (item_span y i) line) light.0 light.1
   form_light compared (layer.ParamArray i e) =
       let o = order.Element (pos 0) 0 line in
-      based true i o (single line true true o refl (omega arith) (omega arith) refl refl) (omega arith)
+      based true i o (light_order line true true o refl (omega arith) (omega arith) refl refl) (omega arith)
   form_light compared (layer.Word i tb m e) =
       let o = order.Element (pos 0) (table_span y tb i) line in
-      based tb i o (single line true true o refl (omega arith) (omega arith) refl refl) (omega arith)
+      based tb i o (light_order line true true o refl (omega arith) (omega arith) refl refl) (omega arith)
   form_light compared (layer.Elem i tb n m k e) =
       let o = order.Entry n k (table_span y tb i) line in
-      based tb i o (single line true true o refl (omega arith) (omega arith) refl refl) (omega arith)
+      based tb i o (light_order line true true o refl (omega arith) (omega arith) refl refl) (omega arith)
   form_light compared (layer.Bare e) = record { quiet = refl; light = omega arith; some = omega arith; short = omega arith; at = (refl, tt); turns = refl }
 
 -- ---- an address that was formed is one of the area

@@ -27,19 +27,18 @@ use Rattle.cw_order.specs.OrderProgram.{defined_at, defined_in}
 use Rattle.cw_order.specs.OrderState.{OrderActivation, stack_words, control_in, control_at as order_control}
 use Rattle.cw_order.specs.OrderActions.{common_label, common_switch, common_procedure}
 use Rattle.cw_order.specs.OrderMachine.{go_on, unrefused}
-use Rattle.cw_order.specs.Loading.{loaded_after}
 use Rattle.cw_order.specs.OrderCosts.{weight_of}
 use Rattle.cw_gen_expr.specs.ReferenceExpressions.{at_line, control_place, item_order, expression_piece, reference_of, argument_piece}
 use Rattle.cw_gen_expr.specs.BuiltExpressions.{is_argument}
 use Rattle.cw_gen_expr.specs.UnitTables.{tables_of}
 use Rattle.cw_gen_expr.proofs.Layers.{argument_layer, argument-made, built_argument_layer, argument-built, argument_size, argument-size, argument_size_layer, expression_size, reference_size}
 use Rattle.cw_carry.proofs.Expressions.Standing.{Stands, Made, one_made}
-use Rattle.cw_carry.proofs.Expressions.Effects.{is_silent, through_all, TellsLine}
+use Rattle.cw_carry.proofs.Expressions.Effects.{is_silent, through_all}
 use Rattle.cw_carry.proofs.Expressions.Carried.{keep_orders, set_orders, after_call, who_of}
 use Rattle.cw_gen_expr.specs.ReferenceEntries.{parameters_of}
 use Rattle.cw_carry.proofs.Expressions.Operations.{plain_held, then_changed, behind_item, behind_load, keeps, sets}
 use Rattle.cw_carry.proofs.Expressions.Stepping.{Compiled, source, target, AllCalls, IsSane}
-use Rattle.cw_carry.proofs.Expressions.Moments.{IsLight, silent_and, item_light, item_silent, item_loads, item_tells, Moment, here_in, layout, scope, has_words, code, marks, Leads_to, Close, close_to, past_save, Steps, next, run, Facts, becomes, done_by, acts_once}
+use Rattle.cw_carry.proofs.Expressions.Moments.{IsLight, light_order, silent_and, item_light, item_silent, item_loads, item_tells, Moment, here_in, layout, scope, has_words, code, marks, Leads_to, Close, close_to, past_save, Steps, next, run, Facts, becomes, done_by, acts_once}
 use Rattle.cw_carry.proofs.Expressions.Addresses.{item_and, with_save}
 
 -- ---- what calls have in common
@@ -67,16 +66,6 @@ module _ (c : Compiled) where
     defined_is d =
         ap (λ v. defined_in v d) (slice_get-map (tables_of c.units) c.units (here_in c t) ∙ ap (option_map (tables_of c.units)) t.unit_is)
         ∙ sym (ap (λ v. definition_for (source c) v d) t.unit_is)
-
-    light_order : (line : ℕ) (l m : Bool) (o : Order) → IsTrue (is_silent o) → 0 < weight_of o → weight_of o ≤ 150 → TellsLine line o → loaded_after o l ≡ Some m → IsLight line l m (o ∷ [])
-    light_order line l m o h some le tells turn = record {
-      quiet = silent_and (is_silent o) true h refl;
-      light = (let z : weight_of o + 0 ≤ 159 = omega (arith, le) in z);
-      some = (let z : 0 < weight_of o + 0 = omega (arith, some) in z);
-      short = (let z : 1 ≤ 12 = omega arith in z);
-      at = (tells, tt);
-      turns = ap (λ x. through_all x []) turn;
-    }
 
     -- a control argument
     held_by : (now k : Work) (line q n : ℕ) (o : Order) (x : Option Control) (w : Words) → Stands (code c t) q (o ∷ []) n → IsLight line false false (o ∷ []) → Facts c t now w → next c t now w ≡ source_after (held x w) t.segment line now k t.acts w → ((y : Control) → x ≡ Some y → run c t (o ∷ []) w ≡ held (Some y) w) → ((r : Bool) → Close c t n false r k) → Steps c t now q false w

@@ -27,15 +27,15 @@ use Rattle.cw_gen_expr.specs.KnownValues.{known_rescaled, known_bits, known_logi
 use Rattle.cw_gen_expr.specs.ReferenceExpressions.{Scope, at_line, narrow, number_order, item_order, item_span, table_span, value_of, known_or, named_or, expression_piece, reference_of}
 use Rattle.cw_gen_expr.specs.BuiltExpressions.{whole, most_levels, built_reference, is_expression}
 use Rattle.cw_gen_expr.proofs.Layers.{value-made, computed_layer, known_layer, word_item, word_layer, indexed_layer, spot-made, reference-made, built_value_layer, value-built, built_spot_layer, expression_size, expression_size_layer, expression-size}
-use Rattle.cw_gen_expr.proofs.Scales.{operand-is, built-operand-is}
+use Rattle.cw_gen_expr.proofs.Scales.{operand-is}
 use Rattle.cw_order.specs.OrderCosts.{weight_of}
 use Rattle.cw_carry.proofs.Expressions.Standing.{Made}
 use Rattle.cw_carry.proofs.Expressions.Operations.{then_changed}
 use Rattle.cw_carry.proofs.Expressions.Carried.{Via}
 use Rattle.cw_carry.proofs.Expressions.Stepping.{Compiled, A, source}
-use Rattle.cw_carry.proofs.Expressions.Moments.{both, IsLight, Moment, scope, layout, has_words, code, marks, At, Leads_to, Comes, Goes, config, Facts, leaps_by, item_light, item_silent, item_loads, item_tells}
+use Rattle.cw_carry.proofs.Expressions.Moments.{both, IsLight, light_order, Moment, scope, layout, has_words, code, marks, At, Leads_to, Comes, Goes, config, Facts, leaps_by, item_light, item_silent, item_loads, item_tells}
 use Rattle.cw_carry.proofs.Expressions.Addresses.{built_spot, address_follows, addresses}
-use Rattle.cw_carry.proofs.Expressions.Values.{number-is, constant-is, narrowed, at_most, built_of, wide, evaluates, light_order, evaluation_follows}
+use Rattle.cw_carry.proofs.Expressions.Values.{number-is, constant-is, narrowed, at_most, built_of, wide, operand_built, scale_small, evaluates, evaluation_follows}
 use Rattle.cw_carry.proofs.Expressions.Results.{of_one, of_two, sum_fits, difference_fits, negative_fits, rescaled_fits, product_fits, quotient_fits, sum_put, difference_put, negative_put, rescaled_put, product_put, quotient_put, combined_put, bits_put, compared_put, from_above, of_count, inside_is, element_found, entry_found, element_of_two_found}
 
 module _ (c : Compiled) (t : Moment c) where
@@ -78,12 +78,6 @@ module _ (c : Compiled) (t : Moment c) where
       operand : (a : Expr) (x : ℤ) → (value_of sc a).known (value_of sc a).operand ≡ Some x → (value_of sc a).known (operand_scale t.unit a) ≡ Some x
       operand a x e = subst (λ g. (value_of sc a).known g ≡ Some x) (operand-is sc a) e
 
-      operand_built : (a : Expr) → IsTrue (whole (built_of c t a) (built_of c t a).operand) → IsTrue (whole (built_of c t a) (operand_scale t.unit a))
-      operand_built a b = subst (λ g. IsTrue (whole (built_of c t a) g)) (built-operand-is t.unit (has_words c t) a) b
-
-      scale_small : (a : Expr) (g : ℕ) → IsTrue (whole (built_of c t a) g) → g ≤ 15
-      scale_small a g b = at_most g (both (nat_le g 15) ((built_of c t a).at g most_levels) b).0
-
       computed : (e : Expr) (x : Expr-F Arg Cond Expr Spot Ref) (f levels : ℕ) (k : Work) (w : Words) (z : ℤ) → out-Expr e ≡ x → expression_size_layer x ≤ n → IsTrue (nat_le f 15) → IsTrue ((built_value_layer t.unit (has_words c t) x).at f levels)
           → known_layer sc x f ≡ Some z → Comes c t (Eval e f line k) k w (put z w)
       computed e (layer.Num m) f levels k w z is le small b known =
@@ -103,7 +97,7 @@ module _ (c : Compiled) (t : Moment c) where
           let behind = Do (Rescale 0 f) line k in
           step_then (evaluates c t e (layer.Bits d b' a) f line k w is) refl refl
           (then_come (Eval a g line (Do (Extract d b') line behind)) behind k w (put y.0 w) (put z w) refl
-          (one_comes a g (Extract d b') behind w x.0 y.0 (let lt : expression_size a < n = omega (arith, le) in lt) (operand_built a b) (operand a x.0 x.1) (bits_put c.limits.area w d b' x.0 y.0 x.2))
+          (one_comes a g (Extract d b') behind w x.0 y.0 (let lt : expression_size a < n = omega (arith, le) in lt) (operand_built c t a b) (operand a x.0 x.1) (bits_put c.limits.area w d b' x.0 y.0 x.2))
           (done (Rescale 0 f) k (put y.0 w) (put z w) (rescaled_put c.limits.area w 0 f y.0 z y.2)))
       computed e (layer.Logic op a a') f levels k w z is le small b known =
           let bs = both (whole (built_of c t a) (built_of c t a).operand) (whole (built_of c t a') (built_of c t a').operand) b in
@@ -114,7 +108,7 @@ module _ (c : Compiled) (t : Moment c) where
           let behind = Do (Rescale 0 f) line k in
           step_then (evaluates c t e (layer.Logic op a a') f line k w is) refl refl
           (then_come (Eval a g line (Eval a' h line (Do (Combine op) line behind))) behind k w (put v.0 w) (put z w) refl
-          (two_come a a' g h (Combine op) behind w xy.0 xy.1 v.0 (let lt : expression_size a < n = omega (arith, le) in lt) (let lt : expression_size a' < n = omega (arith, le) in lt) (operand_built a bs.0) (operand_built a' bs.1)
+          (two_come a a' g h (Combine op) behind w xy.0 xy.1 v.0 (let lt : expression_size a < n = omega (arith, le) in lt) (let lt : expression_size a' < n = omega (arith, le) in lt) (operand_built c t a bs.0) (operand_built c t a' bs.1)
           (operand a xy.0 xy.2) (operand a' xy.1 xy.3) (combined_put c.limits.area w op xy.0 xy.1 v.0 xy.4))
           (done (Rescale 0 f) k (put v.0 w) (put z w) (rescaled_put c.limits.area w 0 f v.0 z v.2)))
       computed e (layer.Sum a a') f levels k w z is le small b known =
@@ -133,27 +127,27 @@ module _ (c : Compiled) (t : Moment c) where
           (one_comes a f Negate k w x.0 z (let lt : expression_size a < n = omega (arith, le) in lt) b x.1 (negative_put c.limits.area w x.0 z x.2))
       computed e (layer.Times a a') f levels k w z is le small b known =
           let bs = both (whole (built_of c t a) (built_of c t a).operand) (whole (built_of c t a') (built_of c t a').operand) b in
-          let ba = operand_built a bs.0 in
-          let bb = operand_built a' bs.1 in
+          let ba = operand_built c t a bs.0 in
+          let bb = operand_built c t a' bs.1 in
           let g = operand_scale t.unit a in
           let h = operand_scale t.unit a' in
           let s = pos f -ℤ pos ((value_of sc a).operand + (value_of sc a').operand) in
           let xy = of_two (known_product (narrow s)) ((value_of sc a).known (value_of sc a).operand) ((value_of sc a').known (value_of sc a').operand) z known in
           let same : s ≡ pos f -ℤ pos (g + h) = ap (λ i. pos f -ℤ pos (i + (value_of sc a').operand)) (operand-is sc a) ∙ ap (λ j. pos f -ℤ pos (g + j)) (operand-is sc a') in
-          let whole_power : narrow s ≡ pos f -ℤ pos (g + h) = ap narrow same ∙ narrowed (pos f -ℤ pos (g + h)) f (g + h) refl (let y : f ≤ 30 = omega (arith, at_most f small) in y) (let y : g + h ≤ 30 = omega (arith, scale_small a g ba, scale_small a' h bb) in y) in
+          let whole_power : narrow s ≡ pos f -ℤ pos (g + h) = ap narrow same ∙ narrowed (pos f -ℤ pos (g + h)) f (g + h) refl (let y : f ≤ 30 = omega (arith, at_most f small) in y) (let y : g + h ≤ 30 = omega (arith, scale_small c t a g ba, scale_small c t a' h bb) in y) in
           step_then (evaluates c t e (layer.Times a a') f line k w is) refl refl
           (two_come a a' g h (Multiply (pos f -ℤ pos (g + h))) k w xy.0 xy.1 z (let lt : expression_size a < n = omega (arith, le) in lt) (let lt : expression_size a' < n = omega (arith, le) in lt) ba bb (operand a xy.0 xy.2) (operand a' xy.1 xy.3)
           (ap (λ p. perform c.limits.area (Multiply p) (put xy.1 (put xy.0 w))) (sym whole_power) ∙ product_put c.limits.area w (narrow s) xy.0 xy.1 z xy.4))
       computed e (layer.Over a a') f levels k w z is le small b known =
           let bs = both (whole (built_of c t a) (built_of c t a).operand) (whole (built_of c t a') (built_of c t a').operand) b in
-          let ba = operand_built a bs.0 in
-          let bb = operand_built a' bs.1 in
+          let ba = operand_built c t a bs.0 in
+          let bb = operand_built c t a' bs.1 in
           let g = operand_scale t.unit a in
           let h = operand_scale t.unit a' in
           let s = pos (f + (value_of sc a').operand) -ℤ pos (value_of sc a).operand in
           let xy = of_two (known_quotient (narrow s)) ((value_of sc a).known (value_of sc a).operand) ((value_of sc a').known (value_of sc a').operand) z known in
           let same : s ≡ pos (f + h) -ℤ pos g = ap (λ i. pos (f + (value_of sc a').operand) -ℤ pos i) (operand-is sc a) ∙ ap (λ j. pos (f + j) -ℤ pos g) (operand-is sc a') in
-          let whole_power : narrow s ≡ pos (f + h) -ℤ pos g = ap narrow same ∙ narrowed (pos (f + h) -ℤ pos g) (f + h) g refl (let y : f + h ≤ 30 = omega (arith, at_most f small, scale_small a' h bb) in y) (let y : g ≤ 30 = omega (arith, scale_small a g ba) in y) in
+          let whole_power : narrow s ≡ pos (f + h) -ℤ pos g = ap narrow same ∙ narrowed (pos (f + h) -ℤ pos g) (f + h) g refl (let y : f + h ≤ 30 = omega (arith, at_most f small, scale_small c t a' h bb) in y) (let y : g ≤ 30 = omega (arith, scale_small c t a g ba) in y) in
           step_then (evaluates c t e (layer.Over a a') f line k w is) refl refl
           (two_come a a' g h (Divide (pos (f + h) -ℤ pos g)) k w xy.0 xy.1 z (let lt : expression_size a < n = omega (arith, le) in lt) (let lt : expression_size a' < n = omega (arith, le) in lt) ba bb (operand a xy.0 xy.2) (operand a' xy.1 xy.3)
           (ap (λ p. perform c.limits.area (Divide p) (put xy.1 (put xy.0 w))) (sym whole_power) ∙ quotient_put c.limits.area w (narrow s) xy.0 xy.1 z xy.4))
@@ -313,13 +307,13 @@ module _ (c : Compiled) (t : Moment c) where
             let known = ap (λ v. v.known f) (value-made sc e) ∙ is in
             let fits = fits_known (out-Expr e) f levels z (sym (ap (λ v. v.at f levels) (value-built t.unit (has_words c t) e)) ∙ bs.1) is in
             inr
-            (leaps_by c t (Eval e f line k) k line q n false true (o ∷ []) w (put z w) false made'.0 (light_order c t line false true o refl (omega arith) (omega arith) tt refl) facts (evaluated e f levels k w z bs.0 bs.1 known)
+            (leaps_by c t (Eval e f line k) k line q n false true (o ∷ []) w (put z w) false made'.0 (light_order line false true o refl (omega arith) (omega arith) tt refl) facts (evaluated e f levels k w z bs.0 bs.1 known)
             (ap (λ y. Changed (put y w)) (constant-is z fits)) tt (wide c t j n true false k (let y : j ≤ 64 = omega (arith, le) in y) via))
 
     pub one_light : (i n : ℕ) → IsLight line false true (item_order (layout c t) i n ∷ [])
     one_light i n =
         let w = item_light (layout c t) i n in
-        light_order c t line false true (item_order (layout c t) i n) (item_silent (layout c t) i n) w.0 (let z : weight_of (item_order (layout c t) i n) ≤ 150 = omega (arith, w.1) in z) (item_tells line (layout c t) i n) (item_loads (layout c t) i n)
+        light_order line false true (item_order (layout c t) i n) (item_silent (layout c t) i n) w.0 (let z : weight_of (item_order (layout c t) i n) ≤ 159 = omega (arith, w.1) in z) (item_tells line (layout c t) i n) (item_loads (layout c t) i n)
 
     pub address_goes : (a : Ref) (k : Work) (q n free last : ℕ) (w : Words) → IsTrue (built_reference t.unit (has_words c t) a).good → Made (code c t) (marks c t) ((reference_of sc a).address q free) q n free last → Leads_to c t n true true k → Facts c t (Address a line k) w
         → Goes c t (Address a line k) q false w

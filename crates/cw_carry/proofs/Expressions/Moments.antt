@@ -1,5 +1,5 @@
 -- A moment of a run at which source and orders belong together, and the facts of the step from it.
-use Rattle.std.proofs.Common.{◌≡◌, ◌⊎◌, inl, ℕ, ◌+◌, ◌*◌, ◌<◌, ◌≤◌, List, length, Bool, true, false, Option, Some, None, refl, ap, ◌∙◌, arith}
+use Rattle.std.proofs.Common.{◌≡◌, ◌⊎◌, inl, ℕ, zero, suc, ◌+◌, ◌*◌, ◌<◌, ◌≤◌, List, [], ◌∷◌, length, Bool, true, false, Option, Some, None, refl, ap, ◌∙◌, arith}
 use Rattle.std.specs.Prelude.{slice_get, slice_index_or, IsTrue, ◌&&◌}
 use Rattle.std.proofs.lemmas.Bool.{false≢true}
 use Rattle.cw_unit.specs.declared.unit.Unit.{Unit as SourceUnit}
@@ -28,9 +28,9 @@ use Rattle.cw_order.specs.Starting.{started_by}
 use Rattle.cw_order.specs.OrderCosts.{weight_of, weight_at}
 use Rattle.cw_order.specs.FittingWords.{WordsFit}
 use Rattle.cw_gen_expr.specs.ReferenceExpressions.{Scope, placed_by, placed_in, item_order}
-use Rattle.cw_gen_expr.specs.BuiltExpressions.{most_levels}
+use Rattle.cw_gen_expr.specs.BuiltExpressions.{most_levels, within}
 use Rattle.cw_carry.proofs.Expressions.Standing.{Stands}
-use Rattle.cw_carry.proofs.Expressions.Effects.{IsPossible, BeginsNone, is_silent, all_silent, total_weight, TellsLine, OnLine, loaded_through, total_growth, growth_within, carried_out, run_orders, Ran, run_through}
+use Rattle.cw_carry.proofs.Expressions.Effects.{IsPossible, BeginsNone, is_silent, all_silent, total_weight, TellsLine, OnLine, loaded_through, through_all, total_growth, growth_within, carried_out, run_orders, Ran, run_through}
 use Rattle.cw_carry.proofs.Expressions.Carried.{here, saved, Via, wider, Ready, who_of}
 use Rattle.cw_gen_expr.specs.ReferenceEntries.{scope_of}
 use Rattle.cw_carry.proofs.Expressions.Operations.{ItemsStand}
@@ -39,6 +39,10 @@ use Rattle.cw_carry.proofs.Expressions.Stepping.{Quiet, Compiled, source, target
 pub both : (a b : Bool) → IsTrue (a && b) → IsTrue a × IsTrue b
 both true b h = (refl, h)
 both false b h = absurd (false≢true h)
+
+pub a_level : (levels : ℕ) (p : ℕ → Bool) → IsTrue (within levels p) → (m : ℕ) × (levels ≡ suc m) × IsTrue (p m)
+a_level zero p h = absurd (false≢true h)
+a_level (suc m) p h = (m, refl, h)
 
 -- ---- the order that puts the address of an item
 
@@ -109,6 +113,17 @@ pub record IsLight (line : ℕ) (l m : Bool) (os : List Order) : Type 0 where
 pub silent_and : (a b : Bool) → IsTrue a → IsTrue b → IsTrue (a && b)
 silent_and true b x y = y
 silent_and false b x y = absurd (false≢true x)
+
+-- an order of its own
+pub light_order : (line : ℕ) (l m : Bool) (o : Order) → IsTrue (is_silent o) → 0 < weight_of o → weight_of o ≤ 159 → TellsLine line o → loaded_after o l ≡ Some m → IsLight line l m (o ∷ [])
+light_order line l m o h some le tells turn = record {
+  quiet = silent_and (is_silent o) true h refl;
+  light = (let z : weight_of o + 0 ≤ 159 = omega (arith, le) in z);
+  some = (let z : 0 < weight_of o + 0 = omega (arith, some) in z);
+  short = (let z : 1 ≤ 12 = omega arith in z);
+  at = (tells, tt);
+  turns = ap (λ x. through_all x []) turn;
+}
 
 module _ (c : Compiled) where
   pub record Moment : Type 0 where

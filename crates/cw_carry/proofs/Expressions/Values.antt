@@ -1,7 +1,7 @@
 -- The orders follow the source through expressions.
-use Rattle.std.proofs.Common.{◌≡◌, ℕ, zero, suc, ◌+◌, ◌%◌, ◌<◌, ◌≤◌, ℤ, pos, negsuc, ◌-ℤ◌, List, [], ◌∷◌, ◌++◌, map, Bool, true, false, Some, refl, sym, ap, ◌∙◌, subst, arith}
+use Rattle.std.proofs.Common.{◌≡◌, ℕ, suc, ◌+◌, ◌%◌, ◌<◌, ◌≤◌, ℤ, pos, negsuc, ◌-ℤ◌, List, [], ◌∷◌, ◌++◌, map, Bool, true, false, Some, refl, sym, ap, ◌∙◌, subst, arith}
 use Rattle.std.specs.Prelude.{slice_get, nat_le, nat_lt, IsTrue, ◌&&◌, if◌then◌else◌}
-use Rattle.std.proofs.lemmas.Bool.{false≢true, ltb-true, lt-ltb}
+use Rattle.std.proofs.lemmas.Bool.{ltb-true, lt-ltb}
 use Rattle.std.proofs.lemmas.Bool.Decides.{nat_tests}
 use Rattle.std.proofs.lemmas.Int.{ints}
 use Rattle.cw_word.specs.FixedPoint.{FitsWord, fits_word}
@@ -25,19 +25,17 @@ use Rattle.cw_unit.specs.Configuration.{at as configuration, address_at}
 use Rattle.cw_unit.specs.Step.{in_unit, stuck, put_constant}
 use Rattle.cw_order.specs.declared.order.Order.{Order}
 use Rattle.cw_order.specs.declared.order.Order.TheVariants as order
-use Rattle.cw_order.specs.Loading.{loaded_after}
-use Rattle.cw_order.specs.OrderCosts.{weight_of}
 use Rattle.cw_gen_expr.specs.Pieces.{plain, followed_by, sequence}
 use Rattle.cw_gen_expr.specs.ReferenceExpressions.{at_line, two_values, item_order, load_orders, rescale_orders, narrow, number_order, logic_order, call_order, value_of, expression_piece, condition_piece, argument_piece, reference_of}
 use Rattle.cw_gen_expr.specs.BuiltExpressions.{BuiltValue, whole, within, all_built, answers, built_value, is_condition, is_argument, is_expression, most_levels}
 use Rattle.cw_gen_expr.proofs.Layers.{computed_layer, reference-made, built_value_layer, value-built, expression_size, expression-size, expression_size_layer, argument_size, reference_size, condition_size, total}
 use Rattle.cw_gen_expr.proofs.Scales.{operand-is, built-operand-is}
 use Rattle.cw_carry.proofs.Expressions.Standing.{Stands, parted, Made, both_made, one_made, two_made, parted_made}
-use Rattle.cw_carry.proofs.Expressions.Effects.{IsPossible, total_weight, through_all, TellsLine}
+use Rattle.cw_carry.proofs.Expressions.Effects.{IsPossible, total_weight}
 use Rattle.cw_carry.proofs.Expressions.Carried.{Leads, here, past, over as leap, Via, wider, OperationFits, operation_orders, gives_word}
 use Rattle.cw_carry.proofs.Expressions.Operations.{behind_item}
 use Rattle.cw_carry.proofs.Expressions.Stepping.{Compiled, source, target, work_size}
-use Rattle.cw_carry.proofs.Expressions.Moments.{both, IsLight, silent_and, Moment, here_in, layout, scope, has_words, code, marks, At, Leads_to, Close, at_close, past_save, Steps, next, run, Facts, at_once, becomes, done_by}
+use Rattle.cw_carry.proofs.Expressions.Moments.{both, a_level, IsLight, light_order, silent_and, Moment, here_in, layout, scope, has_words, code, marks, At, Leads_to, Close, at_close, past_save, Steps, next, run, Facts, at_once, becomes, done_by}
 use Rattle.cw_carry.proofs.Expressions.Addresses.{item_and}
 
 -- ---- numbers
@@ -70,6 +68,13 @@ module _ (c : Compiled) (t : Moment c) where
   abbrev pub built_of : Expr → BuiltValue
   built_of e = built_value t.unit (has_words c t) e
 
+  -- what is known of an operand of a product or a quotient
+  pub operand_built : (a : Expr) → IsTrue (whole (built_of a) (built_of a).operand) → IsTrue (whole (built_of a) (operand_scale t.unit a))
+  operand_built a b = subst (λ g. IsTrue (whole (built_of a) g)) (built-operand-is t.unit (has_words c t) a) b
+
+  pub scale_small : (a : Expr) (g : ℕ) → IsTrue (whole (built_of a) g) → g ≤ 15
+  scale_small a g b = at_most g (both (nat_le g 15) ((built_of a).at g most_levels) b).0
+
   pub wide : (j n : ℕ) (l r : Bool) (k : Work) → j ≤ most_levels → Via (code c t) (marks c t) j n l (λ y m. At c t y m r k) → Leads_to c t n l r k
   wide j n l r k le (y, m, way, carried) = (y, m, wider (code c t) (marks c t) j most_levels n l y m le way, carried)
 
@@ -101,6 +106,24 @@ module _ (c : Compiled) (t : Moment c) where
       (at_close c t (parts.0 + 1) false false (Eval b fb line k)
       (value_at b fb line (parts.0 + 1) parts.2 parts.1 parts.3 k bb parts.6 (at_close c t parts.2 true false k (carried parts.2 parts.7)))))
 
+  -- two operands, each at its own scale
+  operands_small : (a b : Expr) → IsTrue (whole (built_of a) (built_of a).operand && whole (built_of b) (built_of b).operand) → (operand_scale t.unit a ≤ 15) × (operand_scale t.unit b ≤ 15)
+  operands_small a b h =
+      let bs = both (whole (built_of a) (built_of a).operand) (whole (built_of b) (built_of b).operand) h in
+      (scale_small a (operand_scale t.unit a) (operand_built a bs.0), scale_small b (operand_scale t.unit b) (operand_built b bs.1))
+
+  operands_at : (a b : Expr) (os : (g h : ℕ) → List Order) (line q n free last : ℕ) (k : Work) → IsTrue (whole (built_of a) (built_of a).operand && whole (built_of b) (built_of b).operand)
+      → Made (code c t) (marks c t) (two_values (expression_piece (at_line line (scope c t)) a (value_of (at_line line (scope c t)) a).operand) (expression_piece (at_line line (scope c t)) b (value_of (at_line line (scope c t)) b).operand) (os (value_of (at_line line (scope c t)) a).operand (value_of (at_line line (scope c t)) b).operand) q free) q n free last
+      → ((y : ℕ) → Stands (code c t) y (os (operand_scale t.unit a) (operand_scale t.unit b)) n → At c t y true false k) → At c t q false false (Eval a (operand_scale t.unit a) line (Eval b (operand_scale t.unit b) line k))
+  operands_at a b os line q n free last k h made carried =
+      let s = at_line line (scope c t) in
+      let fa = operand_scale t.unit a in
+      let fb = operand_scale t.unit b in
+      let bs = both (whole (built_of a) (built_of a).operand) (whole (built_of b) (built_of b).operand) h in
+      two_at a b fa fb line q n free last k (os fa fb) (operand_built a bs.0) (operand_built b bs.1)
+      (subst (λ z. Made (code c t) (marks c t) (two_values (expression_piece s a fa) (expression_piece s b z) (os fa z) q free) q n free last) (operand-is s b)
+      (subst (λ z. Made (code c t) (marks c t) (two_values (expression_piece s a z) (expression_piece s b (value_of s b).operand) (os z (value_of s b).operand) q free) q n free last) (operand-is s a) made)) carried
+
   -- a change of scale behind an order
   then_rescaled : (from to line q n : ℕ) (k : Work) → Stands (code c t) q (rescale_orders line from to) n → Leads_to c t n true false k → At c t q true false (Do (Rescale from to) line k)
   then_rescaled from to line q n k stands carried = do_at (Rescale from to) line q n k tt stands carried
@@ -117,22 +140,8 @@ module _ (c : Compiled) (t : Moment c) where
   given_size [] line t' wanted k = omega arith
   given_size (a ∷ args) line t' wanted k = omega arith
 
-  a_level : (levels : ℕ) (p : ℕ → Bool) → IsTrue (within levels p) → (m : ℕ) × (levels ≡ suc m) × IsTrue (p m)
-  a_level zero p h = absurd (false≢true h)
-  a_level (suc m) p h = (m, refl, h)
-
   small_and : (f levels : ℕ) (v : BuiltValue) → IsTrue (nat_le f 15) → IsTrue (v.at f levels) → IsTrue (nat_le f 15 && v.at f levels)
   small_and f levels v h g = silent_and (nat_le f 15) (v.at f levels) h g
-
-  pub light_order : (line : ℕ) (l m : Bool) (o : Order) → IsTrue (Rattle.cw_carry.proofs.Expressions.Effects.is_silent o) → 0 < weight_of o → weight_of o ≤ 150 → TellsLine line o → loaded_after o l ≡ Some m → IsLight line l m (o ∷ [])
-  light_order line l m o h some le tells turn = record {
-    quiet = silent_and (Rattle.cw_carry.proofs.Expressions.Effects.is_silent o) true h refl;
-    light = (let z : weight_of o + 0 ≤ 159 = omega (arith, le) in z);
-    some = (let z : 0 < weight_of o + 0 = omega (arith, some) in z);
-    short = (let z : 1 ≤ 12 = omega arith in z);
-    at = (tells, tt);
-    turns = ap (λ x. through_all x []) turn;
-  }
 
   -- an order that puts a word
   word_put : (now k : Work) (line q n : ℕ) (o : Order) (z : ℤ) (w : Words) → slice_get (code c t) q ≡ Some o → q + 1 ≡ n → IsLight line false true (o ∷ []) → Facts c t now w → next c t now w ≡ configuration t.segment k t.acts (put z w) Running → run c t (o ∷ []) w ≡ Changed (put z w) → Leads_to c t n true false k → Steps c t now q false w
@@ -186,21 +195,15 @@ module _ (c : Compiled) (t : Moment c) where
       let g = operand_scale t.unit a in
       becomes c t (Eval e f line k) (Eval a g line (Do (Extract d b') line (Do (Rescale 0 f) line k))) q false w (evaluates e (layer.Bits d b' a) f line k w is)
       (one_at a g line q n free last (Do (Extract d b') line (Do (Rescale 0 f) line k)) (order.Take d b' ∷ rescale_orders line 0 f)
-      (subst (λ z. IsTrue (whole (built_of a) z)) (built-operand-is t.unit (has_words c t) a) b)
+      (operand_built a b)
       (subst (λ z. Made (code c t) (marks c t) (followed_by (expression_piece (at_line line (scope c t)) a z) (plain (order.Take d b' ∷ rescale_orders line 0 f)) q free) q n free last) (operand-is (at_line line (scope c t)) a) made)
       (λ y stands. (y + 1, tt, (stands.0, refl), refl, (y + 1, true, here refl refl, then_rescaled 0 f line (y + 1) n k stands.1 (wide j n true false k (let y : j ≤ 64 = omega (arith, le) in y) via)))))
       (let z : expression_size a < expression_size e = omega (arith, expression-size e ∙ ap expression_size_layer is) in z)
   evaluated e (layer.Logic op a a') f line k q n levels j free last w is small b made le via facts =
       let g = operand_scale t.unit a in
       let h = operand_scale t.unit a' in
-      let bs = both (whole (built_of a) (built_of a).operand) (whole (built_of a') (built_of a').operand) b in
-      let os = logic_order op ∷ rescale_orders line 0 f in
       becomes c t (Eval e f line k) (Eval a g line (Eval a' h line (Do (Combine op) line (Do (Rescale 0 f) line k)))) q false w (evaluates e (layer.Logic op a a') f line k w is)
-      (two_at a a' g h line q n free last (Do (Combine op) line (Do (Rescale 0 f) line k)) os
-      (subst (λ z. IsTrue (whole (built_of a) z)) (built-operand-is t.unit (has_words c t) a) bs.0)
-      (subst (λ z. IsTrue (whole (built_of a') z)) (built-operand-is t.unit (has_words c t) a') bs.1)
-      (subst (λ z. Made (code c t) (marks c t) (two_values (expression_piece (at_line line (scope c t)) a g) (expression_piece (at_line line (scope c t)) a' z) os q free) q n free last) (operand-is (at_line line (scope c t)) a')
-      (subst (λ z. Made (code c t) (marks c t) (two_values (expression_piece (at_line line (scope c t)) a z) (expression_piece (at_line line (scope c t)) a' (value_of (at_line line (scope c t)) a').operand) os q free) q n free last) (operand-is (at_line line (scope c t)) a) made))
+      (operands_at a a' (λ i i'. logic_order op ∷ rescale_orders line 0 f) line q n free last (Do (Combine op) line (Do (Rescale 0 f) line k)) b made
       (λ y stands. (y + 1, tt, (stands.0, refl), refl, (y + 1, true, here refl refl, then_rescaled 0 f line (y + 1) n k stands.1 (wide j n true false k (let y : j ≤ 64 = omega (arith, le) in y) via)))))
       (let z : expression_size a < expression_size e = omega (arith, expression-size e ∙ ap expression_size_layer is) in z)
   evaluated e (layer.Sum a a') f line k q n levels j free last w is small b made le via facts =
@@ -220,32 +223,20 @@ module _ (c : Compiled) (t : Moment c) where
   evaluated e (layer.Times a a') f line k q n levels j free last w is small b made le via facts =
       let g = operand_scale t.unit a in
       let h = operand_scale t.unit a' in
-      let bs = both (whole (built_of a) (built_of a).operand) (whole (built_of a') (built_of a').operand) b in
-      let wa = subst (λ z. IsTrue (whole (built_of a) z)) (built-operand-is t.unit (has_words c t) a) bs.0 in
-      let wb = subst (λ z. IsTrue (whole (built_of a') z)) (built-operand-is t.unit (has_words c t) a') bs.1 in
-      let ga = both (nat_le g 15) ((built_of a).at g most_levels) wa in
-      let ha = both (nat_le h 15) ((built_of a').at h most_levels) wb in
+      let low = operands_small a a' b in
       let s = pos f -ℤ pos (g + h) in
       becomes c t (Eval e f line k) (Eval a g line (Eval a' h line (Do (Multiply s) line k))) q false w (evaluates e (layer.Times a a') f line k w is)
-      (two_at a a' g h line q n free last (Do (Multiply s) line k) (order.Mul (narrow s) line ∷ []) wa wb
-      (subst (λ z. Made (code c t) (marks c t) (two_values (expression_piece (at_line line (scope c t)) a g) (expression_piece (at_line line (scope c t)) a' z) (order.Mul (narrow (pos f -ℤ pos (g + z))) line ∷ []) q free) q n free last) (operand-is (at_line line (scope c t)) a')
-      (subst (λ z. Made (code c t) (marks c t) (two_values (expression_piece (at_line line (scope c t)) a z) (expression_piece (at_line line (scope c t)) a' (value_of (at_line line (scope c t)) a').operand) (order.Mul (narrow (pos f -ℤ pos (z + (value_of (at_line line (scope c t)) a').operand))) line ∷ []) q free) q n free last) (operand-is (at_line line (scope c t)) a) made))
-      (λ y stands. do_at (Multiply s) line y n k (narrowed s f (g + h) refl (let y : f ≤ 30 = omega (arith, at_most f small) in y) (let y : g + h ≤ 30 = omega (arith, at_most g ga.0, at_most h ha.0) in y)) stands (wide j n true false k (let y : j ≤ 64 = omega (arith, le) in y) via)))
+      (operands_at a a' (λ i i'. order.Mul (narrow (pos f -ℤ pos (i + i'))) line ∷ []) line q n free last (Do (Multiply s) line k) b made
+      (λ y stands. do_at (Multiply s) line y n k (narrowed s f (g + h) refl (let y : f ≤ 30 = omega (arith, at_most f small) in y) (let y : g + h ≤ 30 = omega (arith, low.0, low.1) in y)) stands (wide j n true false k (let y : j ≤ 64 = omega (arith, le) in y) via)))
       (let z : expression_size a < expression_size e = omega (arith, expression-size e ∙ ap expression_size_layer is) in z)
   evaluated e (layer.Over a a') f line k q n levels j free last w is small b made le via facts =
       let g = operand_scale t.unit a in
       let h = operand_scale t.unit a' in
-      let bs = both (whole (built_of a) (built_of a).operand) (whole (built_of a') (built_of a').operand) b in
-      let wa = subst (λ z. IsTrue (whole (built_of a) z)) (built-operand-is t.unit (has_words c t) a) bs.0 in
-      let wb = subst (λ z. IsTrue (whole (built_of a') z)) (built-operand-is t.unit (has_words c t) a') bs.1 in
-      let ga = both (nat_le g 15) ((built_of a).at g most_levels) wa in
-      let ha = both (nat_le h 15) ((built_of a').at h most_levels) wb in
+      let low = operands_small a a' b in
       let s = pos (f + h) -ℤ pos g in
       becomes c t (Eval e f line k) (Eval a g line (Eval a' h line (Do (Divide s) line k))) q false w (evaluates e (layer.Over a a') f line k w is)
-      (two_at a a' g h line q n free last (Do (Divide s) line k) (order.Div (narrow s) line ∷ []) wa wb
-      (subst (λ z. Made (code c t) (marks c t) (two_values (expression_piece (at_line line (scope c t)) a g) (expression_piece (at_line line (scope c t)) a' z) (order.Div (narrow (pos (f + z) -ℤ pos g)) line ∷ []) q free) q n free last) (operand-is (at_line line (scope c t)) a')
-      (subst (λ z. Made (code c t) (marks c t) (two_values (expression_piece (at_line line (scope c t)) a z) (expression_piece (at_line line (scope c t)) a' (value_of (at_line line (scope c t)) a').operand) (order.Div (narrow (pos (f + (value_of (at_line line (scope c t)) a').operand) -ℤ pos z)) line ∷ []) q free) q n free last) (operand-is (at_line line (scope c t)) a) made))
-      (λ y stands. do_at (Divide s) line y n k (narrowed s (f + h) g refl (let y : f + h ≤ 30 = omega (arith, at_most f small, at_most h ha.0) in y) (let y : g ≤ 30 = omega (arith, at_most g ga.0) in y)) stands (wide j n true false k (let y : j ≤ 64 = omega (arith, le) in y) via)))
+      (operands_at a a' (λ i i'. order.Div (narrow (pos (f + i') -ℤ pos i)) line ∷ []) line q n free last (Do (Divide s) line k) b made
+      (λ y stands. do_at (Divide s) line y n k (narrowed s (f + h) g refl (let y : f + h ≤ 30 = omega (arith, at_most f small, low.1) in y) (let y : g ≤ 30 = omega (arith, low.0) in y)) stands (wide j n true false k (let y : j ≤ 64 = omega (arith, le) in y) via)))
       (let z : expression_size a < expression_size e = omega (arith, expression-size e ∙ ap expression_size_layer is) in z)
   evaluated e (layer.Choice d a a') f line k q n levels j free last w is small b made le via facts =
       let tests = both (is_condition t.unit (has_words c t) d) (within levels ((built_of a).at f) && (built_of a').at f levels) b in

@@ -1,6 +1,6 @@
 -- What holds of the orders of every expression, condition, reference and argument: a property of lists of orders that joined lists keep,
 -- and that plain orders, constants that are words, the orders of references and statements behind their Start have.
-use Rattle.std.proofs.Common.{ℕ, zero, suc, ◌+◌, ◌%◌, ◌<◌, ◌≤◌, ℤ, pos, ◌-ℤ◌, max, List, [], ◌∷◌, ◌++◌, map, length, Bool, true, false, Option, Some, None, sym, ap, ◌∙◌, subst, arith}
+use Rattle.std.proofs.Common.{ℕ, suc, ◌+◌, ◌%◌, ◌<◌, ◌≤◌, ℤ, pos, ◌-ℤ◌, max, List, [], ◌∷◌, ◌++◌, map, length, Bool, true, false, Option, Some, None, arith}
 use Rattle.std.specs.Prelude.{◌==◌, if◌then◌else◌}
 use Rattle.cw_unit.specs.declared.layout.Layout.{Layout}
 use Rattle.cw_unit.specs.declared.layout.Sort.{Sort}
@@ -11,11 +11,11 @@ use Rattle.cw_unit.specs.declared.unit.LogicOp.TheVariants as logic
 use Rattle.cw_unit.specs.declared.unit.Target.{Target}
 use Rattle.cw_unit.specs.declared.unit.Goal.{Goal}
 use Rattle.cw_unit.specs.declared.unit.Goal.TheVariants as goal
-use Rattle.cw_unit.specs.declared.unit.Arg.{Arg, out-Arg}
-use Rattle.cw_unit.specs.declared.unit.Cond.{Cond, out-Cond}
-use Rattle.cw_unit.specs.declared.unit.Spot.{Spot, out-Spot, map-Spot}
-use Rattle.cw_unit.specs.declared.unit.Ref.{Ref, out-Ref}
-use Rattle.cw_unit.specs.declared.unit.Expr.{Expr, Expr-F, out-Expr}
+use Rattle.cw_unit.specs.declared.unit.Arg.{Arg}
+use Rattle.cw_unit.specs.declared.unit.Cond.{Cond}
+use Rattle.cw_unit.specs.declared.unit.Spot.{Spot, map-Spot}
+use Rattle.cw_unit.specs.declared.unit.Ref.{Ref}
+use Rattle.cw_unit.specs.declared.unit.Expr.{Expr, Expr-F}
 use Rattle.cw_unit.specs.declared.unit.Arg.TheOpen as layer
 use Rattle.cw_unit.specs.declared.unit.Arg.TheOpen.{Arg-F, Cond-F, Spot-F}
 use Rattle.cw_word.specs.Decimal.{decimal_floor}
@@ -26,9 +26,10 @@ use Rattle.cw_order.specs.declared.order.Order.TheVariants as order
 use Rattle.cw_gen_expr.specs.Pieces.{Piece, plain, followed_by, sequence, with_end}
 use Rattle.cw_gen_unit.specs.ReferenceStatements.{parted_piece}
 use Rattle.cw_gen_expr.specs.ReferenceExpressions.{Scope, Value, Reference, ConditionPiece, saved, two_values, placed_by, item_order, form_orders, bounds_orders, load_orders, rescale_orders, logic_order, number_order, narrow, comparator_for, call_order, label_order, pick_mark, index_piece, indexed_piece, known_or, named_or, known_item, known_word, value_of, condition_piece, argument_piece, reference_of, spot_piece, expression_piece}
-use Rattle.cw_gen_expr.proofs.Layers.{value_layer, computed_layer, known_layer, value-made, argument_layer, argument-made, spot_layer, spot-made, reference-made, condition_layer, condition-made, total, expression_size, expression-size, expression_size_layer, argument_size, argument-size, argument_size_layer, spot-size, spot_size_layer, reference_size, reference-size, condition_size, condition-size, condition_size_layer}
+use Rattle.cw_gen_expr.proofs.Layers.{value_layer, computed_layer, known_layer, argument_layer, spot_layer, condition_layer, total, expression_size, expression_size_layer, argument_size, argument_size_layer, spot_size_layer, reference_size, condition_size, condition_size_layer}
 use Rattle.cw_carry.proofs.Runs.Leading.{Leads, item_holds}
 use Rattle.cw_unit.specs.declared.unit.Target.TheVariants as target
+use Rattle.cw_carry.proofs.Runs.Induction.{Below, Layered, below, of_value, of_condition, of_reference}
 
 -- ---- properties of lists
 
@@ -136,13 +137,7 @@ module _ (s : Scope) where
 -- ---- trees
 
 module _ (s : Scope) (c : ListProperty s.layout) where
-  record Below (n : ℕ) : Type 0 where
-    values : (d : Expr) → expression_size d < n → (f : ℕ) → Holds c (expression_piece s d f)
-    conditions : (d : Cond) → condition_size d < n → (when : Bool) (mark : ℕ) → Holds c (condition_piece s d when mark)
-    arguments : (d : Arg) → argument_size d < n → Holds c (argument_piece s d)
-    references : (d : Ref) → reference_size d < n → Holds c (reference_of s d).address
-
-  module _ (n : ℕ) (b : Below n) where
+  module _ (n : ℕ) (b : Below s (Holds c) n) where
     bounded : (e : Expr) (l u : ℤ) → expression_size e < n → Holds c (followed_by (expression_piece s e 0) (plain (bounds_orders s.unit.bounds s.line l u)))
     bounded e l u lt = both c (b.values e lt 0) (lists c (bounds_orders s.unit.bounds s.line l u) (bounds_plain s.unit.bounds s.line l u))
 
@@ -164,10 +159,6 @@ module _ (s : Scope) (c : ListProperty s.layout) where
     spot x le =
         named c (known_item s (pieces x)) (known_word s (pieces x)) {p = indexed_piece s (pieces x)}
         (both c {p = index_piece s (pieces x)} {q = plain (form_orders s.layout s.unit.bounds s.line (pieces x))} (indexes x le) (record { at = λ place next. c.formed s.unit.bounds s.line (pieces x) }))
-
-    reference : (r : Ref) → reference_size r ≤ n → Holds c (reference_of s r).address
-    reference r le =
-        subst (Holds c) (sym (ap (λ x. x.address) (reference-made s r) ∙ spot-made s (out-Ref r).at)) (spot (out-Spot (out-Ref r).at) (let z : spot_size_layer (out-Spot (out-Ref r).at) ≤ n = omega (arith, le, reference-size r ∙ spot-size (out-Ref r).at) in z))
 
     -- two values, and orders behind them
     two : {p q : Piece} → Holds c p → Holds c q → (os : List Order) → ArePlain os → Holds c (two_values p q os)
@@ -229,31 +220,17 @@ module _ (s : Scope) (c : ListProperty s.layout) where
     value : (x : Expr-F Arg Cond Expr Spot Ref) → expression_size_layer x ≤ n → (f : ℕ) → Holds c ((value_layer s x).at f)
     value x le f = known c (known_layer s x f) {p = (computed_layer s x).at f} (computed x le f)
 
-    next_below : Below (suc n)
-    next_below = record {
-      values = λ d lt f. subst (λ v. Holds c (v.at f)) (sym (value-made s d)) (value (out-Expr d) (let z : expression_size_layer (out-Expr d) ≤ n = omega (arith, lt, expression-size d) in z) f);
-      conditions = λ d lt when mark. subst (λ p. Holds c (p when mark)) (sym (condition-made s d)) (condition (out-Cond d) (let z : condition_size_layer (out-Cond d) ≤ n = omega (arith, lt, condition-size d) in z) when mark);
-      arguments = λ d lt. subst (Holds c) (sym (argument-made s d)) (argument (out-Arg d) (let z : argument_size_layer (out-Arg d) ≤ n = omega (arith, lt, argument-size d) in z));
-      references = λ d lt. reference d (let z : reference_size d ≤ n = omega (arith, lt) in z);
-    }
-
-  below : (n : ℕ) → Below n
-  below zero = record {
-    values = λ d lt f. absurd (omega (arith, lt));
-    conditions = λ d lt when mark. absurd (omega (arith, lt));
-    arguments = λ d lt. absurd (omega (arith, lt));
-    references = λ d lt. absurd (omega (arith, lt));
-  }
-  below (suc n) = next_below n (below n)
+    layered : Layered s (Holds c) n
+    layered = record { value = value; condition = condition; argument = argument; spot = spot }
 
   pub value_holds : (e : Expr) (f : ℕ) → Holds c (expression_piece s e f)
-  value_holds e f = (below (suc (expression_size e))).values e (let z : expression_size e < suc (expression_size e) = omega arith in z) f
+  value_holds = of_value s (Holds c) layered
 
   pub condition_holds : (d : Cond) (when : Bool) (mark : ℕ) → Holds c (condition_piece s d when mark)
-  condition_holds d when mark = (below (suc (condition_size d))).conditions d (let z : condition_size d < suc (condition_size d) = omega arith in z) when mark
+  condition_holds = of_condition s (Holds c) layered
 
   pub reference_holds : (r : Ref) → Holds c (reference_of s r).address
-  reference_holds r = (below (suc (reference_size r))).references r (let z : reference_size r < suc (reference_size r) = omega arith in z)
+  reference_holds = of_reference s (Holds c) layered
 
   pub arguments_hold : (args : List Arg) → Holds c (sequence (map (argument_piece s) args))
-  arguments_hold args = arguments (suc (total (map argument_size args))) (below (suc (total (map argument_size args)))) args (let z : total (map argument_size args) < suc (total (map argument_size args)) = omega arith in z)
+  arguments_hold args = arguments (suc (total (map argument_size args))) (below s (Holds c) layered (suc (total (map argument_size args)))) args (let z : total (map argument_size args) < suc (total (map argument_size args)) = omega arith in z)

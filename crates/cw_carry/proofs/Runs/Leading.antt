@@ -1,6 +1,6 @@
 -- The first order of an expression, a condition, a reference, an argument and of what stands behind the Start of a statement: one that begins
 -- a statement.
-use Rattle.std.proofs.Common.{ℕ, zero, suc, ◌+◌, ◌<◌, ◌≤◌, ℤ, max, List, [], ◌∷◌, ◌++◌, map, length, Bool, true, false, Option, Some, None, sym, ap, ◌∙◌, subst, arith}
+use Rattle.std.proofs.Common.{ℕ, ◌+◌, ◌<◌, ◌≤◌, ℤ, max, List, [], ◌∷◌, ◌++◌, map, length, Bool, true, false, Option, Some, None, arith}
 use Rattle.std.specs.Prelude.{slice_get, slice_index_or}
 use Rattle.cw_unit.specs.declared.layout.Layout.{Layout}
 use Rattle.cw_unit.specs.declared.layout.Family.{Family}
@@ -13,11 +13,11 @@ use Rattle.cw_unit.specs.declared.unit.Goal.TheVariants as goal
 use Rattle.cw_unit.specs.declared.unit.Dest.{Dest}
 use Rattle.cw_unit.specs.declared.unit.Dest.TheVariants as dest
 use Rattle.cw_unit.specs.declared.unit.Felem.{Felem}
-use Rattle.cw_unit.specs.declared.unit.Arg.{Arg, out-Arg}
-use Rattle.cw_unit.specs.declared.unit.Cond.{Cond, out-Cond}
-use Rattle.cw_unit.specs.declared.unit.Spot.{Spot, out-Spot}
-use Rattle.cw_unit.specs.declared.unit.Ref.{Ref, out-Ref}
-use Rattle.cw_unit.specs.declared.unit.Expr.{Expr, Expr-F, out-Expr}
+use Rattle.cw_unit.specs.declared.unit.Arg.{Arg}
+use Rattle.cw_unit.specs.declared.unit.Cond.{Cond}
+use Rattle.cw_unit.specs.declared.unit.Spot.{Spot}
+use Rattle.cw_unit.specs.declared.unit.Ref.{Ref}
+use Rattle.cw_unit.specs.declared.unit.Expr.{Expr, Expr-F}
 use Rattle.cw_unit.specs.declared.unit.Arg.TheOpen as layer
 use Rattle.cw_unit.specs.declared.unit.Arg.TheOpen.{Arg-F, Cond-F, Spot-F}
 use Rattle.cw_order.specs.declared.order.Order.{Order}
@@ -26,10 +26,11 @@ use Rattle.cw_order.specs.BeginsStatement.{BeginsStatement}
 use Rattle.cw_gen_expr.specs.Pieces.{Piece, plain, followed_by, sequence, with_end}
 use Rattle.cw_gen_expr.specs.ReferenceExpressions.{Scope, ConditionPiece, placed_by, placed_in, item_order, known_or, named_or, pick_mark, call_order, label_order, value_of, condition_piece, argument_piece, reference_of, expression_piece}
 use Rattle.cw_gen_expr.specs.UnitTables.{label_mark}
-use Rattle.cw_gen_expr.proofs.Layers.{value_layer, computed_layer, known_layer, value-made, argument_layer, argument-made, spot_layer, indexed_layer, word_item, word_layer, spot-made, reference-made, condition_layer, condition-made, expression_size, expression-size, expression_size_layer, argument_size, argument-size, argument_size_layer, spot-size, spot_size_layer, reference_size, reference-size, condition_size, condition-size, condition_size_layer}
+use Rattle.cw_gen_expr.proofs.Layers.{value_layer, computed_layer, known_layer, argument_layer, spot_layer, indexed_layer, word_item, word_layer, condition_layer, expression_size, expression_size_layer, argument_size, argument_size_layer, spot_size_layer, reference_size, condition_size, condition_size_layer}
 use Rattle.cw_gen_unit.specs.ReferenceStatements.{own_order, goal_order, jump_piece, with_middle, loop_place, simple_beginning, begun_loop, parted_piece}
 use Rattle.cw_gen_unit.specs.declared.simple.SimpleStep.{SimpleStep}
 use Rattle.cw_unit.specs.declared.unit.Target.TheVariants as target
+use Rattle.cw_carry.proofs.Runs.Induction.{Below, Layered, of_value, of_condition, of_reference, of_argument}
 
 -- ---- lists and pieces
 
@@ -108,13 +109,7 @@ module _ (s : Scope) where
 -- ---- trees
 
 module _ (s : Scope) where
-  record Below (n : ℕ) : Type 0 where
-    values : (d : Expr) → expression_size d < n → (f : ℕ) → Leading (expression_piece s d f)
-    conditions : (d : Cond) → condition_size d < n → (when : Bool) (mark : ℕ) → Leading (condition_piece s d when mark)
-    arguments : (d : Arg) → argument_size d < n → Leading (argument_piece s d)
-    references : (d : Ref) → reference_size d < n → Leading (reference_of s d).address
-
-  module _ (n : ℕ) (b : Below n) where
+  module _ (n : ℕ) (b : Below s Leading n) where
     indexed : (x : Spot-F Arg Cond Expr Spot Ref) → spot_size_layer x ≤ n → Leading (indexed_layer s x)
     indexed (layer.Direct i) le = behind (item s.layout i 0 [])
     indexed (layer.Through i) le = behind (item s.layout i 0 (order.Load ∷ order.InArea s.line ∷ []))
@@ -127,10 +122,6 @@ module _ (s : Scope) where
 
     spot : (x : Spot-F Arg Cond Expr Spot Ref) → spot_size_layer x ≤ n → Leading (spot_layer s x)
     spot x le = named s.layout (word_item s x) (word_layer s x) {p = indexed_layer s x} (indexed x le)
-
-    reference : (r : Ref) → reference_size r ≤ n → Leading (reference_of s r).address
-    reference r le =
-        subst Leading (sym (ap (λ x. x.address) (reference-made s r) ∙ spot-made s (out-Ref r).at)) (spot (out-Spot (out-Ref r).at) (let z : spot_size_layer (out-Spot (out-Ref r).at) ≤ n = omega (arith, le, reference-size r ∙ spot-size (out-Ref r).at) in z))
 
     condition : (x : Cond-F Arg Cond Expr Spot Ref) → condition_size_layer x ≤ n → (when : Bool) (mark : ℕ) → Leading (condition_layer s x when mark)
     condition (layer.Cmp op a d) le when mark = record { at = λ place next. leads_before _ _ ((b.values a (let z : expression_size a < n = omega (arith, le) in z) (max (value_of s a).natural (value_of s d).natural)).at place next) }
@@ -172,34 +163,20 @@ module _ (s : Scope) where
     value : (x : Expr-F Arg Cond Expr Spot Ref) → expression_size_layer x ≤ n → (f : ℕ) → Leading ((value_layer s x).at f)
     value x le f = known (known_layer s x f) {p = (computed_layer s x).at f} (computed x le f)
 
-    next_below : Below (suc n)
-    next_below = record {
-      values = λ d lt f. subst (λ v. Leading (v.at f)) (sym (value-made s d)) (value (out-Expr d) (let z : expression_size_layer (out-Expr d) ≤ n = omega (arith, lt, expression-size d) in z) f);
-      conditions = λ d lt when mark. subst (λ p. Leading (p when mark)) (sym (condition-made s d)) (condition (out-Cond d) (let z : condition_size_layer (out-Cond d) ≤ n = omega (arith, lt, condition-size d) in z) when mark);
-      arguments = λ d lt. subst Leading (sym (argument-made s d)) (argument (out-Arg d) (let z : argument_size_layer (out-Arg d) ≤ n = omega (arith, lt, argument-size d) in z));
-      references = λ d lt. reference d (let z : reference_size d ≤ n = omega (arith, lt) in z);
-    }
-
-  below : (n : ℕ) → Below n
-  below zero = record {
-    values = λ d lt f. absurd (omega (arith, lt));
-    conditions = λ d lt when mark. absurd (omega (arith, lt));
-    arguments = λ d lt. absurd (omega (arith, lt));
-    references = λ d lt. absurd (omega (arith, lt));
-  }
-  below (suc n) = next_below n (below n)
+    layered : Layered s Leading n
+    layered = record { value = value; condition = condition; argument = argument; spot = spot }
 
   pub value_leads : (e : Expr) (f : ℕ) → Leading (expression_piece s e f)
-  value_leads e f = (below (suc (expression_size e))).values e (let z : expression_size e < suc (expression_size e) = omega arith in z) f
+  value_leads = of_value s Leading layered
 
   pub condition_leads : (d : Cond) (when : Bool) (mark : ℕ) → Leading (condition_piece s d when mark)
-  condition_leads d when mark = (below (suc (condition_size d))).conditions d (let z : condition_size d < suc (condition_size d) = omega arith in z) when mark
+  condition_leads = of_condition s Leading layered
 
   reference_leads : (r : Ref) → Leading (reference_of s r).address
-  reference_leads r = (below (suc (reference_size r))).references r (let z : reference_size r < suc (reference_size r) = omega arith in z)
+  reference_leads = of_reference s Leading layered
 
   argument_leads : (a : Arg) → Leading (argument_piece s a)
-  argument_leads a = (below (suc (argument_size a))).arguments a (let z : argument_size a < suc (argument_size a) = omega arith in z)
+  argument_leads = of_argument s Leading layered
 
   -- ---- statements behind their Start
 

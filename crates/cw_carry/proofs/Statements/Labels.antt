@@ -1,7 +1,7 @@
 -- The place of a label carries out the continuation of the label.
 use Rattle.std.proofs.Common.{◌≡◌, ℕ, zero, suc, ◌+◌, ◌<◌, ◌≤◌, List, [], ◌∷◌, ◌++◌, map, length, Bool, true, false, Option, Some, None, refl, sym, ap, ap₂, ◌∙◌, subst, arith, append-nil}
 use Rattle.std.specs.Prelude.{nat_eq, nat_lt, IsTrue, ◌&&◌, ◌||◌, if◌then◌else◌}
-use Rattle.std.proofs.lemmas.Bool.{false≢true, ltb-true, or_left, or_right}
+use Rattle.std.proofs.lemmas.Bool.{ltb-true, or_left, or_right}
 use Rattle.cw_unit.specs.declared.unit.Unit.{Unit as SourceUnit}
 use Rattle.cw_unit.specs.declared.unit.Dest.{Dest}
 use Rattle.cw_unit.specs.declared.unit.Dest.TheVariants as dest
@@ -23,7 +23,7 @@ use Rattle.cw_gen_expr.proofs.NoLabels.{value_unlabelled, condition_unlabelled, 
 use Rattle.cw_carry.proofs.Expressions.Standing.{Made, both_made, parted_made}
 use Rattle.cw_carry.proofs.Expressions.Carried.{Leads, here, past, Via, CarriesOut}
 use Rattle.cw_gen_expr.specs.ReferenceEntries.{scope_of}
-use Rattle.cw_carry.proofs.Expressions.Moments.{both}
+use Rattle.cw_carry.proofs.Expressions.Moments.{both, a_level}
 use Rattle.cw_gen_unit.specs.ReferenceStatements.{begin_orders, jump_piece, begun_loop, parted_piece, jump_past, statement_piece}
 use Rattle.cw_gen_unit.specs.Endings.{is_empty, list_ends, ends_behind, comes_to_end}
 use Rattle.cw_gen_unit.proofs.Layers.{statement_layer, statement-made, with_ends, ending_layer, ending-is, empty-is}
@@ -82,10 +82,6 @@ depth_layer x = depth_step (map-Stmt Stmt ℕ depth x)
 
 pub depth-is : (x : Stmt) → depth x ≡ depth_layer (out-Stmt x)
 depth-is = fold_out-Stmt ℕ depth_step
-
-a_level : (levels : ℕ) (p : ℕ → Bool) → IsTrue (within levels p) → (m : ℕ) × (levels ≡ suc m) × IsTrue (p m)
-a_level zero p h = absurd (false≢true h)
-a_level (suc m) p h = (m, refl, h)
 
 jump_unlabelled : (s : Scope) (who : Option ℕ) (answer : ℕ) (d : Dest) (q free : ℕ) → (jump_piece s who d q free).labels ≡ []
 jump_unlabelled s who answer (dest.Goal g) q free = refl

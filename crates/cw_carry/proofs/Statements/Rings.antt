@@ -162,27 +162,29 @@ module _ (orders_for : SourceUnit → Orders) (u : SourceUnit) (who : Option ℕ
       let s7 = both_made code marks stmt (plain (item_order scope.layout item 3 ∷ order.Load ∷ order.LoopWay ways ∷ [])) s2.0 s1.0 s2.1 last s2.3 in
       let es_made = s6.2 in (
         record {
-          words = words;
+          ways = ways;
+          at_body = record {
+            words = words;
+            body = start;
+            end = free;
+            head = s3.0;
+            head_is = s3.4;
+            head_marks = s3.2;
+            on = s7.0;
+            body_at = (s2.1, s7.1, body_built, subst (λ x. Made code marks (stmt x s2.1) x s7.0 s2.1 s7.1) (sym s3.3) s7.2);
+            out = s1.0;
+            goes_on = s7.3.0;
+            end_is = s1.4;
+            out_marks = s1.2;
+            next_is = s1.3;
+          };
           few = few;
           built = built;
           set = set;
-          body = start;
-          end = free;
           tail = s5.0;
           tail_is = s5.4;
           tail_marks = s5.2;
-          head = s3.0;
           sets = subst (λ x. Stands code x (set_orders scope.layout line item) s3.0) (sym s5.3) s4.3.0;
-          head_is = s3.4;
-          head_marks = s3.2;
-          on = s7.0;
-          body_at = (s2.1, s7.1, body_built, subst (λ x. Made code marks (stmt x s2.1) x s7.0 s2.1 s7.1) (sym s3.3) s7.2);
-          ways = ways;
-          out = s1.0;
-          goes_on = s7.3.0;
-          end_is = s1.4;
-          out_marks = s1.2;
-          next_is = s1.3;
           place = place code marks (at_line line scope) who answer item f set start es q s6.0 (set + 1) s6.1 es_made;
           free = free_of code marks (at_line line scope) who answer item f set start es q s6.0 (set + 1) s6.1 es_made;
           each = each_one code marks (at_line line scope) who answer item f set start es q s6.0 (set + 1) s6.1 es_made;
@@ -250,24 +252,26 @@ module _ (orders_for : SourceUnit → Orders) (u : SourceUnit) (who : Option ℕ
         let all = subst (λ l. IsTrue (are_elements u has_words who answer (out-Ref r).f l)) one built in
         let body_at : StatementSite orders_for u who has_words (s3.0 + 1) b 64 s4.0 = (s2.1, s4.1, body_built, subst (λ z. Made code marks (stmt z s2.1) z s4.0 s2.1 s4.1) (sym s3.3) s4.2) in
         let site : SteppedSite orders_for u who has_words x n = record {
+          at_body = record {
+            words = words;
+            body = start;
+            end = free;
+            head = s3.0;
+            head_is = s3.4;
+            head_marks = s3.2;
+            on = s4.0;
+            body_at = body_at;
+            out = s1.0;
+            goes_on = s4.3.0;
+            end_is = s1.4;
+            out_marks = s1.2;
+            next_is = s1.3;
+          };
           first = e.0;
           step = e.1;
           limit = e.2;
           elements = one;
-          words = words;
           built = (both (is_element u has_words who answer (out-Ref r).f (element.Step e.0 e.1 e.2)) true all).0;
-          body = start;
-          end = free;
-          head = s3.0;
-          head_is = s3.4;
-          head_marks = s3.2;
-          on = s4.0;
-          body_at = body_at;
-          out = s1.0;
-          goes_on = s4.3.0;
-          end_is = s1.4;
-          out_marks = s1.2;
-          next_is = s1.3;
         } in (
           site,
           refl,

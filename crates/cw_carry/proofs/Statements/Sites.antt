@@ -40,31 +40,35 @@ module _ (orders_for : SourceUnit → Orders) (u : SourceUnit) (who : Option ℕ
   StatementSite q s levels next =
       (free : ℕ) × (last : ℕ) × IsTrue (is_statement u has_words who answer s levels) × Made code marks (statement_piece scope who answer s q free) q next free last
 
-  -- a FOR, from its elements on
-  pub record LoopSite (c : Loop) (next : ℕ) : Type 0 where
+  -- the body of a FOR between its marks, and the way on behind it
+  pub record BodySite (c : Loop) (next : ℕ) (behind : (body : ℕ) → List Order) : Type 0 where
     pub words : IsTrue (has_words c.item 4)
-    pub few : length c.elements < 32767
-    pub built : IsTrue (are_elements u has_words who answer c.scale c.elements)
-    pub set : ℕ
     pub body : ℕ
     pub end : ℕ
-    -- the tail that sets the control variable, and the body behind it
-    pub tail : ℕ
-    pub tail_is : slice_get marks set ≡ Some tail
-    pub tail_marks : slice_get code tail ≡ Some order.Mark
     pub head : ℕ
-    pub sets : Stands code (tail + 1) (set_orders scope.layout c.line c.item) head
     pub head_is : slice_get marks body ≡ Some head
     pub head_marks : slice_get code head ≡ Some order.Mark
     pub on : ℕ
     pub body_at : StatementSite (head + 1) c.body 64 on
-    -- the way on
-    pub ways : List ℕ
     pub out : ℕ
-    pub goes_on : Stands code on (item_order scope.layout c.item 3 ∷ order.Load ∷ order.LoopWay ways ∷ []) out
+    pub goes_on : Stands code on (behind body) out
     pub end_is : slice_get marks end ≡ Some out
     pub out_marks : slice_get code out ≡ Some order.Mark
     pub next_is : out + 1 ≡ next
+
+  -- a FOR, from its elements on
+  pub record LoopSite (c : Loop) (next : ℕ) : Type 0 where
+    pub ways : List ℕ
+    pub at_body : BodySite c next (λ body. item_order scope.layout c.item 3 ∷ order.Load ∷ order.LoopWay ways ∷ [])
+    pub open at_body use *
+    pub few : length c.elements < 32767
+    pub built : IsTrue (are_elements u has_words who answer c.scale c.elements)
+    -- the tail that sets the control variable
+    pub set : ℕ
+    pub tail : ℕ
+    pub tail_is : slice_get marks set ≡ Some tail
+    pub tail_marks : slice_get code tail ≡ Some order.Mark
+    pub sets : Stands code (tail + 1) (set_orders scope.layout c.line c.item) head
     -- the elements, and what stands behind them
     pub place : ℕ → ℕ
     pub free : ℕ → ℕ
@@ -90,24 +94,13 @@ module _ (orders_for : SourceUnit → Orders) (u : SourceUnit) (who : Option ℕ
 
   -- from the mark before the body on
   pub record SteppedSite (c : Loop) (next : ℕ) : Type 0 where
+    pub at_body : BodySite c next (λ body. order.NextStep (loop_place scope.layout c.item) c.line body ∷ [])
+    pub open at_body use *
     pub first : Expr
     pub step : Expr
     pub limit : Expr
     pub elements : c.elements ≡ element.Step first step limit ∷ []
-    pub words : IsTrue (has_words c.item 4)
     pub built : IsTrue (is_element u has_words who answer c.scale (element.Step first step limit))
-    pub body : ℕ
-    pub end : ℕ
-    pub head : ℕ
-    pub head_is : slice_get marks body ≡ Some head
-    pub head_marks : slice_get code head ≡ Some order.Mark
-    pub on : ℕ
-    pub body_at : StatementSite (head + 1) c.body 64 on
-    pub out : ℕ
-    pub goes_on : Stands code on (order.NextStep (loop_place scope.layout c.item) c.line body ∷ []) out
-    pub end_is : slice_get marks end ≡ Some out
-    pub out_marks : slice_get code out ≡ Some order.Mark
-    pub next_is : out + 1 ≡ next
 
   -- its values by the general way, and its first turn
   abbrev pub FirstSite : (q number : ℕ) → Loop → (next : ℕ) → Type 0

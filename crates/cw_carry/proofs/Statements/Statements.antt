@@ -1,7 +1,7 @@
 -- The orders follow the source through statements.
-use Rattle.std.proofs.Common.{◌≡◌, ◌⊎◌, inl, ⊎_elim, ℕ, zero, suc, ◌+◌, ◌<◌, ◌≤◌, List, [], ◌∷◌, map, length, Bool, true, false, Option, Some, refl, sym, ap, ap₂, ◌∙◌, subst, arith}
+use Rattle.std.proofs.Common.{◌≡◌, ◌⊎◌, inl, ⊎_elim, ℕ, suc, ◌+◌, ◌<◌, ◌≤◌, List, [], ◌∷◌, map, length, Bool, true, false, Option, Some, refl, sym, ap, ap₂, ◌∙◌, subst, arith}
 use Rattle.std.specs.Prelude.{slice_get, IsTrue, ◌&&◌, is_some, nat_lt}
-use Rattle.std.proofs.lemmas.Bool.{false≢true, ltb-true, or_left, or_right}
+use Rattle.std.proofs.lemmas.Bool.{ltb-true, or_left, or_right}
 use Rattle.cw_track.proofs.Paths.{stay}
 use Rattle.cw_track.proofs.Watching.{same}
 use Rattle.cw_unit.specs.declared.unit.Unit.{Unit as SourceUnit}
@@ -35,7 +35,7 @@ use Rattle.cw_gen_expr.proofs.Layers.{total}
 use Rattle.cw_carry.proofs.Expressions.Standing.{Stands, Made, both_made, saved_made, one_made, parted_made}
 use Rattle.cw_carry.proofs.Expressions.Carried.{Leads, here, past, Via, wider, after_call, takes_number, who_of, going, beginning}
 use Rattle.cw_carry.proofs.Expressions.Stepping.{Compiled, source, target, Belong, quietly, work_size, order_here, silent}
-use Rattle.cw_carry.proofs.Expressions.Moments.{both, Moment, here_in, layout, scope, has_words, code, marks, At, Leads_to, at_close, past_save, StepsNoting, config, next}
+use Rattle.cw_carry.proofs.Expressions.Moments.{both, a_level, Moment, here_in, layout, scope, has_words, code, marks, At, Leads_to, at_close, past_save, StepsNoting, config, next}
 use Rattle.cw_carry.proofs.Expressions.Values.{given_at}
 use Rattle.cw_gen_unit.specs.ReferenceStatements.{begin_orders, after_statement_call, jump_order, jump_piece, begun_loop, parted_piece, jump_past, statement_piece}
 use Rattle.cw_gen_unit.specs.Endings.{list_ends, ends_behind, comes_to_end}
@@ -130,10 +130,6 @@ module _ (c : Compiled) (at_sites : (g : ℕ) (u : SourceUnit) (who : Option ℕ
   stored_at r line q n free last os k' b made carried =
       let parts = one_made (code c t) (marks c t) (reference_of (at_line line (scope c t)) r).address os q n free last made in
       (parts.0, free, parts.1, b, parts.2, refl, (parts.0, true, here refl refl, carried parts.0 parts.3))
-
-  a_level : (levels : ℕ) (p : ℕ → Bool) → IsTrue (within levels p) → (m : ℕ) × (levels ≡ suc m) × IsTrue (p m)
-  a_level zero p h = absurd (false≢true h)
-  a_level (suc m) p h = (m, refl, h)
 
   after_is : (tg : Target) → after_statement_call tg ≡ after_call tg false
   after_is (target_of.Own p) = refl
