@@ -171,12 +171,9 @@ operated_told names place number short s (uses.Compare c m) =
     (branch_told short c (place + pieces_size (with_operand 7 s)) (mark_place names m))
 
 pub block_told : (names : Names) (place number : ℕ) (short : Bool) (b : Block) (o : Order) → Told (block_pieces names place number short b o)
-block_told names place number short (block.Within n) o = refl
 block_told names place number short block.Single o = order_told short names place number o
 block_told names place number short (block.Fetch x) o = loads_told x
 block_told names place number short (block.Assign x) o = stores_told x
-block_told names place number short block.Write o = refl
-block_told names place number short (block.Divide w line) o = refl
 block_told names place number short (block.Operate s u) o = operated_told names place number short s u
 block_told names place number short (block.FetchPart x t b is_signed) o = part_loaded_told x t b is_signed
 block_told names place number short (block.AssignPart x t b) o =
@@ -188,9 +185,9 @@ block_told names place number short (block.Count down line) o = check_told short
 block_told names place number short (block.Halve w power places line) o = shifted_told (shift_down_signed_once ax) (shift_down_signed ax) places
 block_told names place number short (block.Bounded b) o = bounded_told b
 block_told names place number short (block.Row r) o = row_told r
-block_told names place number short (block.FetchBoth n m) o = refl
 block_told names place number short (block.CompareWord n w c m) o =
     branch_told short c (place + pieces_size (word_compared n w)) (mark_place names m)
+block_told names place number short _ o = refl
 
 -- ---- a segment
 

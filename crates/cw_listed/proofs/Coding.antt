@@ -25,16 +25,10 @@ coded_by value (coded.Whole i) fine = fine
 coded_by value (coded.Move reg t) fine = (fine.0, omega arith)
 coded_by value (coded.Sum reg t) fine = (omega arith, fine.0, omega arith)
 coded_by value (coded.Fetch reg t) fine = (fine.0, omega arith)
-coded_by value (coded.Load t) fine = tt
-coded_by value (coded.Store t) fine = tt
-coded_by value (coded.PushCode t) fine = tt
 coded_by value (coded.Operate op reg t) fine = (fine.0, fine.1, omega arith)
 coded_by value (coded.Change op reg t) fine = (fine.0, fine.1, omega arith)
-coded_by value (coded.Call t) fine = tt
-coded_by value (coded.Jump t) fine = tt
-coded_by value (coded.Word t) fine = tt
 coded_by value (coded.Data n) fine = fine
-coded_by value (coded.Way t) fine = tt
+coded_by value _ fine = tt
 
 all_coded_by : (value : Filling) (ps : List Coded) → AllFine value ps → AllCoded ps
 all_coded_by value [] fine = tt

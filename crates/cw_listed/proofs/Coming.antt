@@ -1,20 +1,19 @@
 -- Where pieces are told, words of data stand at all places at which they are said to come.
 use Rattle.std.proofs.Common.{◌≡◌, ℕ, ◌+◌, ◌-◌, ◌<◌, ◌≤◌, ◌==◌, nat_lt, nat_le, if◌then◌else◌, Bool, true, false, ◌||◌, List}
-use Rattle.std.proofs.Common.{[], ◌∷◌, ◌++◌, map, Option, Some, None, refl, sym, ap, ap₂, ◌∙◌, subst, arith}
+use Rattle.std.proofs.Common.{[], ◌∷◌, map, Option, Some, None, refl, sym, ap, ap₂, ◌∙◌, subst, arith}
 use Rattle.std.proofs.Common.{length-append, true≢false, ⊎_elim, ne_eqb, eqb-true, ltb-true, ltb-false, leb-true}
 use Rattle.std.proofs.lemmas.List.{map-append}
 use Rattle.std.proofs.lemmas.List.Concat.{flat_map-append}
 use Rattle.std.proofs.lemmas.Bool.Decides.{eqb_tells}
 use Rattle.cw_unit.specs.declared.layout.Reloc.{Reloc}
 use Rattle.cw_tmpl.specs.declared.pieces.Target.{Target}
-use Rattle.cw_tmpl.specs.declared.pieces.Target.TheVariants as target
 use Rattle.cw_tmpl.specs.declared.pieces.Coded.{Coded}
-use Rattle.cw_tmpl.specs.Pieces.{bytes_with, size_of, target_of, blanks, relocation_of, relocation_before, relocations}
+use Rattle.cw_tmpl.specs.Pieces.{bytes_with, size_of, target_of, blanks, relocation_before, relocations}
 use Rattle.cw_listing.specs.Lines.{is_among}
-use Rattle.cw_listing.specs.Remarks.{words_behind, words_behind_call}
+use Rattle.cw_listing.specs.Remarks.{words_behind_call}
 use Rattle.cw_listed.specs.Behind.{is_word, places_behind, HasWord, HasWordsBehind}
 use Rattle.cw_listed.proofs.Walk.{behind_target, passed, is_clear, is_due, coming_behind, is_none, are_told, Told, parts}
-use Rattle.cw_listed.proofs.Places.{or_assoc, or-false, among-append, from_place, Sized, sized, known_here, told_first, told_rest, told_due}
+use Rattle.cw_listed.proofs.Places.{or_assoc, among-append, from_place, one_behind, Sized, sized, known_here, told_first, told_rest, told_due}
 
 -- behind so many bytes in which none comes but at their beginning, the offsets count from their end
 clear_of : (o n : ℕ) → (o == 0 || nat_le n o) ≡ true → o < n → o ≡ 0
@@ -38,22 +37,6 @@ moved_clear m n k q (o ∷ os) e h apart =
         let first : o ≡ 0 = clear_of o n clear (less refl) in
         ap (λ b. b || is_among (from_place m os) q) (ne_eqb (m + o) q (λ x. apart (omega arith))) ∙ rest
     by rest clear false less more = ap₂ (λ a b. (a == q) || b) (let same : m + o ≡ k + (o - n) = omega (arith, more refl) in same) rest
-
--- the places behind one relocation
-one_behind : (s end q : ℕ) (t : Target) → 2 ≤ end
-    → is_among (places_behind s (relocation_of (end - 2) t ∷ [])) q ≡ is_among (from_place (s + end) (behind_target (Some t))) q
-one_behind s end q (target.Word family offset) le = refl
-one_behind s end q (target.Bytes family offset) le = refl
-one_behind s end q (target.Place add) le = refl
-one_behind s end q (target.Definition d) le = refl
-one_behind s end q (target.DefinitionAhead d) le = refl
-one_behind s end q (target.Library k) le = refl
-one_behind s end q (target.LibraryAhead k) le =
-    let same : s + (end - 2) + 2 ≡ s + end = omega arith in
-    ap (λ m. is_among (from_place m (words_behind k) ++ []) q) same
-    ∙ among-append (from_place (s + end) (words_behind k)) [] q ∙ or-false (is_among (from_place (s + end) (words_behind k)) q)
-one_behind s end q (target.Limit l) le = refl
-one_behind s end q target.NextSegment le = refl
 
 behind_piece : (s at n q : ℕ) (t : Option Target) → Sized t n
     → is_among (places_behind s (relocation_before (at + n) t)) q ≡ is_among (from_place (s + (at + n)) (behind_target t)) q

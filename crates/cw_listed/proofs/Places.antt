@@ -84,22 +84,23 @@ word_places-append s q rs ts =
     ∙ or_crossed A B C D
     ∙ sym (ap₂ (λ x y. x || y) (among-append (map at rs) (places_behind s rs) q) (among-append (map at ts) (places_behind s ts) q))
 
+place_is : (place : ℕ) (t : Target) → (relocation_of place t).place ≡ place
+place_is place (target.Word family offset) = refl
+place_is place _ = refl
+
+-- the places behind one relocation
+pub one_behind : (s end q : ℕ) (t : Target) → 2 ≤ end
+    → is_among (places_behind s (relocation_of (end - 2) t ∷ [])) q ≡ is_among (from_place (s + end) (behind_target (Some t))) q
+one_behind s end q (target.LibraryAhead k) le =
+    let same : s + (end - 2) + 2 ≡ s + end = omega arith in
+    ap (λ m. is_among (from_place m (words_behind k) ++ []) q) same
+    ∙ among-append (from_place (s + end) (words_behind k)) [] q ∙ or-false (is_among (from_place (s + end) (words_behind k)) q)
+one_behind s end q _ le = refl
+
 -- one relocation: its word, and those behind the call
 one_told : (s end q : ℕ) (t : Target) → 2 ≤ end
     → is_among (word_places s (relocation_of (end - 2) t ∷ [])) q ≡ ((s + (end - 2) == q) || is_among (from_place (s + end) (behind_target (Some t))) q)
-one_told s end q (target.Word family offset) le = refl
-one_told s end q (target.Bytes family offset) le = refl
-one_told s end q (target.Place add) le = refl
-one_told s end q (target.Definition d) le = refl
-one_told s end q (target.DefinitionAhead d) le = refl
-one_told s end q (target.Library k) le = refl
-one_told s end q (target.LibraryAhead k) le =
-    let same : s + (end - 2) + 2 ≡ s + end = omega arith in
-    ap (λ m. (s + (end - 2) == q) || is_among (from_place m (words_behind k) ++ []) q) same
-    ∙ ap (λ b. (s + (end - 2) == q) || b) (among-append (from_place (s + end) (words_behind k)) [] q
-    ∙ or-false (is_among (from_place (s + end) (words_behind k)) q))
-one_told s end q (target.Limit l) le = refl
-one_told s end q target.NextSegment le = refl
+one_told s end q t le = ap₂ (λ p b. (s + p == q) || b) (place_is (end - 2) t) (one_behind s end q t le)
 
 abbrev pub Sized : Option Target → (size : ℕ) → Type 0
 Sized None n = Unit {0}
@@ -107,19 +108,8 @@ Sized (Some t) n = 2 ≤ n
 
 pub sized : (p : Coded) → Sized (target_of p) (size_of p)
 sized (coded.Whole i) = tt
-sized (coded.Move reg t) = omega arith
-sized (coded.Sum reg t) = omega arith
-sized (coded.Fetch reg t) = omega arith
-sized (coded.Load t) = omega arith
-sized (coded.Store t) = omega arith
-sized (coded.PushCode t) = omega arith
-sized (coded.Operate op reg t) = omega arith
-sized (coded.Change op reg t) = omega arith
-sized (coded.Call t) = omega arith
-sized (coded.Jump t) = omega arith
-sized (coded.Word t) = omega arith
 sized (coded.Data n) = tt
-sized (coded.Way t) = omega arith
+sized _ = omega arith
 
 -- none is before the piece
 before_piece : (s at n q : ℕ) (t : Option Target) → Sized t n → q < s + at → is_among (word_places s (relocation_before (at + n) t)) q ≡ false
@@ -180,18 +170,7 @@ none_due false e = refl
 due_word : (coming : List ℕ) (p : Coded) → is_due coming p ≡ true → (is_among coming 0 || is_relocated_word p) ≡ is_word p
 due_word coming (coded.Word t) h = or-true (is_among coming 0)
 due_word coming (coded.Data n) h = or-false (is_among coming 0) ∙ h
-due_word coming (coded.Whole i) h = none_due (is_among coming 0) h
-due_word coming (coded.Move reg t) h = none_due (is_among coming 0) h
-due_word coming (coded.Sum reg t) h = none_due (is_among coming 0) h
-due_word coming (coded.Fetch reg t) h = none_due (is_among coming 0) h
-due_word coming (coded.Load t) h = none_due (is_among coming 0) h
-due_word coming (coded.Store t) h = none_due (is_among coming 0) h
-due_word coming (coded.PushCode t) h = none_due (is_among coming 0) h
-due_word coming (coded.Operate op reg t) h = none_due (is_among coming 0) h
-due_word coming (coded.Change op reg t) h = none_due (is_among coming 0) h
-due_word coming (coded.Call t) h = none_due (is_among coming 0) h
-due_word coming (coded.Jump t) h = none_due (is_among coming 0) h
-due_word coming (coded.Way t) h = none_due (is_among coming 0) h
+due_word coming _ h = none_due (is_among coming 0) h
 
 -- ---- pieces one after another
 

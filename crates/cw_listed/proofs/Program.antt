@@ -29,15 +29,8 @@ use Rattle.cw_listed.proofs.Places.{among-append, or_crossed, Sized, sized, word
 -- ---- code that stands elsewhere
 
 moved_call : (s m x y : ℕ) (t : Target) → m + x ≡ s + y → words_behind_call m (relocation_of x t) ≡ words_behind_call s (relocation_of y t)
-moved_call s m x y (target.Word family offset) e = refl
-moved_call s m x y (target.Bytes family offset) e = refl
-moved_call s m x y (target.Place add) e = refl
-moved_call s m x y (target.Definition d) e = refl
-moved_call s m x y (target.DefinitionAhead d) e = refl
-moved_call s m x y (target.Library k) e = refl
 moved_call s m x y (target.LibraryAhead k) e = ap (λ n. map (λ o. (n + 2) + o) (words_behind k)) e
-moved_call s m x y (target.Limit l) e = refl
-moved_call s m x y target.NextSegment e = refl
+moved_call s m x y _ e = refl
 
 moved_places : (s m at to : ℕ) (ps : List Coded) → m + at ≡ s + to → map (λ r. m + r.place) (relocations at ps) ≡ map (λ r. s + r.place) (relocations to ps)
 moved_places s m at to [] e = refl

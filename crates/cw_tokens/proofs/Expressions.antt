@@ -1,28 +1,22 @@
 -- Expressions and conditions have at least as many tokens as they count.
 use Rattle.std.proofs.Common.{◌≡◌, ℕ, ◌+◌, ◌*◌, ◌≤◌, List, [], ◌∷◌, length, map, Option, Some, None, arith}
-use Rattle.cw_lex.specs.declared.token.Word.{Word}
 use Rattle.cw_tree.specs.declared.expression.RawBits.{RawBits}
 use Rattle.cw_tree.specs.declared.leaf.RawName.{RawName}
 use Rattle.cw_tree.specs.declared.expression.RawExpr.{RawExpr}
 use Rattle.cw_tree.specs.declared.expression.RawRef.TheVariants as ref_tree
 use Rattle.cw_grammar.specs.Tokens.{position, characters}
-use Rattle.cw_grammar.specs.Grammar.{a_list, an_option, a_position, a_name, a_number, an_octal, an_int, a_size, a_type, a_sign, a_factor_sign, a_compare_sign, a_bits, an_expr, a_cond, a_cand, a_cmp, a_sum, a_term, a_differ, a_union, a_mask, a_prim, a_primary, a_ref, many}
-use Rattle.cw_grammar.specs.Rules.{name, number, octal, int, sign, number_type, size, operator, factor_sign, comparator, bits, indexed_name, raw_literal, optional, reference, constant, worded, enclosed, named, primary, prim, mask, union, differ, term, sum, cmp, cand, condition, expr}
+use Rattle.cw_grammar.specs.Grammar.{a_list, an_option, an_octal, an_int, a_size, a_type, a_sign, a_bits, an_expr, a_cond, a_cand, a_cmp, a_sum, a_term, a_differ, a_union, a_mask, a_prim, a_primary, a_ref, many}
+use Rattle.cw_grammar.specs.Rules.{octal, int, sign, number_type, size, bits, indexed_name, raw_literal, optional, reference, constant, worded, enclosed, named, primary, prim, mask, union, differ, term, sum, cmp, cand, condition, expr}
 use Rattle.cw_grammar.specs.Trees.{extended}
 use Rattle.cw_tokens.specs.TreeTokens as tokens
 use Rattle.cw_tokens.specs.TreeTokens.{expr_tokens, primary_tokens, ref_tokens, cand_tokens, cmp_tokens, cond_tokens, differ_tokens, mask_tokens, prim_tokens, sum_tokens, term_tokens, union_tokens}
 use Rattle.cw_tokens.proofs.Lists.{between_extended, arguments_most}
 use Rattle.cw_tokens.proofs.Layers.{cond-made, cand-made, cmp-made, expr-Choice, primary-Number, primary-Octal, primary-Literal, primary-Text, primary-Location, primary-Forced, primary-Bracket, primary-Ref, primary-Call, ref-Name, ref-One, ref-Two, ref-Bare}
 use Rattle.cw_tokens.proofs.Held.{mask_most, union_most, differ_most, term_most, sum_most, expr_of_keeps, prim_of_keeps}
-use Rattle.cw_tokens.proofs.Built.{second_tokens, Built, b_one, b_none, b_then, b_left, b_right, b_end, b_more, b_map, b_opens, Counts, pairs_count}
+use Rattle.cw_tokens.proofs.Counting.{b_one, b_none, b_then, b_left, b_right, b_end, b_more, b_map, b_opens, pairs_count, name_counts, number_counts, sign_counts, factor_counts, comparator_counts, operator_counts}
+use Rattle.cw_tokens.proofs.Built.{second_tokens, Built, Counts}
 
 -- ---- names, numbers, types and signs
-
-pub name_counts : Counts a_name name (λ x. 1)
-name_counts x u (b_map b_one) = omega arith
-
-number_counts : Counts a_number number (λ x. 1)
-number_counts x u (b_map b_one) = omega arith
 
 octal_counts : Counts an_octal octal (λ x. 1)
 unfolding octal
@@ -38,28 +32,9 @@ unfolding number_type
 type_counts x u (b_left (b_map b_one)) = omega arith
 type_counts x u (b_right (b_map (b_then b_one d))) = omega arith
 
-sign_counts : Counts a_sign sign (λ x. 1)
-sign_counts x u (b_left (b_map b_one)) = omega arith
-sign_counts x u (b_right (b_map b_one)) = omega arith
-
 front_counts : Counts (an_option a_sign) (optional sign) tokens.sign
 front_counts x u (b_left (b_map {u = v} {x = y} d)) = sign_counts y v d
 front_counts x u (b_right b_none) = omega arith
-
-factor_counts : Counts a_factor_sign factor_sign (λ x. 1)
-factor_counts x u (b_left (b_map b_one)) = omega arith
-factor_counts x u (b_right (b_map b_one)) = omega arith
-
-comparator_counts : Counts a_compare_sign comparator (λ x. 1)
-comparator_counts x u (b_left (b_map b_one)) = omega arith
-comparator_counts x u (b_right (b_left (b_map b_one))) = omega arith
-comparator_counts x u (b_right (b_right (b_left (b_map b_one)))) = omega arith
-comparator_counts x u (b_right (b_right (b_right (b_left (b_map b_one))))) = omega arith
-comparator_counts x u (b_right (b_right (b_right (b_right (b_left (b_map b_one)))))) = omega arith
-comparator_counts x u (b_right (b_right (b_right (b_right (b_right (b_map b_one)))))) = omega arith
-
-operator_counts : {w : Word} → Counts a_position (operator w) (λ x. 1)
-operator_counts x u (b_map b_one) = omega arith
 
 size_counts : Counts a_size size (λ x. 5)
 unfolding size

@@ -18,7 +18,7 @@ use Rattle.cw_tree.specs.declared.expression.RawPrim.{RawPrim, out-RawPrim}
 use Rattle.cw_tree.specs.declared.expression.RawSum.{RawSum, out-RawSum}
 use Rattle.cw_tree.specs.declared.expression.RawTerm.{RawTerm, out-RawTerm}
 use Rattle.cw_tree.specs.declared.expression.RawUnion.{RawUnion, out-RawUnion}
-use Rattle.cw_grammar.specs.Trees.{sole, ◌>>-◌, Operands, extended, as_sum, sole_term, as_term, as_differ, as_union, as_mask, as_prim, bracket_primary, bracket_prim, bracket_mask, bracket_union, bracket_differ, bracket_term, bracket_sum, mask_start, union_start, differ_start, term_start, mask_tree, union_tree, differ_tree, term_tree, Terms, sum_tree, terms_of, sum_start, more_terms, expr_or, expr_of, prim_or, prim_of}
+use Rattle.cw_grammar.specs.Trees.{sole, ◌>>-◌, Operands, extended, first_of, as_sum, sole_term, as_term, as_differ, as_union, as_mask, as_prim, bracket_primary, bracket_prim, bracket_mask, bracket_union, bracket_differ, bracket_term, bracket_sum, mask_start, union_start, differ_start, term_start, mask_tree, union_tree, differ_tree, term_tree, Terms, sum_tree, terms_of, sum_start, more_terms, expr_or, expr_of, prim_or, prim_of}
 use Rattle.cw_tokens.specs.LeastTokens.{separated}
 use Rattle.cw_tokens.specs.TreeTokens.{between, sign, expr_step, primary_step, ref_step, cand_step, cmp_step, cond_step, differ_step, mask_step, prim_step, sum_step, term_step, union_step, expr_tokens, primary_tokens, ref_tokens, cand_tokens, cmp_tokens, cond_tokens, differ_tokens, mask_tokens, prim_tokens, sum_tokens, term_tokens, union_tokens}
 use Rattle.cw_tokens.proofs.Lists.{not_none, same_some, between_extended, Keeps, then_keeps, sole_keeps, first_keeps}
@@ -101,15 +101,8 @@ abbrev primary_layer : PrimaryLayer → ℕ
 primary_layer x = primary_step (map-RawPrimary RawExpr RawPrimary RawRef RawCand RawCmp RawCond RawDiffer RawMask RawPrim RawSum RawTerm RawUnion ℕ ℕ ℕ ℕ ℕ ℕ ℕ ℕ ℕ ℕ ℕ ℕ expr_tokens primary_tokens ref_tokens cand_tokens cmp_tokens cond_tokens differ_tokens mask_tokens prim_tokens sum_tokens term_tokens union_tokens x)
 
 held_in_layer : (x : PrimaryLayer) (e : RawExpr) → held x ≡ Some e → expr_tokens e ≡ primary_layer x
-held_in_layer (layer.Number n) e q = absurd (not_none q)
-held_in_layer (layer.Octal n) e q = absurd (not_none q)
-held_in_layer (layer.Literal c) e q = absurd (not_none q)
-held_in_layer (layer.Text at cs) e q = absurd (not_none q)
-held_in_layer (layer.Location at r) e q = absurd (not_none q)
-held_in_layer (layer.Forced t x) e q = absurd (not_none q)
 held_in_layer (layer.Bracket at x) e q = ap expr_tokens (sym (same_some q))
-held_in_layer (layer.Ref r) e q = absurd (not_none q)
-held_in_layer (layer.Call f xs) e q = absurd (not_none q)
+held_in_layer _ e q = absurd (not_none q)
 
 primary_held : Keeps primary_tokens expr_tokens bracket_primary
 primary_held x e q = held_in_layer (out-RawPrimary x) e q ∙ sym (fold_out-RawPrimary ℕ ℕ ℕ ℕ ℕ ℕ ℕ ℕ ℕ ℕ ℕ ℕ expr_step primary_step ref_step cand_step cmp_step cond_step differ_step mask_step prim_step sum_step term_step union_step x)
@@ -141,45 +134,27 @@ sum_held s e q = then_keeps (sum_tokens s) term_tokens expr_tokens (sole_term s)
 
 -- ---- operands: the first, and more behind their operators
 
-mask_begun : (x : RawPrim) → between (map prim_tokens (mask_start x).0) ≡ prim_tokens x
-mask_begun x =
-    first_keeps prim_tokens mask_tokens (λ m. ((out-RawMask m).operands, (out-RawMask m).operators)) (bracket_prim x >>- as_mask) x
-    (λ m e. then_keeps (prim_tokens x) expr_tokens mask_tokens (bracket_prim x) as_mask m (prim_held x) as_mask_keeps e) mask-layer
+-- A tree of a rule whose first operand is joined where its bracket holds a tree of the same rule.
+joined_most : {A B C : Type 0} (inner : A → ℕ) (outer : C → ℕ) (parts : C → Operands A B) (tree : Operands A B → C) (bracket : A → Option RawExpr) (narrow : RawExpr → Option C)
+    → Keeps inner expr_tokens bracket → Keeps expr_tokens outer narrow → ((c : C) → outer c ≡ between (map inner (parts c).0)) → ((xs : List A) (os : List B) → outer (tree (xs, os)) ≡ between (map inner xs))
+    → (x : A) (more : List (B × A)) → outer (tree (extended (first_of parts (bracket x >>- narrow) x) more)) ≤ inner x + separated (map (λ z. inner z.1) more)
+joined_most {A = A} {B = B} inner outer parts tree bracket narrow held narrowed taken makes x more =
+    let start : Operands A B = first_of parts (bracket x >>- narrow) x in
+    let ops : Operands A B = extended start more in
+    let begun : between (map inner start.0) ≡ inner x = first_keeps inner outer parts (bracket x >>- narrow) x (λ c e. then_keeps (inner x) expr_tokens outer (bracket x) narrow c (held x) narrowed e) taken in
+    omega (arith, makes ops.0 ops.1, between_extended inner start more, begun)
 
 pub mask_most : (x : RawPrim) (more : List (Position × RawPrim)) → mask_tokens (mask_tree (extended (mask_start x) more)) ≤ prim_tokens x + separated (map (λ z. prim_tokens z.1) more)
-mask_most x more =
-    let ops : Operands RawPrim Position = extended (mask_start x) more in
-    omega (arith, mask-made ops.0 ops.1, between_extended prim_tokens (mask_start x) more, mask_begun x)
-
-union_begun : (x : RawMask) → between (map mask_tokens (union_start x).0) ≡ mask_tokens x
-union_begun x =
-    first_keeps mask_tokens union_tokens (λ m. ((out-RawUnion m).operands, (out-RawUnion m).operators)) (bracket_mask x >>- as_union) x
-    (λ m e. then_keeps (mask_tokens x) expr_tokens union_tokens (bracket_mask x) as_union m (mask_held x) as_union_keeps e) union-layer
+mask_most = joined_most prim_tokens mask_tokens (λ m. ((out-RawMask m).operands, (out-RawMask m).operators)) mask_tree bracket_prim as_mask prim_held as_mask_keeps mask-layer mask-made
 
 pub union_most : (x : RawMask) (more : List (Position × RawMask)) → union_tokens (union_tree (extended (union_start x) more)) ≤ mask_tokens x + separated (map (λ z. mask_tokens z.1) more)
-union_most x more =
-    let ops : Operands RawMask Position = extended (union_start x) more in
-    omega (arith, union-made ops.0 ops.1, between_extended mask_tokens (union_start x) more, union_begun x)
-
-differ_begun : (x : RawUnion) → between (map union_tokens (differ_start x).0) ≡ union_tokens x
-differ_begun x =
-    first_keeps union_tokens differ_tokens (λ m. ((out-RawDiffer m).operands, (out-RawDiffer m).operators)) (bracket_union x >>- as_differ) x
-    (λ m e. then_keeps (union_tokens x) expr_tokens differ_tokens (bracket_union x) as_differ m (union_held x) as_differ_keeps e) differ-layer
+union_most = joined_most mask_tokens union_tokens (λ m. ((out-RawUnion m).operands, (out-RawUnion m).operators)) union_tree bracket_mask as_union mask_held as_union_keeps union-layer union-made
 
 pub differ_most : (x : RawUnion) (more : List (Position × RawUnion)) → differ_tokens (differ_tree (extended (differ_start x) more)) ≤ union_tokens x + separated (map (λ z. union_tokens z.1) more)
-differ_most x more =
-    let ops : Operands RawUnion Position = extended (differ_start x) more in
-    omega (arith, differ-made ops.0 ops.1, between_extended union_tokens (differ_start x) more, differ_begun x)
-
-term_begun : (x : RawDiffer) → between (map differ_tokens (term_start x).0) ≡ differ_tokens x
-term_begun x =
-    first_keeps differ_tokens term_tokens (λ m. ((out-RawTerm m).operands, (out-RawTerm m).operators)) (bracket_differ x >>- as_term) x
-    (λ m e. then_keeps (differ_tokens x) expr_tokens term_tokens (bracket_differ x) as_term m (differ_held x) as_term_keeps e) term-layer
+differ_most = joined_most union_tokens differ_tokens (λ m. ((out-RawDiffer m).operands, (out-RawDiffer m).operators)) differ_tree bracket_union as_differ union_held as_differ_keeps differ-layer differ-made
 
 pub term_most : (x : RawDiffer) (more : List (RawFactorSign × RawDiffer)) → term_tokens (term_tree (extended (term_start x) more)) ≤ differ_tokens x + separated (map (λ z. differ_tokens z.1) more)
-term_most x more =
-    let ops : Operands RawDiffer RawFactorSign = extended (term_start x) more in
-    omega (arith, term-made ops.0 ops.1, between_extended differ_tokens (term_start x) more, term_begun x)
+term_most = joined_most differ_tokens term_tokens (λ m. ((out-RawTerm m).operands, (out-RawTerm m).operators)) term_tree bracket_differ as_term differ_held as_term_keeps term-layer term-made
 
 -- ---- sums
 

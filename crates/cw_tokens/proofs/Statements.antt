@@ -18,8 +18,9 @@ use Rattle.cw_lex.specs.declared.token.Symbol.TheVariants as symbols
 use Rattle.cw_tokens.specs.TreeTokens.{total, expr_tokens, cond_tokens, felem_tokens, param_tokens, simple_tokens, form_tokens, stmt_tokens, decl_tokens, text_tokens}
 use Rattle.cw_tokens.proofs.Lists.{arguments_most, total_most, all_ones}
 use Rattle.cw_tokens.proofs.Layers.{ref-Name, ref-Bare, decl-Data, decl-Overlay, decl-Switch, decl-Proc, form-Simple, if_alone, if_else, form-For, simple-Empty, simple-Assign, simple-AssignBits, simple-Goto, simple-GotoSwitch, simple-Call, simple-Answer, simple-Block, block-made, proc-made, stmt-made, stmt-layer}
-use Rattle.cw_tokens.proofs.Built.{behind_else, Built, b_one, b_none, b_then, b_left, b_right, b_map, b_opens, b_again, Counts, some_counts, token_counts}
-use Rattle.cw_tokens.proofs.Expressions.{name_counts, type_counts, bits_counts, indexed_most, reference_counts, condition_counts, expr_counts}
+use Rattle.cw_tokens.proofs.Counting.{b_one, b_none, b_then, b_left, b_right, b_map, b_opens, b_again, token_counts, name_counts}
+use Rattle.cw_tokens.proofs.Built.{behind_else, Built, Counts, some_counts}
+use Rattle.cw_tokens.proofs.Expressions.{type_counts, bits_counts, indexed_most, reference_counts, condition_counts, expr_counts}
 
 -- ---- simple statements
 

@@ -14,160 +14,135 @@ use Rattle.cw_tree.specs.declared.leaf.RawFactorSign.{RawFactorSign}
 use Rattle.cw_tree.specs.declared.leaf.RawCompareSign.{RawCompareSign}
 use Rattle.cw_tree.specs.declared.expression.RawBits.{RawBits}
 use Rattle.cw_tree.specs.declared.expression.RawExpr.TheOpen as layer
-use Rattle.cw_tree.specs.declared.expression.RawExpr.{RawExpr, fold-roll-RawExpr}
-use Rattle.cw_tree.specs.declared.expression.RawPrimary.{RawPrimary, fold-roll-RawPrimary}
-use Rattle.cw_tree.specs.declared.expression.RawRef.{RawRef, fold-roll-RawRef}
+use Rattle.cw_tree.specs.declared.expression.RawExpr.{RawExpr, map-RawExpr, roll-RawExpr, fold-roll-RawExpr}
+use Rattle.cw_tree.specs.declared.expression.RawPrimary.{RawPrimary, map-RawPrimary, roll-RawPrimary, fold-roll-RawPrimary}
+use Rattle.cw_tree.specs.declared.expression.RawRef.{RawRef, map-RawRef, roll-RawRef, fold-roll-RawRef}
 use Rattle.cw_tree.specs.declared.expression.RawCand.{RawCand, roll-RawCand, fold-roll-RawCand}
 use Rattle.cw_tree.specs.declared.expression.RawCmp.{RawCmp, roll-RawCmp, fold-roll-RawCmp}
 use Rattle.cw_tree.specs.declared.expression.RawCond.{RawCond, roll-RawCond, fold-roll-RawCond}
-use Rattle.cw_tree.specs.declared.expression.RawDiffer.{RawDiffer, roll-RawDiffer, fold-roll-RawDiffer}
-use Rattle.cw_tree.specs.declared.expression.RawMask.{RawMask, roll-RawMask, fold-roll-RawMask}
+use Rattle.cw_tree.specs.declared.expression.RawDiffer.{RawDiffer, out-RawDiffer, roll-RawDiffer, fold-roll-RawDiffer}
+use Rattle.cw_tree.specs.declared.expression.RawMask.{RawMask, out-RawMask, roll-RawMask, fold-roll-RawMask}
 use Rattle.cw_tree.specs.declared.expression.RawPrim.{RawPrim, roll-RawPrim, fold-roll-RawPrim}
 use Rattle.cw_tree.specs.declared.expression.RawSum.{RawSum, roll-RawSum, fold-roll-RawSum}
-use Rattle.cw_tree.specs.declared.expression.RawTerm.{RawTerm, roll-RawTerm, fold-roll-RawTerm}
-use Rattle.cw_tree.specs.declared.expression.RawUnion.{RawUnion, roll-RawUnion, fold-roll-RawUnion}
+use Rattle.cw_tree.specs.declared.expression.RawTerm.{RawTerm, out-RawTerm, roll-RawTerm, fold-roll-RawTerm}
+use Rattle.cw_tree.specs.declared.expression.RawUnion.{RawUnion, out-RawUnion, roll-RawUnion, fold-roll-RawUnion}
 use Rattle.cw_tree.specs.declared.expression.RawExpr.TheVariants as expr_tree
 use Rattle.cw_tree.specs.declared.expression.RawPrimary.TheVariants as primary_tree
 use Rattle.cw_tree.specs.declared.expression.RawRef.TheVariants as ref_tree
+use Rattle.cw_grammar.specs.Trees.{Operands}
+use Rattle.cw_derived.proofs.Layers.{ExprLayer, PrimaryLayer, RefLayer}
 use Rattle.cw_show.specs.Spelling.{word, symbol}
 use Rattle.cw_show.specs.Canonical.{Tokens, name, number, literal, string, octal_tokens, add_symbol, multiply_symbol, compare_symbol, sign_tokens, type_tokens, between, operation, joined, comma, bracketed, indexed}
 use Rattle.cw_show.specs.ExpressionTokens.{bits_tokens, expr_step, primary_step, ref_step, cand_step, cmp_step, cond_step, differ_step, mask_step, prim_step, sum_step, term_step, union_step, expr_tokens, primary_tokens, ref_tokens, cand_tokens, cmp_tokens, cond_tokens, differ_tokens, mask_tokens, prim_tokens, sum_tokens, term_tokens, union_tokens}
-use Rattle.cw_read_back.specs.Expressions.Unplaced.{nowhere, unplaced_name, unplaced_number, unplaced_octal, unplaced_literal, unplaced_type, unplaced_sign, unplaced_factor, unplaced_compare, unplaced_bits, unplaced_all, unplaced_expr_step, unplaced_primary_step, unplaced_ref_step, unplaced_cand_step, unplaced_cmp_step, unplaced_cond_step, unplaced_differ_step, unplaced_mask_step, unplaced_prim_step, unplaced_sum_step, unplaced_term_step, unplaced_union_step, unplaced_expr, unplaced_primary, unplaced_ref, unplaced_cand, unplaced_cmp, unplaced_cond, unplaced_differ, unplaced_mask, unplaced_prim, unplaced_sum, unplaced_term, unplaced_union}
+use Rattle.cw_read_back.specs.Expressions.Unplaced.{unplaced_sign, unplaced_factor, unplaced_compare, unplaced_bits, unplaced_all, unplaced_expr_step, unplaced_primary_step, unplaced_ref_step, unplaced_cand_step, unplaced_cmp_step, unplaced_cond_step, unplaced_differ_step, unplaced_mask_step, unplaced_prim_step, unplaced_sum_step, unplaced_term_step, unplaced_union_step, unplaced_expr, unplaced_primary, unplaced_ref, unplaced_cand, unplaced_cmp, unplaced_cond, unplaced_differ, unplaced_mask, unplaced_prim, unplaced_sum, unplaced_term, unplaced_union}
+
+-- ---- the tokens of a tree that is rolled of a layer
+
+abbrev expr_written : ExprLayer → Tokens
+expr_written l = expr_step (map-RawExpr RawExpr RawPrimary RawRef RawCand RawCmp RawCond RawDiffer RawMask RawPrim RawSum RawTerm RawUnion Tokens Tokens Tokens Tokens Tokens Tokens Tokens Tokens Tokens Tokens Tokens Tokens
+    expr_tokens primary_tokens ref_tokens cand_tokens cmp_tokens cond_tokens differ_tokens mask_tokens prim_tokens sum_tokens term_tokens union_tokens l)
+
+expr_rolled : (l : ExprLayer) {x : RawExpr} → roll-RawExpr l ≡ x → expr_tokens x ≡ expr_written l
+expr_rolled l e = ap expr_tokens (sym e) ∙ fold-roll-RawExpr Tokens Tokens Tokens Tokens Tokens Tokens Tokens Tokens Tokens Tokens Tokens Tokens
+    expr_step primary_step ref_step cand_step cmp_step cond_step differ_step mask_step prim_step sum_step term_step union_step l
+
+abbrev primary_written : PrimaryLayer → Tokens
+primary_written l = primary_step (map-RawPrimary RawExpr RawPrimary RawRef RawCand RawCmp RawCond RawDiffer RawMask RawPrim RawSum RawTerm RawUnion Tokens Tokens Tokens Tokens Tokens Tokens Tokens Tokens Tokens Tokens Tokens Tokens
+    expr_tokens primary_tokens ref_tokens cand_tokens cmp_tokens cond_tokens differ_tokens mask_tokens prim_tokens sum_tokens term_tokens union_tokens l)
+
+primary_rolled : (l : PrimaryLayer) {x : RawPrimary} → roll-RawPrimary l ≡ x → primary_tokens x ≡ primary_written l
+primary_rolled l e = ap primary_tokens (sym e) ∙ fold-roll-RawPrimary Tokens Tokens Tokens Tokens Tokens Tokens Tokens Tokens Tokens Tokens Tokens Tokens
+    expr_step primary_step ref_step cand_step cmp_step cond_step differ_step mask_step prim_step sum_step term_step union_step l
+
+abbrev ref_written : RefLayer → Tokens
+ref_written l = ref_step (map-RawRef RawExpr RawPrimary RawRef RawCand RawCmp RawCond RawDiffer RawMask RawPrim RawSum RawTerm RawUnion Tokens Tokens Tokens Tokens Tokens Tokens Tokens Tokens Tokens Tokens Tokens Tokens
+    expr_tokens primary_tokens ref_tokens cand_tokens cmp_tokens cond_tokens differ_tokens mask_tokens prim_tokens sum_tokens term_tokens union_tokens l)
+
+ref_rolled : (l : RefLayer) {x : RawRef} → roll-RawRef l ≡ x → ref_tokens x ≡ ref_written l
+ref_rolled l e = ap ref_tokens (sym e) ∙ fold-roll-RawRef Tokens Tokens Tokens Tokens Tokens Tokens Tokens Tokens Tokens Tokens Tokens Tokens
+    expr_step primary_step ref_step cand_step cmp_step cond_step differ_step mask_step prim_step sum_step term_step union_step l
 
 pub choice-tokens : (at : Position) (c : RawCond) (x : RawExpr) (y : RawExpr) → expr_tokens (expr_tree.Choice at c x y) ≡ word words.If ∷ (cond_tokens c ++ word words.Then ∷ (expr_tokens x ++ word words.Else ∷ expr_tokens y))
-choice-tokens at c x y = ap expr_tokens (sym (expr_tree.rolls-Choice at c x y)) ∙ fold-roll-RawExpr Tokens Tokens Tokens Tokens Tokens Tokens Tokens Tokens Tokens Tokens Tokens Tokens
-    expr_step primary_step ref_step cand_step cmp_step cond_step differ_step mask_step prim_step sum_step term_step union_step (layer.Choice at c x y)
-
-pub choice-bare : (at : Position) (c : RawCond) (x : RawExpr) (y : RawExpr) → unplaced_expr (expr_tree.Choice at c x y) ≡ expr_tree.Choice nowhere (unplaced_cond c) (unplaced_expr x) (unplaced_expr y)
-choice-bare at c x y = ap unplaced_expr (sym (expr_tree.rolls-Choice at c x y)) ∙ fold-roll-RawExpr RawExpr RawPrimary RawRef RawCand RawCmp RawCond RawDiffer RawMask RawPrim RawSum RawTerm RawUnion
-    unplaced_expr_step unplaced_primary_step unplaced_ref_step unplaced_cand_step unplaced_cmp_step unplaced_cond_step unplaced_differ_step unplaced_mask_step unplaced_prim_step unplaced_sum_step unplaced_term_step unplaced_union_step (layer.Choice at c x y)
-    ∙ expr_tree.rolls-Choice nowhere (unplaced_cond c) (unplaced_expr x) (unplaced_expr y)
+choice-tokens at c x y = expr_rolled (layer.Choice at c x y) (expr_tree.rolls-Choice at c x y)
 
 pub sum_expr-tokens : (x : RawSum) → expr_tokens (expr_tree.Sum x) ≡ sum_tokens x
-sum_expr-tokens x = ap expr_tokens (sym (expr_tree.rolls-Sum x)) ∙ fold-roll-RawExpr Tokens Tokens Tokens Tokens Tokens Tokens Tokens Tokens Tokens Tokens Tokens Tokens
-    expr_step primary_step ref_step cand_step cmp_step cond_step differ_step mask_step prim_step sum_step term_step union_step (layer.Sum x)
-
-pub sum_expr-bare : (x : RawSum) → unplaced_expr (expr_tree.Sum x) ≡ expr_tree.Sum (unplaced_sum x)
-sum_expr-bare x = ap unplaced_expr (sym (expr_tree.rolls-Sum x)) ∙ fold-roll-RawExpr RawExpr RawPrimary RawRef RawCand RawCmp RawCond RawDiffer RawMask RawPrim RawSum RawTerm RawUnion
-    unplaced_expr_step unplaced_primary_step unplaced_ref_step unplaced_cand_step unplaced_cmp_step unplaced_cond_step unplaced_differ_step unplaced_mask_step unplaced_prim_step unplaced_sum_step unplaced_term_step unplaced_union_step (layer.Sum x)
-    ∙ expr_tree.rolls-Sum (unplaced_sum x)
+sum_expr-tokens x = expr_rolled (layer.Sum x) (expr_tree.rolls-Sum x)
 
 pub number-tokens : (n : RawNumber) → primary_tokens (primary_tree.Number n) ≡ number n.number ∷ []
-number-tokens n = ap primary_tokens (sym (primary_tree.rolls-Number n)) ∙ fold-roll-RawPrimary Tokens Tokens Tokens Tokens Tokens Tokens Tokens Tokens Tokens Tokens Tokens Tokens
-    expr_step primary_step ref_step cand_step cmp_step cond_step differ_step mask_step prim_step sum_step term_step union_step (layer.Number n)
-
-pub number-bare : (n : RawNumber) → unplaced_primary (primary_tree.Number n) ≡ primary_tree.Number (unplaced_number n)
-number-bare n = ap unplaced_primary (sym (primary_tree.rolls-Number n)) ∙ fold-roll-RawPrimary RawExpr RawPrimary RawRef RawCand RawCmp RawCond RawDiffer RawMask RawPrim RawSum RawTerm RawUnion
-    unplaced_expr_step unplaced_primary_step unplaced_ref_step unplaced_cand_step unplaced_cmp_step unplaced_cond_step unplaced_differ_step unplaced_mask_step unplaced_prim_step unplaced_sum_step unplaced_term_step unplaced_union_step (layer.Number n)
-    ∙ primary_tree.rolls-Number (unplaced_number n)
+number-tokens n = primary_rolled (layer.Number n) (primary_tree.rolls-Number n)
 
 pub octal-tokens : (n : RawOctal) → primary_tokens (primary_tree.Octal n) ≡ octal_tokens n
-octal-tokens n = ap primary_tokens (sym (primary_tree.rolls-Octal n)) ∙ fold-roll-RawPrimary Tokens Tokens Tokens Tokens Tokens Tokens Tokens Tokens Tokens Tokens Tokens Tokens
-    expr_step primary_step ref_step cand_step cmp_step cond_step differ_step mask_step prim_step sum_step term_step union_step (layer.Octal n)
-
-pub octal-bare : (n : RawOctal) → unplaced_primary (primary_tree.Octal n) ≡ primary_tree.Octal (unplaced_octal n)
-octal-bare n = ap unplaced_primary (sym (primary_tree.rolls-Octal n)) ∙ fold-roll-RawPrimary RawExpr RawPrimary RawRef RawCand RawCmp RawCond RawDiffer RawMask RawPrim RawSum RawTerm RawUnion
-    unplaced_expr_step unplaced_primary_step unplaced_ref_step unplaced_cand_step unplaced_cmp_step unplaced_cond_step unplaced_differ_step unplaced_mask_step unplaced_prim_step unplaced_sum_step unplaced_term_step unplaced_union_step (layer.Octal n)
-    ∙ primary_tree.rolls-Octal (unplaced_octal n)
+octal-tokens n = primary_rolled (layer.Octal n) (primary_tree.rolls-Octal n)
 
 pub literal-tokens : (c : RawLiteral) → primary_tokens (primary_tree.Literal c) ≡ literal c.byte ∷ []
-literal-tokens c = ap primary_tokens (sym (primary_tree.rolls-Literal c)) ∙ fold-roll-RawPrimary Tokens Tokens Tokens Tokens Tokens Tokens Tokens Tokens Tokens Tokens Tokens Tokens
-    expr_step primary_step ref_step cand_step cmp_step cond_step differ_step mask_step prim_step sum_step term_step union_step (layer.Literal c)
-
-pub literal-bare : (c : RawLiteral) → unplaced_primary (primary_tree.Literal c) ≡ primary_tree.Literal (unplaced_literal c)
-literal-bare c = ap unplaced_primary (sym (primary_tree.rolls-Literal c)) ∙ fold-roll-RawPrimary RawExpr RawPrimary RawRef RawCand RawCmp RawCond RawDiffer RawMask RawPrim RawSum RawTerm RawUnion
-    unplaced_expr_step unplaced_primary_step unplaced_ref_step unplaced_cand_step unplaced_cmp_step unplaced_cond_step unplaced_differ_step unplaced_mask_step unplaced_prim_step unplaced_sum_step unplaced_term_step unplaced_union_step (layer.Literal c)
-    ∙ primary_tree.rolls-Literal (unplaced_literal c)
+literal-tokens c = primary_rolled (layer.Literal c) (primary_tree.rolls-Literal c)
 
 pub string-tokens : (at : Position) (cs : List ℕ) → primary_tokens (primary_tree.Text at cs) ≡ string cs ∷ []
-string-tokens at cs = ap primary_tokens (sym (primary_tree.rolls-Text at cs)) ∙ fold-roll-RawPrimary Tokens Tokens Tokens Tokens Tokens Tokens Tokens Tokens Tokens Tokens Tokens Tokens
-    expr_step primary_step ref_step cand_step cmp_step cond_step differ_step mask_step prim_step sum_step term_step union_step (layer.Text at cs)
-
-pub string-bare : (at : Position) (cs : List ℕ) → unplaced_primary (primary_tree.Text at cs) ≡ primary_tree.Text nowhere cs
-string-bare at cs = ap unplaced_primary (sym (primary_tree.rolls-Text at cs)) ∙ fold-roll-RawPrimary RawExpr RawPrimary RawRef RawCand RawCmp RawCond RawDiffer RawMask RawPrim RawSum RawTerm RawUnion
-    unplaced_expr_step unplaced_primary_step unplaced_ref_step unplaced_cand_step unplaced_cmp_step unplaced_cond_step unplaced_differ_step unplaced_mask_step unplaced_prim_step unplaced_sum_step unplaced_term_step unplaced_union_step (layer.Text at cs)
-    ∙ primary_tree.rolls-Text nowhere cs
+string-tokens at cs = primary_rolled (layer.Text at cs) (primary_tree.rolls-Text at cs)
 
 pub location-tokens : (at : Position) (r : RawRef) → primary_tokens (primary_tree.Location at r) ≡ word words.Location ∷ bracketed (ref_tokens r)
-location-tokens at r = ap primary_tokens (sym (primary_tree.rolls-Location at r)) ∙ fold-roll-RawPrimary Tokens Tokens Tokens Tokens Tokens Tokens Tokens Tokens Tokens Tokens Tokens Tokens
-    expr_step primary_step ref_step cand_step cmp_step cond_step differ_step mask_step prim_step sum_step term_step union_step (layer.Location at r)
-
-pub location-bare : (at : Position) (r : RawRef) → unplaced_primary (primary_tree.Location at r) ≡ primary_tree.Location nowhere (unplaced_ref r)
-location-bare at r = ap unplaced_primary (sym (primary_tree.rolls-Location at r)) ∙ fold-roll-RawPrimary RawExpr RawPrimary RawRef RawCand RawCmp RawCond RawDiffer RawMask RawPrim RawSum RawTerm RawUnion
-    unplaced_expr_step unplaced_primary_step unplaced_ref_step unplaced_cand_step unplaced_cmp_step unplaced_cond_step unplaced_differ_step unplaced_mask_step unplaced_prim_step unplaced_sum_step unplaced_term_step unplaced_union_step (layer.Location at r)
-    ∙ primary_tree.rolls-Location nowhere (unplaced_ref r)
+location-tokens at r = primary_rolled (layer.Location at r) (primary_tree.rolls-Location at r)
 
 pub forced-tokens : (t : RawType) (x : RawExpr) → primary_tokens (primary_tree.Forced t x) ≡ type_tokens t ++ bracketed (expr_tokens x)
-forced-tokens t x = ap primary_tokens (sym (primary_tree.rolls-Forced t x)) ∙ fold-roll-RawPrimary Tokens Tokens Tokens Tokens Tokens Tokens Tokens Tokens Tokens Tokens Tokens Tokens
-    expr_step primary_step ref_step cand_step cmp_step cond_step differ_step mask_step prim_step sum_step term_step union_step (layer.Forced t x)
-
-pub forced-bare : (t : RawType) (x : RawExpr) → unplaced_primary (primary_tree.Forced t x) ≡ primary_tree.Forced (unplaced_type t) (unplaced_expr x)
-forced-bare t x = ap unplaced_primary (sym (primary_tree.rolls-Forced t x)) ∙ fold-roll-RawPrimary RawExpr RawPrimary RawRef RawCand RawCmp RawCond RawDiffer RawMask RawPrim RawSum RawTerm RawUnion
-    unplaced_expr_step unplaced_primary_step unplaced_ref_step unplaced_cand_step unplaced_cmp_step unplaced_cond_step unplaced_differ_step unplaced_mask_step unplaced_prim_step unplaced_sum_step unplaced_term_step unplaced_union_step (layer.Forced t x)
-    ∙ primary_tree.rolls-Forced (unplaced_type t) (unplaced_expr x)
+forced-tokens t x = primary_rolled (layer.Forced t x) (primary_tree.rolls-Forced t x)
 
 pub bracket-tokens : (at : Position) (x : RawExpr) → primary_tokens (primary_tree.Bracket at x) ≡ bracketed (expr_tokens x)
-bracket-tokens at x = ap primary_tokens (sym (primary_tree.rolls-Bracket at x)) ∙ fold-roll-RawPrimary Tokens Tokens Tokens Tokens Tokens Tokens Tokens Tokens Tokens Tokens Tokens Tokens
-    expr_step primary_step ref_step cand_step cmp_step cond_step differ_step mask_step prim_step sum_step term_step union_step (layer.Bracket at x)
-
-pub bracket-bare : (at : Position) (x : RawExpr) → unplaced_primary (primary_tree.Bracket at x) ≡ primary_tree.Bracket nowhere (unplaced_expr x)
-bracket-bare at x = ap unplaced_primary (sym (primary_tree.rolls-Bracket at x)) ∙ fold-roll-RawPrimary RawExpr RawPrimary RawRef RawCand RawCmp RawCond RawDiffer RawMask RawPrim RawSum RawTerm RawUnion
-    unplaced_expr_step unplaced_primary_step unplaced_ref_step unplaced_cand_step unplaced_cmp_step unplaced_cond_step unplaced_differ_step unplaced_mask_step unplaced_prim_step unplaced_sum_step unplaced_term_step unplaced_union_step (layer.Bracket at x)
-    ∙ primary_tree.rolls-Bracket nowhere (unplaced_expr x)
+bracket-tokens at x = primary_rolled (layer.Bracket at x) (primary_tree.rolls-Bracket at x)
 
 pub referred-tokens : (r : RawRef) → primary_tokens (primary_tree.Ref r) ≡ ref_tokens r
-referred-tokens r = ap primary_tokens (sym (primary_tree.rolls-Ref r)) ∙ fold-roll-RawPrimary Tokens Tokens Tokens Tokens Tokens Tokens Tokens Tokens Tokens Tokens Tokens Tokens
-    expr_step primary_step ref_step cand_step cmp_step cond_step differ_step mask_step prim_step sum_step term_step union_step (layer.Ref r)
-
-pub referred-bare : (r : RawRef) → unplaced_primary (primary_tree.Ref r) ≡ primary_tree.Ref (unplaced_ref r)
-referred-bare r = ap unplaced_primary (sym (primary_tree.rolls-Ref r)) ∙ fold-roll-RawPrimary RawExpr RawPrimary RawRef RawCand RawCmp RawCond RawDiffer RawMask RawPrim RawSum RawTerm RawUnion
-    unplaced_expr_step unplaced_primary_step unplaced_ref_step unplaced_cand_step unplaced_cmp_step unplaced_cond_step unplaced_differ_step unplaced_mask_step unplaced_prim_step unplaced_sum_step unplaced_term_step unplaced_union_step (layer.Ref r)
-    ∙ primary_tree.rolls-Ref (unplaced_ref r)
+referred-tokens r = primary_rolled (layer.Ref r) (primary_tree.rolls-Ref r)
 
 pub call-tokens : (f : RawName) (xs : List RawExpr) → primary_tokens (primary_tree.Call f xs) ≡ name f.name ∷ bracketed (between comma (map expr_tokens xs))
-call-tokens f xs = ap primary_tokens (sym (primary_tree.rolls-Call f xs)) ∙ fold-roll-RawPrimary Tokens Tokens Tokens Tokens Tokens Tokens Tokens Tokens Tokens Tokens Tokens Tokens
-    expr_step primary_step ref_step cand_step cmp_step cond_step differ_step mask_step prim_step sum_step term_step union_step (layer.Call f xs)
-
-pub call-bare : (f : RawName) (xs : List RawExpr) → unplaced_primary (primary_tree.Call f xs) ≡ primary_tree.Call (unplaced_name f) (map unplaced_expr xs)
-call-bare f xs = ap unplaced_primary (sym (primary_tree.rolls-Call f xs)) ∙ fold-roll-RawPrimary RawExpr RawPrimary RawRef RawCand RawCmp RawCond RawDiffer RawMask RawPrim RawSum RawTerm RawUnion
-    unplaced_expr_step unplaced_primary_step unplaced_ref_step unplaced_cand_step unplaced_cmp_step unplaced_cond_step unplaced_differ_step unplaced_mask_step unplaced_prim_step unplaced_sum_step unplaced_term_step unplaced_union_step (layer.Call f xs)
-    ∙ primary_tree.rolls-Call (unplaced_name f) (map unplaced_expr xs)
+call-tokens f xs = primary_rolled (layer.Call f xs) (primary_tree.rolls-Call f xs)
 
 pub named-tokens : (f : RawName) → ref_tokens (ref_tree.Name f) ≡ name f.name ∷ []
-named-tokens f = ap ref_tokens (sym (ref_tree.rolls-Name f)) ∙ fold-roll-RawRef Tokens Tokens Tokens Tokens Tokens Tokens Tokens Tokens Tokens Tokens Tokens Tokens
-    expr_step primary_step ref_step cand_step cmp_step cond_step differ_step mask_step prim_step sum_step term_step union_step (layer.Name f)
-
-pub named-bare : (f : RawName) → unplaced_ref (ref_tree.Name f) ≡ ref_tree.Name (unplaced_name f)
-named-bare f = ap unplaced_ref (sym (ref_tree.rolls-Name f)) ∙ fold-roll-RawRef RawExpr RawPrimary RawRef RawCand RawCmp RawCond RawDiffer RawMask RawPrim RawSum RawTerm RawUnion
-    unplaced_expr_step unplaced_primary_step unplaced_ref_step unplaced_cand_step unplaced_cmp_step unplaced_cond_step unplaced_differ_step unplaced_mask_step unplaced_prim_step unplaced_sum_step unplaced_term_step unplaced_union_step (layer.Name f)
-    ∙ ref_tree.rolls-Name (unplaced_name f)
+named-tokens f = ref_rolled (layer.Name f) (ref_tree.rolls-Name f)
 
 pub one_index-tokens : (f : RawName) (x : RawExpr) → ref_tokens (ref_tree.One f x) ≡ name f.name ∷ indexed (expr_tokens x)
-one_index-tokens f x = ap ref_tokens (sym (ref_tree.rolls-One f x)) ∙ fold-roll-RawRef Tokens Tokens Tokens Tokens Tokens Tokens Tokens Tokens Tokens Tokens Tokens Tokens
-    expr_step primary_step ref_step cand_step cmp_step cond_step differ_step mask_step prim_step sum_step term_step union_step (layer.One f x)
-
-pub one_index-bare : (f : RawName) (x : RawExpr) → unplaced_ref (ref_tree.One f x) ≡ ref_tree.One (unplaced_name f) (unplaced_expr x)
-one_index-bare f x = ap unplaced_ref (sym (ref_tree.rolls-One f x)) ∙ fold-roll-RawRef RawExpr RawPrimary RawRef RawCand RawCmp RawCond RawDiffer RawMask RawPrim RawSum RawTerm RawUnion
-    unplaced_expr_step unplaced_primary_step unplaced_ref_step unplaced_cand_step unplaced_cmp_step unplaced_cond_step unplaced_differ_step unplaced_mask_step unplaced_prim_step unplaced_sum_step unplaced_term_step unplaced_union_step (layer.One f x)
-    ∙ ref_tree.rolls-One (unplaced_name f) (unplaced_expr x)
+one_index-tokens f x = ref_rolled (layer.One f x) (ref_tree.rolls-One f x)
 
 pub two_indexes-tokens : (f : RawName) (x : RawExpr) (y : RawExpr) → ref_tokens (ref_tree.Two f x y) ≡ name f.name ∷ symbol symbols.OpenSquare ∷ (expr_tokens x ++ comma ∷ (expr_tokens y ++ symbol symbols.CloseSquare ∷ []))
-two_indexes-tokens f x y = ap ref_tokens (sym (ref_tree.rolls-Two f x y)) ∙ fold-roll-RawRef Tokens Tokens Tokens Tokens Tokens Tokens Tokens Tokens Tokens Tokens Tokens Tokens
-    expr_step primary_step ref_step cand_step cmp_step cond_step differ_step mask_step prim_step sum_step term_step union_step (layer.Two f x y)
-
-pub two_indexes-bare : (f : RawName) (x : RawExpr) (y : RawExpr) → unplaced_ref (ref_tree.Two f x y) ≡ ref_tree.Two (unplaced_name f) (unplaced_expr x) (unplaced_expr y)
-two_indexes-bare f x y = ap unplaced_ref (sym (ref_tree.rolls-Two f x y)) ∙ fold-roll-RawRef RawExpr RawPrimary RawRef RawCand RawCmp RawCond RawDiffer RawMask RawPrim RawSum RawTerm RawUnion
-    unplaced_expr_step unplaced_primary_step unplaced_ref_step unplaced_cand_step unplaced_cmp_step unplaced_cond_step unplaced_differ_step unplaced_mask_step unplaced_prim_step unplaced_sum_step unplaced_term_step unplaced_union_step (layer.Two f x y)
-    ∙ ref_tree.rolls-Two (unplaced_name f) (unplaced_expr x) (unplaced_expr y)
+two_indexes-tokens f x y = ref_rolled (layer.Two f x y) (ref_tree.rolls-Two f x y)
 
 pub bare-tokens : (at : Position) (x : RawExpr) → ref_tokens (ref_tree.Bare at x) ≡ indexed (expr_tokens x)
-bare-tokens at x = ap ref_tokens (sym (ref_tree.rolls-Bare at x)) ∙ fold-roll-RawRef Tokens Tokens Tokens Tokens Tokens Tokens Tokens Tokens Tokens Tokens Tokens Tokens
-    expr_step primary_step ref_step cand_step cmp_step cond_step differ_step mask_step prim_step sum_step term_step union_step (layer.Bare at x)
+bare-tokens at x = ref_rolled (layer.Bare at x) (ref_tree.rolls-Bare at x)
 
-pub bare-bare : (at : Position) (x : RawExpr) → unplaced_ref (ref_tree.Bare at x) ≡ ref_tree.Bare nowhere (unplaced_expr x)
-bare-bare at x = ap unplaced_ref (sym (ref_tree.rolls-Bare at x)) ∙ fold-roll-RawRef RawExpr RawPrimary RawRef RawCand RawCmp RawCond RawDiffer RawMask RawPrim RawSum RawTerm RawUnion
-    unplaced_expr_step unplaced_primary_step unplaced_ref_step unplaced_cand_step unplaced_cmp_step unplaced_cond_step unplaced_differ_step unplaced_mask_step unplaced_prim_step unplaced_sum_step unplaced_term_step unplaced_union_step (layer.Bare at x)
-    ∙ ref_tree.rolls-Bare nowhere (unplaced_expr x)
+-- ---- trees that are the same but for positions, by their layers
+
+abbrev pub expr_bare : ExprLayer → RawExpr
+expr_bare l = unplaced_expr_step (map-RawExpr RawExpr RawPrimary RawRef RawCand RawCmp RawCond RawDiffer RawMask RawPrim RawSum RawTerm RawUnion RawExpr RawPrimary RawRef RawCand RawCmp RawCond RawDiffer RawMask RawPrim RawSum RawTerm RawUnion
+    unplaced_expr unplaced_primary unplaced_ref unplaced_cand unplaced_cmp unplaced_cond unplaced_differ unplaced_mask unplaced_prim unplaced_sum unplaced_term unplaced_union l)
+
+pub expr_unplaced : (l : ExprLayer) → unplaced_expr (roll-RawExpr l) ≡ expr_bare l
+expr_unplaced = fold-roll-RawExpr RawExpr RawPrimary RawRef RawCand RawCmp RawCond RawDiffer RawMask RawPrim RawSum RawTerm RawUnion
+    unplaced_expr_step unplaced_primary_step unplaced_ref_step unplaced_cand_step unplaced_cmp_step unplaced_cond_step unplaced_differ_step unplaced_mask_step unplaced_prim_step unplaced_sum_step unplaced_term_step unplaced_union_step
+
+pub same_expr : (k l : ExprLayer) {d x : RawExpr} → roll-RawExpr k ≡ d → roll-RawExpr l ≡ x → expr_bare k ≡ expr_bare l → unplaced_expr d ≡ unplaced_expr x
+same_expr k l p q e = ap unplaced_expr (sym p) ∙ expr_unplaced k ∙ e ∙ sym (expr_unplaced l) ∙ ap unplaced_expr q
+
+abbrev pub primary_bare : PrimaryLayer → RawPrimary
+primary_bare l = unplaced_primary_step (map-RawPrimary RawExpr RawPrimary RawRef RawCand RawCmp RawCond RawDiffer RawMask RawPrim RawSum RawTerm RawUnion RawExpr RawPrimary RawRef RawCand RawCmp RawCond RawDiffer RawMask RawPrim RawSum RawTerm RawUnion
+    unplaced_expr unplaced_primary unplaced_ref unplaced_cand unplaced_cmp unplaced_cond unplaced_differ unplaced_mask unplaced_prim unplaced_sum unplaced_term unplaced_union l)
+
+pub primary_unplaced : (l : PrimaryLayer) → unplaced_primary (roll-RawPrimary l) ≡ primary_bare l
+primary_unplaced = fold-roll-RawPrimary RawExpr RawPrimary RawRef RawCand RawCmp RawCond RawDiffer RawMask RawPrim RawSum RawTerm RawUnion
+    unplaced_expr_step unplaced_primary_step unplaced_ref_step unplaced_cand_step unplaced_cmp_step unplaced_cond_step unplaced_differ_step unplaced_mask_step unplaced_prim_step unplaced_sum_step unplaced_term_step unplaced_union_step
+
+pub same_primary : (k l : PrimaryLayer) {d x : RawPrimary} → roll-RawPrimary k ≡ d → roll-RawPrimary l ≡ x → primary_bare k ≡ primary_bare l → unplaced_primary d ≡ unplaced_primary x
+same_primary k l p q e = ap unplaced_primary (sym p) ∙ primary_unplaced k ∙ e ∙ sym (primary_unplaced l) ∙ ap unplaced_primary q
+
+abbrev pub ref_bare : RefLayer → RawRef
+ref_bare l = unplaced_ref_step (map-RawRef RawExpr RawPrimary RawRef RawCand RawCmp RawCond RawDiffer RawMask RawPrim RawSum RawTerm RawUnion RawExpr RawPrimary RawRef RawCand RawCmp RawCond RawDiffer RawMask RawPrim RawSum RawTerm RawUnion
+    unplaced_expr unplaced_primary unplaced_ref unplaced_cand unplaced_cmp unplaced_cond unplaced_differ unplaced_mask unplaced_prim unplaced_sum unplaced_term unplaced_union l)
+
+ref_unplaced : (l : RefLayer) → unplaced_ref (roll-RawRef l) ≡ ref_bare l
+ref_unplaced = fold-roll-RawRef RawExpr RawPrimary RawRef RawCand RawCmp RawCond RawDiffer RawMask RawPrim RawSum RawTerm RawUnion
+    unplaced_expr_step unplaced_primary_step unplaced_ref_step unplaced_cand_step unplaced_cmp_step unplaced_cond_step unplaced_differ_step unplaced_mask_step unplaced_prim_step unplaced_sum_step unplaced_term_step unplaced_union_step
+
+pub same_ref : (k l : RefLayer) {d x : RawRef} → roll-RawRef k ≡ d → roll-RawRef l ≡ x → ref_bare k ≡ ref_bare l → unplaced_ref d ≡ unplaced_ref x
+same_ref k l p q e = ap unplaced_ref (sym p) ∙ ref_unplaced k ∙ e ∙ sym (ref_unplaced l) ∙ ap unplaced_ref q
+
+-- ---- trees of one form
 
 pub cand-tokens : (xs : List RawCmp) (ops : List Position) → cand_tokens (roll-RawCand (record { operands = xs; operators = ops })) ≡ between (word words.And) (map cmp_tokens xs)
 cand-tokens xs ops = fold-roll-RawCand Tokens Tokens Tokens Tokens Tokens Tokens Tokens Tokens Tokens Tokens Tokens Tokens
@@ -240,3 +215,17 @@ term-tokens xs ops = fold-roll-RawTerm Tokens Tokens Tokens Tokens Tokens Tokens
 pub term-bare : (xs : List RawDiffer) (ops : List RawFactorSign) → unplaced_term (roll-RawTerm (record { operands = xs; operators = ops })) ≡ roll-RawTerm (record { operands = map unplaced_differ xs; operators = map unplaced_factor ops })
 term-bare xs ops = fold-roll-RawTerm RawExpr RawPrimary RawRef RawCand RawCmp RawCond RawDiffer RawMask RawPrim RawSum RawTerm RawUnion
     unplaced_expr_step unplaced_primary_step unplaced_ref_step unplaced_cand_step unplaced_cmp_step unplaced_cond_step unplaced_differ_step unplaced_mask_step unplaced_prim_step unplaced_sum_step unplaced_term_step unplaced_union_step (record { operands = xs; operators = ops })
+
+-- the operands and operators of an operation
+
+abbrev pub mask_parts : RawMask → Operands RawPrim Position
+mask_parts x = ((out-RawMask x).operands, (out-RawMask x).operators)
+
+abbrev pub union_parts : RawUnion → Operands RawMask Position
+union_parts x = ((out-RawUnion x).operands, (out-RawUnion x).operators)
+
+abbrev pub differ_parts : RawDiffer → Operands RawUnion Position
+differ_parts x = ((out-RawDiffer x).operands, (out-RawDiffer x).operators)
+
+abbrev pub term_parts : RawTerm → Operands RawDiffer RawFactorSign
+term_parts x = ((out-RawTerm x).operands, (out-RawTerm x).operators)

@@ -1,5 +1,5 @@
 -- Expressions, conditions and references are read as their canonical tokens, the same but for positions.
-use Rattle.std.proofs.Common.{◌≡◌, ℕ, suc, true, List, [], ◌∷◌, ◌++◌, map, Option, Some, None, refl, sym, ap, ap₂, subst, ◌∙◌, append-nil, append_assoc}
+use Rattle.std.proofs.Common.{◌≡◌, ℕ, suc, true, List, [], ◌∷◌, ◌++◌, map, Option, Some, None, refl, sym, ap, ap₂, ◌∙◌}
 use Rattle.std.specs.Prelude.{option_map}
 use Rattle.cw_lex.specs.declared.token.Symbol.TheVariants as symbols
 use Rattle.cw_lex.specs.declared.token.Word.{Word}
@@ -14,26 +14,28 @@ use Rattle.cw_tree.specs.declared.leaf.RawSign.{RawSign}
 use Rattle.cw_tree.specs.declared.leaf.RawFactorSign.{RawFactorSign}
 use Rattle.cw_tree.specs.declared.leaf.RawCompareSign.{RawCompareSign}
 use Rattle.cw_tree.specs.declared.expression.RawBits.{RawBits}
-use Rattle.cw_tree.specs.declared.expression.RawExpr.{RawExpr}
+use Rattle.cw_tree.specs.declared.expression.RawExpr.{RawExpr, roll-RawExpr}
+use Rattle.cw_tree.specs.declared.expression.RawExpr.TheOpen as layer
 use Rattle.cw_tree.specs.declared.expression.RawExpr.TheVariants as expr_tree
-use Rattle.cw_tree.specs.declared.expression.RawCond.{RawCond, roll-RawCond}
-use Rattle.cw_tree.specs.declared.expression.RawCand.{RawCand, roll-RawCand}
+use Rattle.cw_tree.specs.declared.expression.RawCond.{RawCond, out-RawCond}
+use Rattle.cw_tree.specs.declared.expression.RawCand.{RawCand, out-RawCand}
 use Rattle.cw_tree.specs.declared.expression.RawCmp.{RawCmp, roll-RawCmp}
 use Rattle.cw_tree.specs.declared.expression.RawSum.{RawSum, roll-RawSum}
-use Rattle.cw_tree.specs.declared.expression.RawTerm.{RawTerm, roll-RawTerm, out-RawTerm}
-use Rattle.cw_tree.specs.declared.expression.RawDiffer.{RawDiffer, roll-RawDiffer, out-RawDiffer}
-use Rattle.cw_tree.specs.declared.expression.RawUnion.{RawUnion, roll-RawUnion, out-RawUnion}
-use Rattle.cw_tree.specs.declared.expression.RawMask.{RawMask, roll-RawMask, out-RawMask}
+use Rattle.cw_tree.specs.declared.expression.RawTerm.{RawTerm}
+use Rattle.cw_tree.specs.declared.expression.RawDiffer.{RawDiffer}
+use Rattle.cw_tree.specs.declared.expression.RawUnion.{RawUnion}
+use Rattle.cw_tree.specs.declared.expression.RawMask.{RawMask}
 use Rattle.cw_tree.specs.declared.expression.RawPrim.{RawPrim, roll-RawPrim}
-use Rattle.cw_tree.specs.declared.expression.RawPrimary.{RawPrimary}
+use Rattle.cw_tree.specs.declared.expression.RawPrimary.{RawPrimary, roll-RawPrimary}
 use Rattle.cw_tree.specs.declared.expression.RawPrimary.TheVariants as primary_tree
-use Rattle.cw_tree.specs.declared.expression.RawRef.{RawRef}
+use Rattle.cw_tree.specs.declared.expression.RawRef.{RawRef, roll-RawRef}
 use Rattle.cw_tree.specs.declared.expression.RawRef.TheVariants as ref_tree
 use Rattle.cw_grammar.specs.Tokens.{Item, position, characters, literal_byte}
-use Rattle.cw_grammar.specs.Grammar.{Sort, a_pair, a_list, an_option, an_either, a_position, a_name, a_number, an_octal, a_type, a_sign, a_factor_sign, a_compare_sign, a_bits, an_expr, a_cond, a_cand, a_cmp, a_sum, a_term, a_differ, a_union, a_mask, a_prim, a_primary, a_ref, Value, Grammar, subscript, indexed, called, many, ◌·◌}
+use Rattle.cw_grammar.specs.Grammar.{Sort, a_pair, a_list, an_option, an_either, a_position, a_name, a_number, an_octal, a_type, a_sign, a_factor_sign, a_compare_sign, a_bits, an_expr, a_cond, a_cand, a_cmp, a_sum, a_term, a_differ, a_union, a_mask, a_prim, a_primary, a_ref, Value, Grammar, subscript, indexed, called, many, ◌·◌, ◌⇒◌}
 use Rattle.cw_grammar.specs.Table.{rule}
 use Rattle.cw_grammar.specs.Rules.{name, number, octal, sign, number_type, bits, factor_sign, comparator, operator, reference, constant, worded, enclosed, named, primary, prim, mask, union, differ, term, sum, cmp, cand, condition, expr, tail, indexed_name, ref_behind, primary_behind}
-use Rattle.cw_grammar.specs.Trees.{◌>>-◌, Operands, extended, first_of, as_sum, as_term, as_differ, as_union, as_mask, as_prim, bracket_primary, bracket_prim, bracket_mask, bracket_union, bracket_differ, bracket_term, bracket_sum, mask_start, union_start, differ_start, term_start, sum_start, terms_of, more_terms, mask_tree, union_tree, differ_tree, term_tree, cand_tree, cond_tree, comparison_tree, sum_tree, expr_or, prim_or, prim_of}
+use Rattle.cw_grammar.specs.Trees.{◌>>-◌, Operands, extended, first_of, as_sum, as_term, as_differ, as_union, as_mask, as_prim, bracket_primary, bracket_prim, bracket_mask, bracket_union, bracket_differ, bracket_term, bracket_sum, sum_start, terms_of, more_terms, mask_tree, union_tree, differ_tree, term_tree, cand_tree, cond_tree, comparison_tree, sum_tree, expr_or, prim_or, prim_of}
+use Rattle.cw_derived.proofs.Held.{extended_is}
 use Rattle.cw_show.specs.Spelling.{Spelling, word, symbol}
 use Rattle.cw_show.specs.Lexing.{stands_alone}
 use Rattle.cw_show.specs.Canonical.{Tokens, name as name_spelling, octal_tokens, type_tokens, add_symbol, multiply_symbol, behind_each, behind_operators, between, comma}
@@ -44,7 +46,7 @@ use Rattle.cw_read_back.proofs.Expressions.Leaves.{string_back, literal_back}
 use Rattle.cw_read_back.proofs.Expressions.Reading.{Reads, Back, Each, IsSome, word_is, symbol_is, ◌&◌, left, right, mapped, opened, opened_word, second, first, respelled, nothing, absent_read, present_read, no_more_read, more_read, between_read, joined_read}
 use Rattle.cw_read_back.proofs.Expressions.Simple.{number_tokens, plain_sign, plain_factor, plain_compare, literal_read, string_read}
 use Rattle.cw_read_back.proofs.Expressions.Stays.{primary_stays, prim_stays, mask_stays, union_stays, differ_stays, term_stays, sum_stays}
-use Rattle.cw_read_back.proofs.Expressions.ExpressionLayers.{choice-tokens, choice-bare, sum_expr-tokens, sum_expr-bare, number-tokens, number-bare, octal-tokens, octal-bare, literal-tokens, literal-bare, string-tokens, string-bare, location-tokens, location-bare, forced-tokens, forced-bare, bracket-tokens, bracket-bare, referred-tokens, referred-bare, call-tokens, call-bare, named-tokens, named-bare, one_index-tokens, one_index-bare, two_indexes-tokens, two_indexes-bare, bare-tokens, bare-bare, cand-tokens, cand-bare, cond-tokens, cond-bare, differ-tokens, differ-bare, mask-tokens, mask-bare, union-tokens, union-bare, cmp-tokens, cmp-bare, prim-tokens, prim-bare, sum-tokens, sum-bare, term-tokens, term-bare}
+use Rattle.cw_read_back.proofs.Expressions.ExpressionLayers.{same_expr, same_primary, same_ref, mask_parts, union_parts, differ_parts, term_parts, choice-tokens, sum_expr-tokens, number-tokens, octal-tokens, literal-tokens, string-tokens, location-tokens, forced-tokens, bracket-tokens, referred-tokens, call-tokens, named-tokens, one_index-tokens, two_indexes-tokens, bare-tokens, cand-tokens, cand-bare, cond-tokens, cond-bare, differ-tokens, differ-bare, mask-tokens, mask-bare, union-tokens, union-bare, cmp-tokens, cmp-bare, prim-tokens, prim-bare, sum-tokens, sum-bare, term-tokens, term-bare}
 
 abbrev Expr : ℕ → RawExpr → Type 0
 Expr n x = Back n an_expr expr expr_tokens unplaced_expr x
@@ -58,12 +60,13 @@ Indexes n f a r = Reads n (a_pair an_expr (an_option an_expr)) (rule indexed) a 
 pub one_inside : {n : ℕ} (f : RawName) (x : RawExpr) → Expr n x → Indexes n f (expr_tokens x ++ symbol symbols.CloseSquare ∷ []) (ref_tree.One f x)
 unfolding rule
 one_inside f x h = respelled refl (h & first absent_read (symbol_is symbols.CloseSquare))
-    (λ w p g e. ap (λ o. unplaced_ref (indexed_name g w.0 o)) p.1 ∙ one_index-bare g w.0 ∙ ap₂ (λ u v. ref_tree.One u v) e p.0 ∙ sym (one_index-bare f x))
+    (λ w p g e. ap (λ o. unplaced_ref (indexed_name g w.0 o)) p.1 ∙ same_ref (layer.One g w.0) (layer.One f x) (ref_tree.rolls-One g w.0) (ref_tree.rolls-One f x) (ap₂ (λ u v. roll-RawRef (layer.One u v)) e p.0))
 
 two_same : (f g : RawName) (x y d : RawExpr) (o : Option RawExpr) → unplaced_name g ≡ unplaced_name f → unplaced_expr d ≡ unplaced_expr x → IsSome (λ v. unplaced_expr v ≡ unplaced_expr y) o → unplaced_ref (indexed_name g d o) ≡ unplaced_ref (ref_tree.Two f x y)
 two_same f g x y d None e h k = absurd k
 two_same f g x y d (Some v) e h k =
-    two_indexes-bare g d v ∙ ap (λ u. ref_tree.Two u (unplaced_expr d) (unplaced_expr v)) e ∙ ap₂ (λ a b. ref_tree.Two (unplaced_name f) a b) h k ∙ sym (two_indexes-bare f x y)
+    same_ref (layer.Two g d v) (layer.Two f x y) (ref_tree.rolls-Two g d v) (ref_tree.rolls-Two f x y)
+    (ap (λ u. roll-RawRef (layer.Two u (unplaced_expr d) (unplaced_expr v))) e ∙ ap₂ (λ a b. roll-RawRef (layer.Two (unplaced_name f) a b)) h k)
 
 pub two_inside : {n : ℕ} (f : RawName) (x y : RawExpr) → Expr n x → Expr n y → Indexes n f (expr_tokens x ++ comma ∷ (expr_tokens y ++ symbol symbols.CloseSquare ∷ [])) (ref_tree.Two f x y)
 unfolding rule
@@ -86,14 +89,16 @@ abbrev pub RefRead : ℕ → RawRef → Type 0
 RefRead n r = Back n a_ref reference ref_tokens unplaced_ref r × Reads n a_primary primary (ref_tokens r) (λ d. unplaced_primary d ≡ unplaced_primary (primary_tree.Ref r))
 
 referred_same : (d r : RawRef) → unplaced_ref d ≡ unplaced_ref r → unplaced_primary (primary_tree.Ref d) ≡ unplaced_primary (primary_tree.Ref r)
-referred_same d r e = referred-bare d ∙ ap (λ v. primary_tree.Ref v) e ∙ sym (referred-bare r)
+referred_same d r e = same_primary (layer.Ref d) (layer.Ref r) (primary_tree.rolls-Ref d) (primary_tree.rolls-Ref r) (ap (λ v. roll-RawPrimary (layer.Ref v)) e)
+
+pub name_same : (f g : RawName) → unplaced_name g ≡ unplaced_name f → unplaced_ref (ref_tree.Name g) ≡ unplaced_ref (ref_tree.Name f)
+name_same f g e = same_ref (layer.Name g) (layer.Name f) (ref_tree.rolls-Name g) (ref_tree.rolls-Name f) (ap (λ v. roll-RawRef (layer.Name v)) e)
 
 pub named_read : {n : ℕ} (f : RawName) → Back n a_name name name_tokens unplaced_name f → RefRead n (ref_tree.Name f)
 unfolding reference
 named_read {n = n} f h =
-    let same : (g : RawName) → unplaced_name g ≡ unplaced_name f → unplaced_ref (ref_tree.Name g) ≡ unplaced_ref (ref_tree.Name f) = λ g e. named-bare g ∙ ap (λ v. ref_tree.Name v) e ∙ sym (named-bare f) in
-    let t : Tail n f [] (primary_tree.Ref (ref_tree.Name f)) = right (right (nothing None (λ g e. referred_same (ref_tree.Name g) (ref_tree.Name f) (same g e)))) in (
-      respelled (named-tokens f) (left (mapped (h & absent_read) (λ z p. ap (λ o. unplaced_ref (ref_behind z.0 o)) p.1 ∙ same z.0 p.0))) (λ z q. q),
+    let t : Tail n f [] (primary_tree.Ref (ref_tree.Name f)) = right (right (nothing None (λ g e. referred_same (ref_tree.Name g) (ref_tree.Name f) (name_same f g e)))) in (
+      respelled (named-tokens f) (left (mapped (h & absent_read) (λ z p. ap (λ o. unplaced_ref (ref_behind z.0 o)) p.1 ∙ name_same f z.0 p.0))) (λ z q. q),
       respelled (named-tokens f) (name_primary f [] (primary_tree.Ref (ref_tree.Name f)) h t) (λ z q. q),
     )
 
@@ -117,7 +122,7 @@ unfolding rule
 subscript_read x h = first h (symbol_is symbols.CloseSquare)
 
 pub bare_same : (at here : Position) (d x : RawExpr) → unplaced_expr d ≡ unplaced_expr x → unplaced_ref (ref_tree.Bare here d) ≡ unplaced_ref (ref_tree.Bare at x)
-bare_same at here d x e = bare-bare here d ∙ ap (λ v. ref_tree.Bare nowhere v) e ∙ sym (bare-bare at x)
+bare_same at here d x e = same_ref (layer.Bare here d) (layer.Bare at x) (ref_tree.rolls-Bare here d) (ref_tree.rolls-Bare at x) (ap (λ v. roll-RawRef (layer.Bare nowhere v)) e)
 
 pub bare_read : {n : ℕ} (at : Position) (x : RawExpr) → Expr n x → RefRead (suc n) (ref_tree.Bare at x)
 unfolding reference primary enclosed
@@ -133,39 +138,39 @@ Primary n x = Back n a_primary primary primary_tokens unplaced_primary x
 
 pub number_primary : {n : ℕ} (x : RawNumber) → Back n a_number number number_tokens unplaced_number x → Primary n (primary_tree.Number x)
 unfolding primary constant
-number_primary x h = respelled (number-tokens x) (left (left (mapped h (λ z e. number-bare z ∙ ap (λ v. primary_tree.Number v) e ∙ sym (number-bare x))))) (λ z q. q)
+number_primary x h = respelled (number-tokens x) (left (left (mapped h (λ z e. same_primary (layer.Number z) (layer.Number x) (primary_tree.rolls-Number z) (primary_tree.rolls-Number x) (ap (λ v. roll-RawPrimary (layer.Number v)) e))))) (λ z q. q)
 
 pub octal_primary : {n : ℕ} (x : RawOctal) → Back n an_octal octal octal_tokens unplaced_octal x → Primary n (primary_tree.Octal x)
 unfolding primary constant
-octal_primary x h = respelled (octal-tokens x) (left (right (left (mapped h (λ z e. octal-bare z ∙ ap (λ v. primary_tree.Octal v) e ∙ sym (octal-bare x)))))) (λ z q. q)
+octal_primary x h = respelled (octal-tokens x) (left (right (left (mapped h (λ z e. same_primary (layer.Octal z) (layer.Octal x) (primary_tree.rolls-Octal z) (primary_tree.rolls-Octal x) (ap (λ v. roll-RawPrimary (layer.Octal v)) e)))))) (λ z q. q)
 
 abbrev literal_at : ℕ → RawPrimary
-literal_at b = primary_tree.Literal (record { at = nowhere; byte = b })
+literal_at b = roll-RawPrimary (layer.Literal (record { at = nowhere; byte = b }))
 
 pub literal_primary : {n : ℕ} (x : RawLiteral) → Primary n (primary_tree.Literal x)
 unfolding primary constant
 literal_primary x = respelled (literal-tokens x) (left (right (right (left (mapped (literal_read x)
-    (λ z p. literal-bare (record { at = position z; byte = literal_byte z.text }) ∙ ap literal_at (ap literal_byte p.1 ∙ literal_back x.byte) ∙ sym (literal-bare x))))))) (λ z q. q)
+    (λ z p. let c : RawLiteral = record { at = position z; byte = literal_byte z.text } in same_primary (layer.Literal c) (layer.Literal x) (primary_tree.rolls-Literal c) (primary_tree.rolls-Literal x) (ap literal_at (ap literal_byte p.1 ∙ literal_back x.byte)))))))) (λ z q. q)
 
 pub string_primary : {n : ℕ} (at : Position) (cs : List ℕ) → Primary n (primary_tree.Text at cs)
 unfolding primary constant
 string_primary at cs = respelled (string-tokens at cs) (left (right (right (right (mapped (string_read cs)
-    (λ z p. string-bare (position z) (characters z.kind z.text) ∙ ap (λ v. primary_tree.Text nowhere v) (ap₂ characters p.0 p.1 ∙ string_back cs) ∙ sym (string-bare at cs))))))) (λ z q. q)
+    (λ z p. let ds = characters z.kind z.text in same_primary (layer.Text (position z) ds) (layer.Text at cs) (primary_tree.rolls-Text (position z) ds) (primary_tree.rolls-Text at cs) (ap (λ v. roll-RawPrimary (layer.Text nowhere v)) (ap₂ characters p.0 p.1 ∙ string_back cs)))))))) (λ z q. q)
 
 pub location_primary : {n : ℕ} (at : Position) (r : RawRef) → Back n a_ref reference ref_tokens unplaced_ref r → Primary (suc n) (primary_tree.Location at r)
 unfolding primary worded rule
 location_primary at r h = respelled (location-tokens at r) (right (left (left (mapped (word_is words.Location refl & opened symbols.Open (first h (symbol_is symbols.Close)))
-    (λ z p. location-bare (position z.0) z.1.1 ∙ ap (λ v. primary_tree.Location nowhere v) p.1 ∙ sym (location-bare at r)))))) (λ z q. q)
+    (λ z p. same_primary (layer.Location (position z.0) z.1.1) (layer.Location at r) (primary_tree.rolls-Location (position z.0) z.1.1) (primary_tree.rolls-Location at r) (ap (λ v. roll-RawPrimary (layer.Location nowhere v)) p.1)))))) (λ z q. q)
 
 pub forced_primary : {n : ℕ} (t : RawType) (x : RawExpr) → Back (suc n) a_type number_type type_tokens unplaced_type t → Expr n x → Primary (suc n) (primary_tree.Forced t x)
 unfolding primary worded rule
 forced_primary t x h k = respelled (forced-tokens t x) (right (left (right (mapped (h & opened symbols.Open (first k (symbol_is symbols.Close)))
-    (λ z p. forced-bare z.0 z.1.1 ∙ ap₂ (λ u v. primary_tree.Forced u v) p.0 p.1 ∙ sym (forced-bare t x)))))) (λ z q. q)
+    (λ z p. same_primary (layer.Forced z.0 z.1.1) (layer.Forced t x) (primary_tree.rolls-Forced z.0 z.1.1) (primary_tree.rolls-Forced t x) (ap₂ (λ u v. roll-RawPrimary (layer.Forced u v)) p.0 p.1)))))) (λ z q. q)
 
 pub bracket_primary_read : {n : ℕ} (at : Position) (x : RawExpr) → Expr n x → Primary (suc n) (primary_tree.Bracket at x)
 unfolding primary enclosed rule
 bracket_primary_read at x h = respelled (bracket-tokens at x) (right (right (left (left (mapped (opened symbols.Open (first h (symbol_is symbols.Close)))
-    (λ z e. bracket-bare (position z.0) z.1 ∙ ap (λ v. primary_tree.Bracket nowhere v) e ∙ sym (bracket-bare at x))))))) (λ z q. q)
+    (λ z e. same_primary (layer.Bracket (position z.0) z.1) (layer.Bracket at x) (primary_tree.rolls-Bracket (position z.0) z.1) (primary_tree.rolls-Bracket at x) (ap (λ v. roll-RawPrimary (layer.Bracket nowhere v)) e))))))) (λ z q. q)
 
 pub referred_primary : {n : ℕ} (r : RawRef) → RefRead n r → Primary n (primary_tree.Ref r)
 referred_primary r h = respelled (referred-tokens r) h.1 (λ z q. q)
@@ -179,7 +184,7 @@ pub call_primary : {n : ℕ} (f : RawName) (x : RawExpr) (xs : List RawExpr) →
 call_primary {n = n} f x xs h k =
     let a : Tokens = symbol symbols.Open ∷ (between comma (map expr_tokens (x ∷ xs)) ++ symbol symbols.Close ∷ []) in
     let t : Tail (suc n) f a (primary_tree.Call f (x ∷ xs)) =
-    right (left (mapped (opened symbols.Open (called_read x xs k)) (λ w p g e. call-bare g w.1 ∙ ap₂ (λ u v. primary_tree.Call u v) e p ∙ sym (call-bare f (x ∷ xs))))) in
+    right (left (mapped (opened symbols.Open (called_read x xs k)) (λ w p g e. same_primary (layer.Call g w.1) (layer.Call f (x ∷ xs)) (primary_tree.rolls-Call g w.1) (primary_tree.rolls-Call f (x ∷ xs)) (ap₂ (λ u v. roll-RawPrimary (layer.Call u v)) e p)))) in
     respelled (call-tokens f (x ∷ xs)) (name_primary f a (primary_tree.Call f (x ∷ xs)) h t) (λ z q. q)
 
 prim_same : (bits ds : List RawBits) (x d : RawPrimary) → map unplaced_bits ds ≡ map unplaced_bits bits → unplaced_primary d ≡ unplaced_primary x → (bracket_primary x >>- as_prim) ≡ None → unplaced_prim (prim_of ds d) ≡ unplaced_prim (roll-RawPrim (record { bits = bits; primary = x }))
@@ -191,19 +196,6 @@ unfolding prim
 prim_read bs x h k l = respelled (prim-tokens bs x) (mapped (joined_read bits_tokens unplaced_bits bs h & k) (λ z p. prim_same bs z.0 x z.1 p.0 p.1 l)) (λ z q. q)
 
 -- ---- operands
-
-abbrev pair_with : {A B : Type 0} → List A → List B → Operands A B
-pair_with xs os = (xs, os)
-
-abbrev with_pair : {A B : Type 0} → List B → List A → Operands A B
-with_pair os xs = (xs, os)
-
-extended_is : {A B : Type 0} (xs : List A) (os : List B) (more : List (B × A)) → ◌≡◌ {A = Operands A B} (extended (xs, os) more) (xs ++ map (λ z. z.1) more, os ++ map (λ z. z.0) more)
-extended_is {A = A} {B = B} xs os [] = subst (λ (z : List A). ◌≡◌ {A = Operands A B} (xs, os) (z, os ++ [])) (sym (append-nil xs)) (ap (pair_with xs) (sym (append-nil os)))
-extended_is {A = A} {B = B} xs os (x ∷ more) =
-    extended_is (xs ++ x.1 ∷ []) (os ++ x.0 ∷ []) more
-    ∙ ap (with_pair ((os ++ x.0 ∷ []) ++ map (λ z. z.0) more)) (append_assoc xs (x.1 ∷ []) (map (λ z. z.1) more))
-    ∙ ap (pair_with (xs ++ x.1 ∷ map (λ z. z.1) more)) (append_assoc os (x.0 ∷ []) (map (λ z. z.0) more))
 
 -- operands behind operators are the same as others
 record AreSame (s o : Sort) (bare : Value s → Value s) (plain : Value o → Value o) (zs rest : List (Value o × Value s)) : Type 0 where
@@ -229,105 +221,64 @@ worded_read : {n : ℕ} {s : Sort} {g : Grammar s} (tokens : Value s → Tokens)
     → Reads n (a_list (a_pair a_position s)) (many (operator w · g)) (behind_each (word w) (map tokens (map (λ z. z.1) rest))) (λ zs. AreSame s a_position bare (λ p. nowhere) zs rest)
 worded_read tokens bare w e rest h = respelled (behind_word w tokens rest) (operated_read tokens bare (λ z. word w) (λ p. nowhere) (λ z. Unit {0}) (λ z k. mapped (word_is w e) (λ t p. refl)) rest h) (λ z q. q)
 
-mask_is : (x : RawPrim) (rest : List (Position × RawPrim)) → mask_tree (extended (x ∷ [], []) rest) ≡ roll-RawMask (record { operands = x ∷ map (λ z. z.1) rest; operators = map (λ z. z.0) rest })
-mask_is x rest = ap mask_tree (extended_is (x ∷ []) [] rest)
+-- An operation is read, if a first operand that is the same as its first is not joined either.
+module _ (s o t : Sort) (tokens : Value s → Tokens) (bare : Value s → Value s) (plain : Value o → Value o) (shown : Value t → Tokens) (all : Value t → Value t) (tree : Operands (Value s) (Value o) → Value t)
+    (bare_is : (xs : List (Value s)) (os : List (Value o)) → all (tree (xs, os)) ≡ tree (map bare xs, map plain os)) where
+  operation_same : (x d : Value s) (rest zs : List (Value o × Value s)) → bare d ≡ bare x → AreSame s o bare plain zs rest → all (tree (extended (d ∷ [], []) zs)) ≡ all (tree (extended (x ∷ [], []) rest))
+  operation_same x d rest zs e h =
+      ap (λ u. all (tree u)) (extended_is (d ∷ []) [] zs) ∙ bare_is (d ∷ map (λ z. z.1) zs) (map (λ z. z.0) zs)
+      ∙ ap₂ (λ u v. tree (u, v)) (ap₂ (λ y ys. y ∷ ys) e h.operands) h.operators
+      ∙ sym (bare_is (x ∷ map (λ z. z.1) rest) (map (λ z. z.0) rest)) ∙ ap (λ u. all (tree u)) (sym (extended_is (x ∷ []) [] rest))
 
-mask_same : (x d : RawPrim) (rest zs : List (Position × RawPrim)) → unplaced_prim d ≡ unplaced_prim x → AreSame a_prim a_position unplaced_prim (λ p. nowhere) zs rest → unplaced_mask (mask_tree (extended (d ∷ [], []) zs)) ≡ unplaced_mask (mask_tree (extended (x ∷ [], []) rest))
-mask_same x d rest zs e h =
-    ap unplaced_mask (mask_is d zs) ∙ mask-bare (d ∷ map (λ z. z.1) zs) (map (λ z. z.0) zs)
-    ∙ ap₂ (λ u v. roll-RawMask (record { operands = u; operators = v })) (ap₂ (λ y ys. y ∷ ys) e h.operands) h.operators
-    ∙ sym (mask-bare (x ∷ map (λ z. z.1) rest) (map (λ z. z.0) rest)) ∙ ap unplaced_mask (sym (mask_is x rest))
+  operation_read : {n : ℕ} {g : Grammar s} {k : Grammar o} {a : Tokens} (parts : Value t → Operands (Value s) (Value o)) (join : Value s → Option (Value t)) (x : Value s) (rest : List (Value o × Value s))
+      → Back n s g tokens bare x → ((d : Value s) → bare d ≡ bare x → join d ≡ None) → Reads n (a_list (a_pair o s)) (many (k · g)) a (λ zs. AreSame s o bare plain zs rest)
+      → shown (tree (x ∷ map (λ z. z.1) rest, map (λ z. z.0) rest)) ≡ tokens x ++ a → Back n t (g · many (k · g) ⇒ (λ z. tree (extended (first_of parts (join z.0) z.0) z.1))) shown all (tree (extended (x ∷ [], []) rest))
+  operation_read parts join x rest h b k e = respelled (ap (λ u. shown (tree u)) (extended_is (x ∷ []) [] rest) ∙ e)
+      (mapped (h & k) (λ z p. ap (λ u. all (tree (extended (first_of parts u z.0) z.1))) (b z.0 p.0) ∙ operation_same x z.0 rest z.1 p.0 p.1)) (λ z q. q)
 
-mask_started : (x d : RawPrim) → unplaced_prim d ≡ unplaced_prim x → (bracket_prim x >>- as_mask) ≡ None → ◌≡◌ {A = Operands RawPrim Position} (mask_start d) (d ∷ [], [])
-mask_started x d e h = ap (λ o. first_of (λ (m : RawMask). ((out-RawMask m).operands, (out-RawMask m).operators)) o d) (prim_stays x d e h)
+-- one with a word between its operands
+worded_operation : {n : ℕ} (s t : Sort) {g : Grammar s} (tokens : Value s → Tokens) (bare : Value s → Value s) (shown : Value t → Tokens) (all : Value t → Value t) (w : Word) (tree : Operands (Value s) Position → Value t) (parts : Value t → Operands (Value s) Position) (join : Value s → Option (Value t))
+    → stands_alone w ≡ true → ((xs : List (Value s)) (os : List Position) → shown (tree (xs, os)) ≡ between (word w) (map tokens xs)) → ((xs : List (Value s)) (os : List Position) → all (tree (xs, os)) ≡ tree (map bare xs, map (λ p. nowhere) os))
+    → (x : Value s) (rest : List (Position × Value s)) → Back n s g tokens bare x → ((d : Value s) → bare d ≡ bare x → join d ≡ None) → Words n s g tokens bare rest
+    → Back n t (g · many (operator w · g) ⇒ (λ z. tree (extended (first_of parts (join z.0) z.0) z.1))) shown all (tree (extended (x ∷ [], []) rest))
+worded_operation s t tokens bare shown all w tree parts join e shown_is bare_is x rest h b k =
+    operation_read s a_position t tokens bare (λ p. nowhere) shown all tree bare_is parts join x rest h b (worded_read tokens bare w e rest k) (shown_is (x ∷ map (λ z. z.1) rest) (map (λ z. z.0) rest))
 
 pub mask_read : {n : ℕ} (x : RawPrim) (rest : List (Position × RawPrim)) → Back n a_prim prim prim_tokens unplaced_prim x → (bracket_prim x >>- as_mask) ≡ None → Words n a_prim prim prim_tokens unplaced_prim rest → Back n a_mask mask mask_tokens unplaced_mask (mask_tree (extended (x ∷ [], []) rest))
 unfolding mask
-mask_read x rest h b k = respelled (ap mask_tokens (mask_is x rest) ∙ mask-tokens (x ∷ map (λ z. z.1) rest) (map (λ z. z.0) rest))
-    (mapped (h & worded_read prim_tokens unplaced_prim words.Mask refl rest k) (λ z p. ap (λ u. unplaced_mask (mask_tree (extended u z.1))) (mask_started x z.0 p.0 b) ∙ mask_same x z.0 rest z.1 p.0 p.1)) (λ z q. q)
-
-union_is : (x : RawMask) (rest : List (Position × RawMask)) → union_tree (extended (x ∷ [], []) rest) ≡ roll-RawUnion (record { operands = x ∷ map (λ z. z.1) rest; operators = map (λ z. z.0) rest })
-union_is x rest = ap union_tree (extended_is (x ∷ []) [] rest)
-
-union_same : (x d : RawMask) (rest zs : List (Position × RawMask)) → unplaced_mask d ≡ unplaced_mask x → AreSame a_mask a_position unplaced_mask (λ p. nowhere) zs rest → unplaced_union (union_tree (extended (d ∷ [], []) zs)) ≡ unplaced_union (union_tree (extended (x ∷ [], []) rest))
-union_same x d rest zs e h =
-    ap unplaced_union (union_is d zs) ∙ union-bare (d ∷ map (λ z. z.1) zs) (map (λ z. z.0) zs)
-    ∙ ap₂ (λ u v. roll-RawUnion (record { operands = u; operators = v })) (ap₂ (λ y ys. y ∷ ys) e h.operands) h.operators
-    ∙ sym (union-bare (x ∷ map (λ z. z.1) rest) (map (λ z. z.0) rest)) ∙ ap unplaced_union (sym (union_is x rest))
-
-union_started : (x d : RawMask) → unplaced_mask d ≡ unplaced_mask x → (bracket_mask x >>- as_union) ≡ None → ◌≡◌ {A = Operands RawMask Position} (union_start d) (d ∷ [], [])
-union_started x d e h = ap (λ o. first_of (λ (m : RawUnion). ((out-RawUnion m).operands, (out-RawUnion m).operators)) o d) (mask_stays x d e h)
+mask_read x rest h b k = worded_operation a_prim a_mask prim_tokens unplaced_prim mask_tokens unplaced_mask words.Mask mask_tree mask_parts (λ z. bracket_prim z >>- as_mask) refl mask-tokens mask-bare x rest h (λ d e. prim_stays x d e b) k
 
 pub union_read : {n : ℕ} (x : RawMask) (rest : List (Position × RawMask)) → Back n a_mask mask mask_tokens unplaced_mask x → (bracket_mask x >>- as_union) ≡ None → Words n a_mask mask mask_tokens unplaced_mask rest → Back n a_union union union_tokens unplaced_union (union_tree (extended (x ∷ [], []) rest))
 unfolding union
-union_read x rest h b k = respelled (ap union_tokens (union_is x rest) ∙ union-tokens (x ∷ map (λ z. z.1) rest) (map (λ z. z.0) rest))
-    (mapped (h & worded_read mask_tokens unplaced_mask words.Union refl rest k) (λ z p. ap (λ u. unplaced_union (union_tree (extended u z.1))) (union_started x z.0 p.0 b) ∙ union_same x z.0 rest z.1 p.0 p.1)) (λ z q. q)
-
-differ_is : (x : RawUnion) (rest : List (Position × RawUnion)) → differ_tree (extended (x ∷ [], []) rest) ≡ roll-RawDiffer (record { operands = x ∷ map (λ z. z.1) rest; operators = map (λ z. z.0) rest })
-differ_is x rest = ap differ_tree (extended_is (x ∷ []) [] rest)
-
-differ_same : (x d : RawUnion) (rest zs : List (Position × RawUnion)) → unplaced_union d ≡ unplaced_union x → AreSame a_union a_position unplaced_union (λ p. nowhere) zs rest → unplaced_differ (differ_tree (extended (d ∷ [], []) zs)) ≡ unplaced_differ (differ_tree (extended (x ∷ [], []) rest))
-differ_same x d rest zs e h =
-    ap unplaced_differ (differ_is d zs) ∙ differ-bare (d ∷ map (λ z. z.1) zs) (map (λ z. z.0) zs)
-    ∙ ap₂ (λ u v. roll-RawDiffer (record { operands = u; operators = v })) (ap₂ (λ y ys. y ∷ ys) e h.operands) h.operators
-    ∙ sym (differ-bare (x ∷ map (λ z. z.1) rest) (map (λ z. z.0) rest)) ∙ ap unplaced_differ (sym (differ_is x rest))
-
-differ_started : (x d : RawUnion) → unplaced_union d ≡ unplaced_union x → (bracket_union x >>- as_differ) ≡ None → ◌≡◌ {A = Operands RawUnion Position} (differ_start d) (d ∷ [], [])
-differ_started x d e h = ap (λ o. first_of (λ (m : RawDiffer). ((out-RawDiffer m).operands, (out-RawDiffer m).operators)) o d) (union_stays x d e h)
+union_read x rest h b k = worded_operation a_mask a_union mask_tokens unplaced_mask union_tokens unplaced_union words.Union union_tree union_parts (λ z. bracket_mask z >>- as_union) refl union-tokens union-bare x rest h (λ d e. mask_stays x d e b) k
 
 pub differ_read : {n : ℕ} (x : RawUnion) (rest : List (Position × RawUnion)) → Back n a_union union union_tokens unplaced_union x → (bracket_union x >>- as_differ) ≡ None → Words n a_union union union_tokens unplaced_union rest → Back n a_differ differ differ_tokens unplaced_differ (differ_tree (extended (x ∷ [], []) rest))
 unfolding differ
-differ_read x rest h b k = respelled (ap differ_tokens (differ_is x rest) ∙ differ-tokens (x ∷ map (λ z. z.1) rest) (map (λ z. z.0) rest))
-    (mapped (h & worded_read union_tokens unplaced_union words.Differ refl rest k) (λ z p. ap (λ u. unplaced_differ (differ_tree (extended u z.1))) (differ_started x z.0 p.0 b) ∙ differ_same x z.0 rest z.1 p.0 p.1)) (λ z q. q)
+differ_read x rest h b k = worded_operation a_union a_differ union_tokens unplaced_union differ_tokens unplaced_differ words.Differ differ_tree differ_parts (λ z. bracket_union z >>- as_differ) refl differ-tokens differ-bare x rest h (λ d e. union_stays x d e b) k
 
-cand_is : (x : RawCmp) (rest : List (Position × RawCmp)) → cand_tree (extended (x ∷ [], []) rest) ≡ roll-RawCand (record { operands = x ∷ map (λ z. z.1) rest; operators = map (λ z. z.0) rest })
-cand_is x rest = ap cand_tree (extended_is (x ∷ []) [] rest)
+-- the operands of a condition, whose first is never joined
+abbrev cand_parts : RawCand → Operands RawCmp Position
+cand_parts x = ((out-RawCand x).operands, (out-RawCand x).operators)
 
-cand_same : (x d : RawCmp) (rest zs : List (Position × RawCmp)) → unplaced_cmp d ≡ unplaced_cmp x → AreSame a_cmp a_position unplaced_cmp (λ p. nowhere) zs rest → unplaced_cand (cand_tree (extended (d ∷ [], []) zs)) ≡ unplaced_cand (cand_tree (extended (x ∷ [], []) rest))
-cand_same x d rest zs e h =
-    ap unplaced_cand (cand_is d zs) ∙ cand-bare (d ∷ map (λ z. z.1) zs) (map (λ z. z.0) zs)
-    ∙ ap₂ (λ u v. roll-RawCand (record { operands = u; operators = v })) (ap₂ (λ y ys. y ∷ ys) e h.operands) h.operators
-    ∙ sym (cand-bare (x ∷ map (λ z. z.1) rest) (map (λ z. z.0) rest)) ∙ ap unplaced_cand (sym (cand_is x rest))
+abbrev cond_parts : RawCond → Operands RawCand Position
+cond_parts x = ((out-RawCond x).operands, (out-RawCond x).operators)
 
 pub cand_read : {n : ℕ} (x : RawCmp) (rest : List (Position × RawCmp)) → Back n a_cmp cmp cmp_tokens unplaced_cmp x → Words n a_cmp cmp cmp_tokens unplaced_cmp rest → Back n a_cand cand cand_tokens unplaced_cand (cand_tree (extended (x ∷ [], []) rest))
 unfolding cand
-cand_read x rest h k = respelled (ap cand_tokens (cand_is x rest) ∙ cand-tokens (x ∷ map (λ z. z.1) rest) (map (λ z. z.0) rest))
-    (mapped (h & worded_read cmp_tokens unplaced_cmp words.And refl rest k) (λ z p. cand_same x z.0 rest z.1 p.0 p.1)) (λ z q. q)
-
-cond_is : (x : RawCand) (rest : List (Position × RawCand)) → cond_tree (extended (x ∷ [], []) rest) ≡ roll-RawCond (record { operands = x ∷ map (λ z. z.1) rest; operators = map (λ z. z.0) rest })
-cond_is x rest = ap cond_tree (extended_is (x ∷ []) [] rest)
-
-cond_same : (x d : RawCand) (rest zs : List (Position × RawCand)) → unplaced_cand d ≡ unplaced_cand x → AreSame a_cand a_position unplaced_cand (λ p. nowhere) zs rest → unplaced_cond (cond_tree (extended (d ∷ [], []) zs)) ≡ unplaced_cond (cond_tree (extended (x ∷ [], []) rest))
-cond_same x d rest zs e h =
-    ap unplaced_cond (cond_is d zs) ∙ cond-bare (d ∷ map (λ z. z.1) zs) (map (λ z. z.0) zs)
-    ∙ ap₂ (λ u v. roll-RawCond (record { operands = u; operators = v })) (ap₂ (λ y ys. y ∷ ys) e h.operands) h.operators
-    ∙ sym (cond-bare (x ∷ map (λ z. z.1) rest) (map (λ z. z.0) rest)) ∙ ap unplaced_cond (sym (cond_is x rest))
+cand_read x rest h k = worded_operation a_cmp a_cand cmp_tokens unplaced_cmp cand_tokens unplaced_cand words.And cand_tree cand_parts (λ z. None) refl cand-tokens cand-bare x rest h (λ d e. refl) k
 
 pub cond_read : {n : ℕ} (x : RawCand) (rest : List (Position × RawCand)) → Back n a_cand cand cand_tokens unplaced_cand x → Words n a_cand cand cand_tokens unplaced_cand rest → Back n a_cond condition cond_tokens unplaced_cond (cond_tree (extended (x ∷ [], []) rest))
 unfolding condition
-cond_read x rest h k = respelled (ap cond_tokens (cond_is x rest) ∙ cond-tokens (x ∷ map (λ z. z.1) rest) (map (λ z. z.0) rest))
-    (mapped (h & worded_read cand_tokens unplaced_cand words.Or refl rest k) (λ z p. cond_same x z.0 rest z.1 p.0 p.1)) (λ z q. q)
+cond_read x rest h k = worded_operation a_cand a_cond cand_tokens unplaced_cand cond_tokens unplaced_cond words.Or cond_tree cond_parts (λ z. None) refl cond-tokens cond-bare x rest h (λ d e. refl) k
 
 -- ---- terms, sums and comparisons
-
-term_is : (x : RawDiffer) (rest : List (RawFactorSign × RawDiffer)) → term_tree (extended (x ∷ [], []) rest) ≡ roll-RawTerm (record { operands = x ∷ map (λ z. z.1) rest; operators = map (λ z. z.0) rest })
-term_is x rest = ap term_tree (extended_is (x ∷ []) [] rest)
-
-term_same : (x d : RawDiffer) (rest zs : List (RawFactorSign × RawDiffer)) → unplaced_differ d ≡ unplaced_differ x → AreSame a_differ a_factor_sign unplaced_differ unplaced_factor zs rest → unplaced_term (term_tree (extended (d ∷ [], []) zs)) ≡ unplaced_term (term_tree (extended (x ∷ [], []) rest))
-term_same x d rest zs e h =
-    ap unplaced_term (term_is d zs) ∙ term-bare (d ∷ map (λ z. z.1) zs) (map (λ z. z.0) zs)
-    ∙ ap₂ (λ u v. roll-RawTerm (record { operands = u; operators = v })) (ap₂ (λ y ys. y ∷ ys) e h.operands) h.operators
-    ∙ sym (term-bare (x ∷ map (λ z. z.1) rest) (map (λ z. z.0) rest)) ∙ ap unplaced_term (sym (term_is x rest))
-
-term_started : (x d : RawDiffer) → unplaced_differ d ≡ unplaced_differ x → (bracket_differ x >>- as_term) ≡ None → ◌≡◌ {A = Operands RawDiffer RawFactorSign} (term_start d) (d ∷ [], [])
-term_started x d e h = ap (λ o. first_of (λ (m : RawTerm). ((out-RawTerm m).operands, (out-RawTerm m).operators)) o d) (differ_stays x d e h)
 
 pub term_read : {n : ℕ} (x : RawDiffer) (rest : List (RawFactorSign × RawDiffer)) → Back n a_differ differ differ_tokens unplaced_differ x → (bracket_differ x >>- as_term) ≡ None → Each (λ z. Back n a_factor_sign factor_sign plain_factor unplaced_factor z.0 × Back n a_differ differ differ_tokens unplaced_differ z.1) rest
     → Back n a_term term term_tokens unplaced_term (term_tree (extended (x ∷ [], []) rest))
 unfolding term
-term_read {n = n} x rest h b k = respelled (ap term_tokens (term_is x rest) ∙ term-tokens (x ∷ map (λ z. z.1) rest) (map (λ z. z.0) rest))
-    (mapped (h & operated_read differ_tokens unplaced_differ (λ s. multiply_symbol s.op) unplaced_factor (Back n a_factor_sign factor_sign plain_factor unplaced_factor) (λ z r. r) rest k)
-    (λ z p. ap (λ u. unplaced_term (term_tree (extended u z.1))) (term_started x z.0 p.0 b) ∙ term_same x z.0 rest z.1 p.0 p.1)) (λ z q. q)
+term_read {n = n} x rest h b k =
+    operation_read a_differ a_factor_sign a_term differ_tokens unplaced_differ unplaced_factor term_tokens unplaced_term term_tree term-bare term_parts (λ z. bracket_differ z >>- as_term) x rest h (λ d e. differ_stays x d e b)
+    (operated_read differ_tokens unplaced_differ (λ s. multiply_symbol s.op) unplaced_factor (Back n a_factor_sign factor_sign plain_factor unplaced_factor) (λ z r. r) rest k) (term-tokens (x ∷ map (λ z. z.1) rest) (map (λ z. z.0) rest))
 
 abbrev sum_with : Option RawSign → List RawTerm → List RawSign → RawSum
 sum_with o xs ops = roll-RawSum (record { sign = o; operands = xs; operators = ops })
@@ -382,9 +333,10 @@ cmp_read x y op h c k = respelled (cmp-tokens x op y) (mapped (h & c & k)
 pub sum_expr_read : {n : ℕ} (x : RawSum) → Back n a_sum sum sum_tokens unplaced_sum x → bracket_sum x ≡ None → Expr n (expr_tree.Sum x)
 unfolding expr
 sum_expr_read x h b = respelled (sum_expr-tokens x) (right (mapped h
-    (λ z e. ap (λ o. unplaced_expr (expr_or o z)) (sum_stays x z e b) ∙ sum_expr-bare z ∙ ap (λ v. expr_tree.Sum v) e ∙ sym (sum_expr-bare x)))) (λ z q. q)
+    (λ z e. ap (λ o. unplaced_expr (expr_or o z)) (sum_stays x z e b) ∙ same_expr (layer.Sum z) (layer.Sum x) (expr_tree.rolls-Sum z) (expr_tree.rolls-Sum x) (ap (λ v. roll-RawExpr (layer.Sum v)) e)))) (λ z q. q)
 
 pub choice_read : {n : ℕ} (at : Position) (c : RawCond) (x y : RawExpr) → Back n a_cond condition cond_tokens unplaced_cond c → Expr n x → Expr n y → Expr (suc n) (expr_tree.Choice at c x y)
 unfolding expr rule
 choice_read at c x y h k l = respelled (choice-tokens at c x y) (left (mapped (opened_word words.If refl (h & second (word_is words.Then refl) k & second (word_is words.Else refl) l))
-    (λ z p. choice-bare (position z.0) z.1.0 z.1.1.0 z.1.1.1 ∙ ap (λ u. expr_tree.Choice nowhere u (unplaced_expr z.1.1.0) (unplaced_expr z.1.1.1)) p.0 ∙ ap₂ (λ u v. expr_tree.Choice nowhere (unplaced_cond c) u v) p.1.0 p.1.1 ∙ sym (choice-bare at c x y)))) (λ z q. q)
+    (λ z p. same_expr (layer.Choice (position z.0) z.1.0 z.1.1.0 z.1.1.1) (layer.Choice at c x y) (expr_tree.rolls-Choice (position z.0) z.1.0 z.1.1.0 z.1.1.1) (expr_tree.rolls-Choice at c x y)
+    (ap (λ u. roll-RawExpr (layer.Choice nowhere u (unplaced_expr z.1.1.0) (unplaced_expr z.1.1.1))) p.0 ∙ ap₂ (λ u v. roll-RawExpr (layer.Choice nowhere (unplaced_cond c) u v)) p.1.0 p.1.1)))) (λ z q. q)

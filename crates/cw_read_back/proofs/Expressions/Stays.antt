@@ -5,22 +5,20 @@ use Rattle.std.specs.Prelude.{option_map}
 use Rattle.cw_tree.specs.declared.leaf.RawSign.{RawSign}
 use Rattle.cw_tree.specs.declared.expression.RawBits.{RawBits}
 use Rattle.cw_tree.specs.declared.expression.RawExpr.TheOpen as layer
-use Rattle.cw_tree.specs.declared.expression.RawExpr.TheOpen.{RawExpr-F, RawPrimary-F, RawPrim-F, RawSum-F, RawTerm-F, RawDiffer-F, RawUnion-F, RawMask-F}
 use Rattle.cw_tree.specs.declared.expression.RawExpr.TheViews.{out-roll-RawExpr, out-roll-RawPrimary, out-roll-RawPrim, out-roll-RawMask, out-roll-RawUnion, out-roll-RawDiffer, out-roll-RawTerm, out-roll-RawSum}
-use Rattle.cw_tree.specs.declared.expression.RawExpr.{RawExpr, map-RawExpr, out-RawExpr, fold_out-RawExpr}
-use Rattle.cw_tree.specs.declared.expression.RawPrimary.{RawPrimary, map-RawPrimary, out-RawPrimary, fold_out-RawPrimary}
-use Rattle.cw_tree.specs.declared.expression.RawRef.{RawRef}
-use Rattle.cw_tree.specs.declared.expression.RawCand.{RawCand}
-use Rattle.cw_tree.specs.declared.expression.RawCmp.{RawCmp}
-use Rattle.cw_tree.specs.declared.expression.RawCond.{RawCond}
-use Rattle.cw_tree.specs.declared.expression.RawDiffer.{RawDiffer, out-RawDiffer, fold_out-RawDiffer}
-use Rattle.cw_tree.specs.declared.expression.RawMask.{RawMask, out-RawMask, fold_out-RawMask}
-use Rattle.cw_tree.specs.declared.expression.RawPrim.{RawPrim, out-RawPrim, fold_out-RawPrim}
-use Rattle.cw_tree.specs.declared.expression.RawSum.{RawSum, out-RawSum, fold_out-RawSum}
-use Rattle.cw_tree.specs.declared.expression.RawTerm.{RawTerm, out-RawTerm, fold_out-RawTerm}
-use Rattle.cw_tree.specs.declared.expression.RawUnion.{RawUnion, out-RawUnion, fold_out-RawUnion}
-use Rattle.cw_grammar.specs.Trees.{sole, ◌>>-◌, as_sum, sole_term, as_term, as_differ, as_union, as_mask, as_prim, bracket_primary, bracket_prim, bracket_mask, bracket_union, bracket_differ, bracket_term, bracket_sum}
-use Rattle.cw_read_back.specs.Expressions.Unplaced.{nowhere, unplaced_number, unplaced_octal, unplaced_literal, unplaced_type, unplaced_name, unplaced_sign, unplaced_factor, unplaced_bits, unplaced_all, unplaced_expr_step, unplaced_primary_step, unplaced_ref_step, unplaced_cand_step, unplaced_cmp_step, unplaced_cond_step, unplaced_differ_step, unplaced_mask_step, unplaced_prim_step, unplaced_sum_step, unplaced_term_step, unplaced_union_step, unplaced_expr, unplaced_primary, unplaced_ref, unplaced_cand, unplaced_cmp, unplaced_cond, unplaced_differ, unplaced_mask, unplaced_prim, unplaced_sum, unplaced_term, unplaced_union}
+use Rattle.cw_tree.specs.declared.expression.RawExpr.TheViews.{roll-out-RawExpr, roll-out-RawPrimary, roll-out-RawPrim, roll-out-RawMask, roll-out-RawUnion, roll-out-RawDiffer, roll-out-RawTerm, roll-out-RawSum}
+use Rattle.cw_tree.specs.declared.expression.RawExpr.{RawExpr, out-RawExpr}
+use Rattle.cw_tree.specs.declared.expression.RawPrimary.{RawPrimary, out-RawPrimary}
+use Rattle.cw_tree.specs.declared.expression.RawDiffer.{RawDiffer, out-RawDiffer}
+use Rattle.cw_tree.specs.declared.expression.RawMask.{RawMask, out-RawMask}
+use Rattle.cw_tree.specs.declared.expression.RawPrim.{RawPrim, out-RawPrim}
+use Rattle.cw_tree.specs.declared.expression.RawSum.{RawSum, out-RawSum}
+use Rattle.cw_tree.specs.declared.expression.RawTerm.{RawTerm, out-RawTerm}
+use Rattle.cw_tree.specs.declared.expression.RawUnion.{RawUnion, out-RawUnion}
+use Rattle.cw_grammar.specs.Trees.{sole, ◌>>-◌, Operands, as_sum, sole_term, as_term, as_differ, as_union, as_mask, as_prim, bracket_primary, bracket_prim, bracket_mask, bracket_union, bracket_differ, bracket_term, bracket_sum, mask_tree, union_tree, differ_tree, term_tree}
+use Rattle.cw_derived.proofs.Layers.{ExprLayer, PrimaryLayer, PrimLayer, MaskLayer, UnionLayer, DifferLayer, TermLayer, SumLayer, held}
+use Rattle.cw_read_back.specs.Expressions.Unplaced.{nowhere, unplaced_number, unplaced_octal, unplaced_literal, unplaced_type, unplaced_name, unplaced_sign, unplaced_factor, unplaced_bits, unplaced_expr, unplaced_primary, unplaced_ref, unplaced_cond, unplaced_differ, unplaced_mask, unplaced_prim, unplaced_sum, unplaced_term, unplaced_union}
+use Rattle.cw_read_back.proofs.Expressions.ExpressionLayers.{expr_bare, expr_unplaced, primary_bare, primary_unplaced, mask_parts, union_parts, differ_parts, term_parts, differ-bare, mask-bare, union-bare, prim-bare, sum-bare, term-bare}
 
 -- What is taken out of a tree without positions is what is taken out of the tree, without its positions.
 abbrev Keeps : {A B : Type 0} → (A → A) → (B → B) → (A → Option B) → Type 0
@@ -43,27 +41,19 @@ none_kept f g o k x d e h = at (o d) (sym (k d) ∙ ap o e ∙ k x ∙ ap (optio
 
 -- ---- an expression as a tree of a narrower rule
 
-abbrev ExprLayer : Type 0
-ExprLayer = RawExpr-F RawExpr RawPrimary RawRef RawCand RawCmp RawCond RawDiffer RawMask RawPrim RawSum RawTerm RawUnion
-
 abbrev summed : ExprLayer → Option RawSum
 summed y = elim y [ layer.Choice at c a b ↦ None | layer.Sum s ↦ Some s ]
 
 sum_kept : Keeps unplaced_expr unplaced_sum as_sum
 sum_kept e =
-    ap as_sum (fold_out-RawExpr RawExpr RawPrimary RawRef RawCand RawCmp RawCond RawDiffer RawMask RawPrim RawSum RawTerm RawUnion
-    unplaced_expr_step unplaced_primary_step unplaced_ref_step unplaced_cand_step unplaced_cmp_step unplaced_cond_step unplaced_differ_step unplaced_mask_step unplaced_prim_step unplaced_sum_step unplaced_term_step unplaced_union_step e)
-    ∙ elim (out-RawExpr e) as (λ (y : ExprLayer). as_sum (unplaced_expr_step (map-RawExpr RawExpr RawPrimary RawRef RawCand RawCmp RawCond RawDiffer RawMask RawPrim RawSum RawTerm RawUnion RawExpr RawPrimary RawRef RawCand RawCmp RawCond RawDiffer RawMask RawPrim RawSum RawTerm RawUnion
-    unplaced_expr unplaced_primary unplaced_ref unplaced_cand unplaced_cmp unplaced_cond unplaced_differ unplaced_mask unplaced_prim unplaced_sum unplaced_term unplaced_union y)) ≡ option_map unplaced_sum (summed y)) [
+    ap (λ z. as_sum (unplaced_expr z)) (sym (roll-out-RawExpr e)) ∙ ap as_sum (expr_unplaced (out-RawExpr e))
+    ∙ elim (out-RawExpr e) as (λ (y : ExprLayer). as_sum (expr_bare y) ≡ option_map unplaced_sum (summed y)) [
       | layer.Choice at c a b ↦ ap summed (out-roll-RawExpr (layer.Choice nowhere (unplaced_cond c) (unplaced_expr a) (unplaced_expr b)))
       | layer.Sum s ↦ ap summed (out-roll-RawExpr (layer.Sum (unplaced_sum s)))
     ]
 
-abbrev unsigned : RawSum-F RawExpr RawPrimary RawRef RawCand RawCmp RawCond RawDiffer RawMask RawPrim RawSum RawTerm RawUnion → Option RawTerm
+abbrev unsigned : SumLayer → Option RawTerm
 unsigned y = elim y.sign [ None ↦ sole y.operands | Some sign ↦ None ]
-
-abbrev without : RawSum-F RawExpr RawPrimary RawRef RawCand RawCmp RawCond RawDiffer RawMask RawPrim RawSum RawTerm RawUnion → RawSum-F RawExpr RawPrimary RawRef RawCand RawCmp RawCond RawDiffer RawMask RawPrim RawSum RawTerm RawUnion
-without y = record { sign = option_map unplaced_sign y.sign; operands = map unplaced_term y.operands; operators = map unplaced_sign y.operators }
 
 unsigned_kept : (o : Option RawSign) (xs : List RawTerm) → elim (option_map unplaced_sign o) [ None ↦ sole (map unplaced_term xs) | Some sign ↦ None ] ≡ option_map unplaced_term (elim o [ None ↦ sole xs | Some sign ↦ None ])
 unsigned_kept None xs = sole_kept unplaced_term xs
@@ -71,50 +61,29 @@ unsigned_kept (Some s) xs = refl
 
 sole_term_kept : Keeps unplaced_sum unplaced_term sole_term
 sole_term_kept s =
-    ap sole_term (fold_out-RawSum RawExpr RawPrimary RawRef RawCand RawCmp RawCond RawDiffer RawMask RawPrim RawSum RawTerm RawUnion
-    unplaced_expr_step unplaced_primary_step unplaced_ref_step unplaced_cand_step unplaced_cmp_step unplaced_cond_step unplaced_differ_step unplaced_mask_step unplaced_prim_step unplaced_sum_step unplaced_term_step unplaced_union_step s)
-    ∙ ap unsigned (out-roll-RawSum (without (out-RawSum s)))
-    ∙ unsigned_kept (out-RawSum s).sign (out-RawSum s).operands
+    let y : SumLayer = out-RawSum s in
+    ap (λ z. sole_term (unplaced_sum z)) (sym (roll-out-RawSum s)) ∙ ap sole_term (sum-bare y.sign y.operands y.operators)
+    ∙ ap unsigned (out-roll-RawSum (record { sign = option_map unplaced_sign y.sign; operands = map unplaced_term y.operands; operators = map unplaced_sign y.operators }))
+    ∙ unsigned_kept y.sign y.operands
 
-abbrev only_differ : RawTerm-F RawExpr RawPrimary RawRef RawCand RawCmp RawCond RawDiffer RawMask RawPrim RawSum RawTerm RawUnion → Option RawDiffer
-only_differ y = sole y.operands
+-- the sole operand of an operation
+operand_kept : {A B C : Type 0} (f : A → A) (g : B → B) (h : C → C) (tree : Operands B C → A) (parts : A → Operands B C) → ((x : A) → tree (parts x) ≡ x) → ((o : Operands B C) → parts (tree o) ≡ o) → ((xs : List B) (os : List C) → f (tree (xs, os)) ≡ tree (map g xs, map h os))
+    → Keeps f g (λ x. sole (parts x).0)
+operand_kept {B = B} {C = C} f g h tree parts whole taken bare x =
+    let o = parts x in
+    ap (λ z. sole (parts (f z)).0) (sym (whole x)) ∙ ap (λ z. sole (parts z).0) (bare o.0 o.1) ∙ ap (λ (z : Operands B C). sole z.0) (taken (map g o.0, map h o.1)) ∙ sole_kept g o.0
 
 sole_differ_kept : Keeps unplaced_term unplaced_differ (λ t. sole (out-RawTerm t).operands)
-sole_differ_kept t =
-    ap (λ z. sole (out-RawTerm z).operands) (fold_out-RawTerm RawExpr RawPrimary RawRef RawCand RawCmp RawCond RawDiffer RawMask RawPrim RawSum RawTerm RawUnion
-    unplaced_expr_step unplaced_primary_step unplaced_ref_step unplaced_cand_step unplaced_cmp_step unplaced_cond_step unplaced_differ_step unplaced_mask_step unplaced_prim_step unplaced_sum_step unplaced_term_step unplaced_union_step t)
-    ∙ ap only_differ (out-roll-RawTerm (record { operands = map unplaced_differ (out-RawTerm t).operands; operators = map unplaced_factor (out-RawTerm t).operators }))
-    ∙ sole_kept unplaced_differ (out-RawTerm t).operands
-
-abbrev only_union : RawDiffer-F RawExpr RawPrimary RawRef RawCand RawCmp RawCond RawDiffer RawMask RawPrim RawSum RawTerm RawUnion → Option RawUnion
-only_union y = sole y.operands
+sole_differ_kept = operand_kept unplaced_term unplaced_differ unplaced_factor term_tree term_parts roll-out-RawTerm (λ o. ap (λ (z : TermLayer). (z.operands, z.operators)) (out-roll-RawTerm (record { operands = o.0; operators = o.1 }))) term-bare
 
 sole_union_kept : Keeps unplaced_differ unplaced_union (λ t. sole (out-RawDiffer t).operands)
-sole_union_kept t =
-    ap (λ z. sole (out-RawDiffer z).operands) (fold_out-RawDiffer RawExpr RawPrimary RawRef RawCand RawCmp RawCond RawDiffer RawMask RawPrim RawSum RawTerm RawUnion
-    unplaced_expr_step unplaced_primary_step unplaced_ref_step unplaced_cand_step unplaced_cmp_step unplaced_cond_step unplaced_differ_step unplaced_mask_step unplaced_prim_step unplaced_sum_step unplaced_term_step unplaced_union_step t)
-    ∙ ap only_union (out-roll-RawDiffer (record { operands = map unplaced_union (out-RawDiffer t).operands; operators = unplaced_all (out-RawDiffer t).operators }))
-    ∙ sole_kept unplaced_union (out-RawDiffer t).operands
-
-abbrev only_mask : RawUnion-F RawExpr RawPrimary RawRef RawCand RawCmp RawCond RawDiffer RawMask RawPrim RawSum RawTerm RawUnion → Option RawMask
-only_mask y = sole y.operands
+sole_union_kept = operand_kept unplaced_differ unplaced_union (λ p. nowhere) differ_tree differ_parts roll-out-RawDiffer (λ o. ap (λ (z : DifferLayer). (z.operands, z.operators)) (out-roll-RawDiffer (record { operands = o.0; operators = o.1 }))) differ-bare
 
 sole_mask_kept : Keeps unplaced_union unplaced_mask (λ t. sole (out-RawUnion t).operands)
-sole_mask_kept t =
-    ap (λ z. sole (out-RawUnion z).operands) (fold_out-RawUnion RawExpr RawPrimary RawRef RawCand RawCmp RawCond RawDiffer RawMask RawPrim RawSum RawTerm RawUnion
-    unplaced_expr_step unplaced_primary_step unplaced_ref_step unplaced_cand_step unplaced_cmp_step unplaced_cond_step unplaced_differ_step unplaced_mask_step unplaced_prim_step unplaced_sum_step unplaced_term_step unplaced_union_step t)
-    ∙ ap only_mask (out-roll-RawUnion (record { operands = map unplaced_mask (out-RawUnion t).operands; operators = unplaced_all (out-RawUnion t).operators }))
-    ∙ sole_kept unplaced_mask (out-RawUnion t).operands
-
-abbrev only_prim : RawMask-F RawExpr RawPrimary RawRef RawCand RawCmp RawCond RawDiffer RawMask RawPrim RawSum RawTerm RawUnion → Option RawPrim
-only_prim y = sole y.operands
+sole_mask_kept = operand_kept unplaced_union unplaced_mask (λ p. nowhere) union_tree union_parts roll-out-RawUnion (λ o. ap (λ (z : UnionLayer). (z.operands, z.operators)) (out-roll-RawUnion (record { operands = o.0; operators = o.1 }))) union-bare
 
 sole_prim_kept : Keeps unplaced_mask unplaced_prim (λ t. sole (out-RawMask t).operands)
-sole_prim_kept t =
-    ap (λ z. sole (out-RawMask z).operands) (fold_out-RawMask RawExpr RawPrimary RawRef RawCand RawCmp RawCond RawDiffer RawMask RawPrim RawSum RawTerm RawUnion
-    unplaced_expr_step unplaced_primary_step unplaced_ref_step unplaced_cand_step unplaced_cmp_step unplaced_cond_step unplaced_differ_step unplaced_mask_step unplaced_prim_step unplaced_sum_step unplaced_term_step unplaced_union_step t)
-    ∙ ap only_prim (out-roll-RawMask (record { operands = map unplaced_prim (out-RawMask t).operands; operators = unplaced_all (out-RawMask t).operators }))
-    ∙ sole_kept unplaced_prim (out-RawMask t).operands
+sole_prim_kept = operand_kept unplaced_mask unplaced_prim (λ p. nowhere) mask_tree mask_parts roll-out-RawMask (λ o. ap (λ (z : MaskLayer). (z.operands, z.operators)) (out-roll-RawMask (record { operands = o.0; operators = o.1 }))) mask-bare
 
 term_kept : Keeps unplaced_expr unplaced_term as_term
 term_kept = then_kept _ _ _ as_sum sole_term sum_kept sole_term_kept
@@ -133,40 +102,22 @@ prim_kept = then_kept _ _ _ as_mask (λ t. sole (out-RawMask t).operands) mask_k
 
 -- ---- what stands in a bracket
 
-abbrev pub PrimaryLayer : Type 0
-PrimaryLayer = RawPrimary-F RawExpr RawPrimary RawRef RawCand RawCmp RawCond RawDiffer RawMask RawPrim RawSum RawTerm RawUnion
-
-abbrev pub inside : PrimaryLayer → Option RawExpr
-inside y = elim y [
-  | layer.Number n ↦ None
-  | layer.Octal n ↦ None
-  | layer.Literal c ↦ None
-  | layer.Text at cs ↦ None
-  | layer.Location at r ↦ None
-  | layer.Forced t e ↦ None
-  | layer.Bracket at e ↦ Some e
-  | layer.Ref r ↦ None
-  | layer.Call f xs ↦ None
-]
-
 bracket_primary_kept : Keeps unplaced_primary unplaced_expr bracket_primary
 bracket_primary_kept p =
-    ap bracket_primary (fold_out-RawPrimary RawExpr RawPrimary RawRef RawCand RawCmp RawCond RawDiffer RawMask RawPrim RawSum RawTerm RawUnion
-    unplaced_expr_step unplaced_primary_step unplaced_ref_step unplaced_cand_step unplaced_cmp_step unplaced_cond_step unplaced_differ_step unplaced_mask_step unplaced_prim_step unplaced_sum_step unplaced_term_step unplaced_union_step p)
-    ∙ elim (out-RawPrimary p) as (λ (y : PrimaryLayer). bracket_primary (unplaced_primary_step (map-RawPrimary RawExpr RawPrimary RawRef RawCand RawCmp RawCond RawDiffer RawMask RawPrim RawSum RawTerm RawUnion RawExpr RawPrimary RawRef RawCand RawCmp RawCond RawDiffer RawMask RawPrim RawSum RawTerm RawUnion
-    unplaced_expr unplaced_primary unplaced_ref unplaced_cand unplaced_cmp unplaced_cond unplaced_differ unplaced_mask unplaced_prim unplaced_sum unplaced_term unplaced_union y)) ≡ option_map unplaced_expr (inside y)) [
-      | layer.Number n ↦ ap inside (out-roll-RawPrimary (layer.Number (unplaced_number n)))
-      | layer.Octal n ↦ ap inside (out-roll-RawPrimary (layer.Octal (unplaced_octal n)))
-      | layer.Literal c ↦ ap inside (out-roll-RawPrimary (layer.Literal (unplaced_literal c)))
-      | layer.Text at cs ↦ ap inside (out-roll-RawPrimary (layer.Text nowhere cs))
-      | layer.Location at r ↦ ap inside (out-roll-RawPrimary (layer.Location nowhere (unplaced_ref r)))
-      | layer.Forced t e ↦ ap inside (out-roll-RawPrimary (layer.Forced (unplaced_type t) (unplaced_expr e)))
-      | layer.Bracket at e ↦ ap inside (out-roll-RawPrimary (layer.Bracket nowhere (unplaced_expr e)))
-      | layer.Ref r ↦ ap inside (out-roll-RawPrimary (layer.Ref (unplaced_ref r)))
-      | layer.Call f xs ↦ ap inside (out-roll-RawPrimary (layer.Call (unplaced_name f) (map unplaced_expr xs)))
+    ap (λ z. bracket_primary (unplaced_primary z)) (sym (roll-out-RawPrimary p)) ∙ ap bracket_primary (primary_unplaced (out-RawPrimary p))
+    ∙ elim (out-RawPrimary p) as (λ (y : PrimaryLayer). bracket_primary (primary_bare y) ≡ option_map unplaced_expr (held y)) [
+      | layer.Number n ↦ ap held (out-roll-RawPrimary (layer.Number (unplaced_number n)))
+      | layer.Octal n ↦ ap held (out-roll-RawPrimary (layer.Octal (unplaced_octal n)))
+      | layer.Literal c ↦ ap held (out-roll-RawPrimary (layer.Literal (unplaced_literal c)))
+      | layer.Text at cs ↦ ap held (out-roll-RawPrimary (layer.Text nowhere cs))
+      | layer.Location at r ↦ ap held (out-roll-RawPrimary (layer.Location nowhere (unplaced_ref r)))
+      | layer.Forced t e ↦ ap held (out-roll-RawPrimary (layer.Forced (unplaced_type t) (unplaced_expr e)))
+      | layer.Bracket at e ↦ ap held (out-roll-RawPrimary (layer.Bracket nowhere (unplaced_expr e)))
+      | layer.Ref r ↦ ap held (out-roll-RawPrimary (layer.Ref (unplaced_ref r)))
+      | layer.Call f xs ↦ ap held (out-roll-RawPrimary (layer.Call (unplaced_name f) (map unplaced_expr xs)))
     ]
 
-abbrev without_bits : RawPrim-F RawExpr RawPrimary RawRef RawCand RawCmp RawCond RawDiffer RawMask RawPrim RawSum RawTerm RawUnion → Option RawExpr
+abbrev without_bits : PrimLayer → Option RawExpr
 without_bits y = elim y.bits [ [] ↦ bracket_primary y.primary | b ∷ bs ↦ None ]
 
 bits_kept : (bits : List RawBits) (p : RawPrimary) → elim (map unplaced_bits bits) [ [] ↦ bracket_primary (unplaced_primary p) | b ∷ bs ↦ None ] ≡ option_map unplaced_expr (elim bits [ [] ↦ bracket_primary p | b ∷ bs ↦ None ])
@@ -175,10 +126,10 @@ bits_kept (b ∷ bs) p = refl
 
 bracket_prim_kept : Keeps unplaced_prim unplaced_expr bracket_prim
 bracket_prim_kept p =
-    ap bracket_prim (fold_out-RawPrim RawExpr RawPrimary RawRef RawCand RawCmp RawCond RawDiffer RawMask RawPrim RawSum RawTerm RawUnion
-    unplaced_expr_step unplaced_primary_step unplaced_ref_step unplaced_cand_step unplaced_cmp_step unplaced_cond_step unplaced_differ_step unplaced_mask_step unplaced_prim_step unplaced_sum_step unplaced_term_step unplaced_union_step p)
-    ∙ ap without_bits (out-roll-RawPrim (record { bits = map unplaced_bits (out-RawPrim p).bits; primary = unplaced_primary (out-RawPrim p).primary }))
-    ∙ bits_kept (out-RawPrim p).bits (out-RawPrim p).primary
+    let y : PrimLayer = out-RawPrim p in
+    ap (λ z. bracket_prim (unplaced_prim z)) (sym (roll-out-RawPrim p)) ∙ ap bracket_prim (prim-bare y.bits y.primary)
+    ∙ ap without_bits (out-roll-RawPrim (record { bits = map unplaced_bits y.bits; primary = unplaced_primary y.primary }))
+    ∙ bits_kept y.bits y.primary
 
 bracket_mask_kept : Keeps unplaced_mask unplaced_expr bracket_mask
 bracket_mask_kept = then_kept _ _ _ (λ m. sole (out-RawMask m).operands) bracket_prim sole_prim_kept bracket_prim_kept

@@ -18,8 +18,8 @@ use Rattle.cw_tree.specs.declared.expression.RawPrimary.TheVariants as primary_t
 use Rattle.cw_tree.specs.declared.expression.RawRef.{RawRef}
 use Rattle.cw_tree.specs.declared.expression.RawRef.TheVariants as ref_tree
 use Rattle.cw_grammar.specs.Tokens.{position, characters}
-use Rattle.cw_grammar.specs.Grammar.{a_list, an_option, a_position, a_name, a_number, an_octal, an_int, a_sint, a_size, a_type, a_sign, a_factor_sign, a_compare_sign, a_bits, an_expr, a_cond, a_cand, a_cmp, a_sum, a_term, a_differ, a_union, a_mask, a_prim, a_primary, a_ref, many}
-use Rattle.cw_grammar.specs.Rules.{name, number, octal, int, sign, sint, number_type, size, operator, factor_sign, comparator, bits, indexed_name, raw_literal, optional, reference, constant, worded, enclosed, named, primary, prim, mask, union, differ, term, sum, cmp, cand, condition, expr}
+use Rattle.cw_grammar.specs.Grammar.{a_list, an_option, an_octal, an_int, a_sint, a_size, a_type, a_sign, a_bits, an_expr, a_cond, a_cand, a_cmp, a_sum, a_term, a_differ, a_union, a_mask, a_prim, a_primary, a_ref, many}
+use Rattle.cw_grammar.specs.Rules.{octal, int, sign, sint, number_type, size, bits, indexed_name, raw_literal, optional, reference, constant, worded, enclosed, named, primary, prim, mask, union, differ, term, sum, cmp, cand, condition, expr}
 use Rattle.cw_grammar.specs.Trees.{Operands, extended, cand_tree, cond_tree}
 use Rattle.cw_show.specs.Spelling.{word, symbol}
 use Rattle.cw_show.specs.Canonical.{Tokens, compare_symbol, int_tokens, sint_tokens, sign_tokens, size_tokens, type_tokens, between, comma, bracketed, indexed}
@@ -29,15 +29,10 @@ use Rattle.cw_tokens.specs.LeastTokens.{separated}
 use Rattle.cw_tokens.specs.TreeTokens.{total}
 use Rattle.cw_read_back.proofs.Shorter.Lengths.{between_grows, extended_most}
 use Rattle.cw_read_back.proofs.Shorter.Held.{mask_most, union_most, differ_most, term_most, sum_most, expr_of_falls, prim_of_falls}
-use Rattle.cw_read_back.proofs.Shorter.Built.{second_length, Built, b_one, b_none, b_then, b_left, b_right, b_end, b_more, b_map, b_opens, Counts, pairs_count}
+use Rattle.cw_tokens.proofs.Counting.{b_one, b_none, b_then, b_left, b_right, b_end, b_more, b_map, b_opens, pairs_count, name_counts, number_counts, sign_counts, factor_counts, comparator_counts, operator_counts}
+use Rattle.cw_read_back.proofs.Shorter.Built.{second_length, Built, Counts}
 
 -- ---- names, numbers, types and signs
-
-pub name_counts : Counts a_name name (λ x. 1)
-name_counts x u (b_map b_one) = omega arith
-
-pub number_counts : Counts a_number number (λ x. 1)
-number_counts x u (b_map b_one) = omega arith
 
 pub octal_counts : Counts an_octal octal (λ x. 4)
 unfolding octal
@@ -47,10 +42,6 @@ pub int_counts : Counts an_int int (λ x. length (int_tokens x))
 unfolding int
 int_counts x u (b_left (b_map {u = v} {x = n} d)) = omega (arith, number_counts n v d)
 int_counts x u (b_right (b_map {u = v} {x = n} d)) = omega (arith, octal_counts n v d)
-
-sign_counts : Counts a_sign sign (λ x. 1)
-sign_counts x u (b_left (b_map b_one)) = omega arith
-sign_counts x u (b_right (b_map b_one)) = omega arith
 
 pub front_counts : Counts (an_option a_sign) (optional sign) (λ o. length (sign_tokens o))
 front_counts x u (b_left (b_map {u = v} {x = y} d)) = omega (arith, sign_counts y v d)
@@ -84,23 +75,6 @@ bits_counts x u (b_map (b_then {v = v} {y = z} b_one d)) = omega (arith, size_co
 many_bits : {xs : List RawBits} {u : ℕ} → Built (a_list a_bits) (many bits) xs u → total (map (λ b. length (bits_tokens b)) xs) ≤ u
 many_bits b_end = omega arith
 many_bits (b_more {u = u} {x = x} d e) = omega (arith, bits_counts x u d, many_bits e)
-
--- ---- operators
-
-factor_counts : Counts a_factor_sign factor_sign (λ x. 1)
-factor_counts x u (b_left (b_map b_one)) = omega arith
-factor_counts x u (b_right (b_map b_one)) = omega arith
-
-comparator_counts : Counts a_compare_sign comparator (λ x. 1)
-comparator_counts x u (b_left (b_map b_one)) = omega arith
-comparator_counts x u (b_right (b_left (b_map b_one))) = omega arith
-comparator_counts x u (b_right (b_right (b_left (b_map b_one)))) = omega arith
-comparator_counts x u (b_right (b_right (b_right (b_left (b_map b_one))))) = omega arith
-comparator_counts x u (b_right (b_right (b_right (b_right (b_left (b_map b_one)))))) = omega arith
-comparator_counts x u (b_right (b_right (b_right (b_right (b_right (b_map b_one)))))) = omega arith
-
-operator_counts : {w : Word} → Counts a_position (operator w) (λ x. 1)
-operator_counts x u (b_map b_one) = omega arith
 
 -- ---- references
 
@@ -203,21 +177,21 @@ cmp_counts x u (b_map (b_then {u = v} {x = a} d (b_then {u = w} {v = z} {x = op}
     let all = ap length (cmp-tokens a op b) in
     omega (arith, all, length-append (sum_tokens a) (compare_symbol op.op ∷ sum_tokens b), sum_counts a v d, comparator_counts op w o, sum_counts b z e)
 
+-- operands with a word between them, whose first is not joined
+worded_most : {A C : Type 0} (inner : A → Tokens) (outer : C → Tokens) (w : Word) (tree : Operands A Position → C) → ((xs : List A) (os : List Position) → outer (tree (xs, os)) ≡ between (word w) (map inner xs))
+    → (x : A) (more : List (Position × A)) → length (outer (tree (extended (x ∷ [], []) more))) ≤ length (inner x) + separated (map (λ z. length (inner z.1)) more)
+worded_most {A = A} inner outer w tree makes x more =
+    let ops : Operands A Position = extended (x ∷ [], []) more in
+    let size : Operands A Position → ℕ = λ o. length (between (word w) (map inner o.0)) in
+    let all : length (outer (tree ops)) ≡ size ops = ap length (makes ops.0 ops.1) in
+    let grown : size ops ≤ size (x ∷ [], []) + separated (map (λ z. length (inner z.1)) more) = extended_most size (λ y. length (inner y)) (λ o b y. between_grows (word w) inner o.0 y) (x ∷ [], []) more in
+    omega (arith, all, grown, length-append (inner x) [])
+
 cand_most : (x : RawCmp) (more : List (Position × RawCmp)) → length (cand_tokens (cand_tree (extended (x ∷ [], []) more))) ≤ length (cmp_tokens x) + separated (map (λ z. length (cmp_tokens z.1)) more)
-cand_most x more =
-    let ops : Operands RawCmp Position = extended (x ∷ [], []) more in
-    let size : Operands RawCmp Position → ℕ = λ o. length (between (word words.And) (map cmp_tokens o.0)) in
-    let all : length (cand_tokens (cand_tree ops)) ≡ size ops = ap length (cand-tokens ops.0 ops.1) in
-    let grown : size ops ≤ size (x ∷ [], []) + separated (map (λ z. length (cmp_tokens z.1)) more) = extended_most size (λ y. length (cmp_tokens y)) (λ o b y. between_grows (word words.And) cmp_tokens o.0 y) (x ∷ [], []) more in
-    omega (arith, all, grown, length-append (cmp_tokens x) [])
+cand_most = worded_most cmp_tokens cand_tokens words.And cand_tree cand-tokens
 
 cond_most : (x : RawCand) (more : List (Position × RawCand)) → length (cond_tokens (cond_tree (extended (x ∷ [], []) more))) ≤ length (cand_tokens x) + separated (map (λ z. length (cand_tokens z.1)) more)
-cond_most x more =
-    let ops : Operands RawCand Position = extended (x ∷ [], []) more in
-    let size : Operands RawCand Position → ℕ = λ o. length (between (word words.Or) (map cand_tokens o.0)) in
-    let all : length (cond_tokens (cond_tree ops)) ≡ size ops = ap length (cond-tokens ops.0 ops.1) in
-    let grown : size ops ≤ size (x ∷ [], []) + separated (map (λ z. length (cand_tokens z.1)) more) = extended_most size (λ y. length (cand_tokens y)) (λ o b y. between_grows (word words.Or) cand_tokens o.0 y) (x ∷ [], []) more in
-    omega (arith, all, grown, length-append (cand_tokens x) [])
+cond_most = worded_most cand_tokens cond_tokens words.Or cond_tree cond-tokens
 
 cand_counts : Counts a_cand cand (λ x. length (cand_tokens x))
 unfolding cand

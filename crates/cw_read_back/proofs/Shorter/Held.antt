@@ -1,5 +1,6 @@
 -- A bracket that is not needed is gone, and what stood in it has no more tokens than it had with the bracket.
 use Rattle.std.proofs.Common.{◌≡◌, ℕ, suc, ◌+◌, ◌≤◌, List, [], ◌∷◌, ◌++◌, length, length-append, map, Option, Some, None, refl, sym, ap, ◌∙◌, arith}
+use Rattle.cw_lex.specs.declared.token.Word.{Word}
 use Rattle.cw_lex.specs.declared.token.Word.TheVariants as words
 use Rattle.cw_tree.specs.declared.leaf.Position.{Position}
 use Rattle.cw_tree.specs.declared.leaf.RawSign.{RawSign}
@@ -8,43 +9,28 @@ use Rattle.cw_tree.specs.declared.expression.RawBits.{RawBits}
 use Rattle.cw_tree.specs.declared.expression.RawExpr.TheOpen as layer
 use Rattle.cw_tree.specs.declared.expression.RawExpr.TheVariants as expr_tree
 use Rattle.cw_tree.specs.declared.expression.RawPrimary.TheVariants as primary_tree
-use Rattle.cw_tree.specs.declared.expression.RawExpr.TheViews.{roll-out-RawExpr, roll-out-RawPrimary, roll-out-RawDiffer, roll-out-RawMask, roll-out-RawPrim, roll-out-RawSum, roll-out-RawTerm, roll-out-RawUnion}
-use Rattle.cw_tree.specs.declared.expression.RawExpr.{RawExpr, RawExpr-F, out-RawExpr, roll-RawExpr}
+use Rattle.cw_tree.specs.declared.expression.RawExpr.TheViews.{roll-out-RawExpr, roll-out-RawPrimary, roll-out-RawPrim, roll-out-RawSum}
+use Rattle.cw_tree.specs.declared.expression.RawExpr.{RawExpr, out-RawExpr, roll-RawExpr}
 use Rattle.cw_tree.specs.declared.expression.RawPrimary.{RawPrimary, out-RawPrimary, roll-RawPrimary}
-use Rattle.cw_tree.specs.declared.expression.RawRef.{RawRef}
-use Rattle.cw_tree.specs.declared.expression.RawCand.{RawCand}
-use Rattle.cw_tree.specs.declared.expression.RawCmp.{RawCmp}
-use Rattle.cw_tree.specs.declared.expression.RawCond.{RawCond}
 use Rattle.cw_tree.specs.declared.expression.RawDiffer.{RawDiffer, out-RawDiffer}
 use Rattle.cw_tree.specs.declared.expression.RawMask.{RawMask, out-RawMask}
 use Rattle.cw_tree.specs.declared.expression.RawPrim.{RawPrim, out-RawPrim}
 use Rattle.cw_tree.specs.declared.expression.RawSum.{RawSum, out-RawSum}
 use Rattle.cw_tree.specs.declared.expression.RawTerm.{RawTerm, out-RawTerm}
 use Rattle.cw_tree.specs.declared.expression.RawUnion.{RawUnion, out-RawUnion}
-use Rattle.cw_grammar.specs.Trees.{sole, ◌>>-◌, Operands, extended, as_sum, sole_term, as_term, as_differ, as_union, as_mask, as_prim, bracket_primary, bracket_prim, bracket_mask, bracket_union, bracket_differ, bracket_term, bracket_sum, mask_start, union_start, differ_start, term_start, mask_tree, union_tree, differ_tree, term_tree, Terms, sum_tree, terms_of, sum_start, more_terms, expr_or, expr_of, prim_or, prim_of}
+use Rattle.cw_grammar.specs.Trees.{sole, ◌>>-◌, Operands, extended, first_of, as_sum, sole_term, as_term, as_differ, as_union, as_mask, as_prim, bracket_primary, bracket_prim, bracket_mask, bracket_union, bracket_differ, bracket_term, bracket_sum, mask_start, union_start, differ_start, term_start, mask_tree, union_tree, differ_tree, term_tree, Terms, sum_tree, terms_of, sum_start, more_terms, expr_or, expr_of, prim_or, prim_of}
 use Rattle.cw_show.specs.Spelling.{Spelling, word}
-use Rattle.cw_show.specs.Canonical.{add_symbol, multiply_symbol, sign_tokens, between, operation, joined, bracketed}
+use Rattle.cw_show.specs.Canonical.{Tokens, add_symbol, multiply_symbol, sign_tokens, between, operation, joined, bracketed}
 use Rattle.cw_show.specs.ExpressionTokens.{bits_tokens, expr_tokens, primary_tokens, differ_tokens, mask_tokens, prim_tokens, sum_tokens, term_tokens, union_tokens}
-use Rattle.cw_read_back.proofs.Expressions.Stays.{PrimaryLayer, inside}
-use Rattle.cw_read_back.proofs.Expressions.ExpressionLayers.{sum_expr-tokens, bracket-tokens, differ-tokens, mask-tokens, prim-tokens, sum-tokens, term-tokens, union-tokens}
+use Rattle.cw_derived.proofs.Layers.{ExprLayer, PrimaryLayer, held}
+use Rattle.cw_show.proofs.ExpressionLayers.{differ-layer, mask-layer, term-layer, union-layer}
+use Rattle.cw_read_back.proofs.Expressions.ExpressionLayers.{mask_parts, union_parts, differ_parts, term_parts, sum_expr-tokens, bracket-tokens, differ-tokens, mask-tokens, prim-tokens, sum-tokens, term-tokens, union-tokens}
 use Rattle.cw_tokens.specs.LeastTokens.{separated}
 use Rattle.cw_tokens.specs.TreeTokens.{total}
 use Rattle.cw_derived.proofs.Held.{not_none, same_some}
 use Rattle.cw_read_back.proofs.Shorter.Lengths.{joined_length, between_grows, operation_grows, extended_most, first_most, Falls, then_falls, sole_between, sole_operation}
 
 -- ---- trees by their operands
-
-mask_layer : (x : RawMask) → length (mask_tokens x) ≡ length (between (word words.Mask) (map prim_tokens (out-RawMask x).operands))
-mask_layer x = ap (λ y. length (mask_tokens y)) (sym (roll-out-RawMask x)) ∙ ap length (mask-tokens (out-RawMask x).operands (out-RawMask x).operators)
-
-union_layer : (x : RawUnion) → length (union_tokens x) ≡ length (between (word words.Union) (map mask_tokens (out-RawUnion x).operands))
-union_layer x = ap (λ y. length (union_tokens y)) (sym (roll-out-RawUnion x)) ∙ ap length (union-tokens (out-RawUnion x).operands (out-RawUnion x).operators)
-
-differ_layer : (x : RawDiffer) → length (differ_tokens x) ≡ length (between (word words.Differ) (map union_tokens (out-RawDiffer x).operands))
-differ_layer x = ap (λ y. length (differ_tokens y)) (sym (roll-out-RawDiffer x)) ∙ ap length (differ-tokens (out-RawDiffer x).operands (out-RawDiffer x).operators)
-
-term_layer : (x : RawTerm) → length (term_tokens x) ≡ length (operation (map (λ s. multiply_symbol s.op) (out-RawTerm x).operators) (map differ_tokens (out-RawTerm x).operands))
-term_layer x = ap (λ y. length (term_tokens y)) (sym (roll-out-RawTerm x)) ∙ ap length (term-tokens (out-RawTerm x).operands (out-RawTerm x).operators)
 
 sum_made : (o : Option RawSign) (xs : List RawTerm) (os : List RawSign) → length (sum_tokens (sum_tree (o, (xs, os)))) ≡ length (sign_tokens o) + length (operation (map (λ s. add_symbol s.op) os) (map term_tokens xs))
 sum_made o xs os = ap length (sum-tokens o xs os) ∙ length-append (sign_tokens o) (operation (map (λ s. add_symbol s.op) os) (map term_tokens xs))
@@ -61,9 +47,6 @@ prim_layer : (x : RawPrim) → length (prim_tokens x) ≡ total (map (λ b. leng
 prim_layer x = ap (λ y. length (prim_tokens y)) (sym (roll-out-RawPrim x)) ∙ prim_made (out-RawPrim x).bits (out-RawPrim x).primary
 
 -- ---- an expression that is a tree of a narrower rule
-
-abbrev ExprLayer : Type 0
-ExprLayer = RawExpr-F RawExpr RawPrimary RawRef RawCand RawCmp RawCond RawDiffer RawMask RawPrim RawSum RawTerm RawUnion
 
 abbrev summed : ExprLayer → Option RawSum
 summed y = elim y [ layer.Choice at c a b ↦ None | layer.Sum s ↦ Some s ]
@@ -93,46 +76,39 @@ as_term_falls : Falls expr_tokens term_tokens as_term
 as_term_falls e t q = then_falls (length (expr_tokens e)) sum_tokens term_tokens (as_sum e) sole_term t (as_sum_falls e) sole_term_falls q
 
 sole_differ_falls : Falls term_tokens differ_tokens (λ x. sole (out-RawTerm x).operands)
-sole_differ_falls x y e = omega (arith, sole_operation differ_tokens (map (λ s. multiply_symbol s.op) (out-RawTerm x).operators) (out-RawTerm x).operands y e, term_layer x)
+sole_differ_falls x y e = omega (arith, sole_operation differ_tokens (map (λ s. multiply_symbol s.op) (out-RawTerm x).operators) (out-RawTerm x).operands y e, ap length (term-layer x))
 
 as_differ_falls : Falls expr_tokens differ_tokens as_differ
 as_differ_falls e t q = then_falls (length (expr_tokens e)) term_tokens differ_tokens (as_term e) (λ x. sole (out-RawTerm x).operands) t (as_term_falls e) sole_differ_falls q
 
 sole_union_falls : Falls differ_tokens union_tokens (λ x. sole (out-RawDiffer x).operands)
-sole_union_falls x y e = omega (arith, sole_between union_tokens (word words.Differ) (out-RawDiffer x).operands y e, differ_layer x)
+sole_union_falls x y e = omega (arith, sole_between union_tokens (word words.Differ) (out-RawDiffer x).operands y e, ap length (differ-layer x))
 
 as_union_falls : Falls expr_tokens union_tokens as_union
 as_union_falls e t q = then_falls (length (expr_tokens e)) differ_tokens union_tokens (as_differ e) (λ x. sole (out-RawDiffer x).operands) t (as_differ_falls e) sole_union_falls q
 
 sole_mask_falls : Falls union_tokens mask_tokens (λ x. sole (out-RawUnion x).operands)
-sole_mask_falls x y e = omega (arith, sole_between mask_tokens (word words.Union) (out-RawUnion x).operands y e, union_layer x)
+sole_mask_falls x y e = omega (arith, sole_between mask_tokens (word words.Union) (out-RawUnion x).operands y e, ap length (union-layer x))
 
 as_mask_falls : Falls expr_tokens mask_tokens as_mask
 as_mask_falls e t q = then_falls (length (expr_tokens e)) union_tokens mask_tokens (as_union e) (λ x. sole (out-RawUnion x).operands) t (as_union_falls e) sole_mask_falls q
 
 sole_prim_falls : Falls mask_tokens prim_tokens (λ x. sole (out-RawMask x).operands)
-sole_prim_falls x y e = omega (arith, sole_between prim_tokens (word words.Mask) (out-RawMask x).operands y e, mask_layer x)
+sole_prim_falls x y e = omega (arith, sole_between prim_tokens (word words.Mask) (out-RawMask x).operands y e, ap length (mask-layer x))
 
 as_prim_falls : Falls expr_tokens prim_tokens as_prim
 as_prim_falls e t q = then_falls (length (expr_tokens e)) mask_tokens prim_tokens (as_mask e) (λ x. sole (out-RawMask x).operands) t (as_mask_falls e) sole_prim_falls q
 
 -- ---- what a bracket alone holds
 
-held_in_layer : (x : PrimaryLayer) (e : RawExpr) → inside x ≡ Some e → length (expr_tokens e) ≤ length (primary_tokens (roll-RawPrimary x))
-held_in_layer (layer.Number n) e q = absurd (not_none q)
-held_in_layer (layer.Octal n) e q = absurd (not_none q)
-held_in_layer (layer.Literal c) e q = absurd (not_none q)
-held_in_layer (layer.Text at cs) e q = absurd (not_none q)
-held_in_layer (layer.Location at r) e q = absurd (not_none q)
-held_in_layer (layer.Forced t x) e q = absurd (not_none q)
+held_in_layer : (x : PrimaryLayer) (e : RawExpr) → held x ≡ Some e → length (expr_tokens e) ≤ length (primary_tokens (roll-RawPrimary x))
 held_in_layer (layer.Bracket at x) e q =
     let a = ap (λ y. length (expr_tokens y)) (same_some q) in
     let b : length (primary_tokens (primary_tree.Bracket at x)) ≡ length (bracketed (expr_tokens x)) = ap length (bracket-tokens at x) in
     let c = ap (λ y. length (primary_tokens y)) (primary_tree.rolls-Bracket at x) in
     let d : length (bracketed (expr_tokens x)) ≡ suc (length (expr_tokens x) + 1) = ap suc (length-append (expr_tokens x) _) in
     omega (arith, a, b, c, d)
-held_in_layer (layer.Ref r) e q = absurd (not_none q)
-held_in_layer (layer.Call f xs) e q = absurd (not_none q)
+held_in_layer _ e q = absurd (not_none q)
 
 primary_held : Falls primary_tokens expr_tokens bracket_primary
 primary_held x e q = let a = ap (λ y. length (primary_tokens y)) (roll-out-RawPrimary x) in omega (arith, held_in_layer (out-RawPrimary x) e q, a)
@@ -164,54 +140,42 @@ sum_held s e q = then_falls (length (sum_tokens s)) term_tokens expr_tokens (sol
 
 -- ---- operands: the first, and more behind their operators
 
-pub mask_most : (x : RawPrim) (more : List (Position × RawPrim)) → length (mask_tokens (mask_tree (extended (mask_start x) more))) ≤ length (prim_tokens x) + separated (map (λ z. length (prim_tokens z.1)) more)
-mask_most x more =
-    let ops : Operands RawPrim Position = extended (mask_start x) more in
-    let size : Operands RawPrim Position → ℕ = λ o. length (between (word words.Mask) (map prim_tokens o.0)) in
-    let all : length (mask_tokens (mask_tree ops)) ≡ size ops = ap length (mask-tokens ops.0 ops.1) in
-    let grown : size ops ≤ size (mask_start x) + separated (map (λ z. length (prim_tokens z.1)) more) = extended_most size (λ y. length (prim_tokens y)) (λ o b y. between_grows (word words.Mask) prim_tokens o.0 y) (mask_start x) more in
-    let begun : size (mask_start x) ≤ length (prim_tokens x) =
-    first_most size (λ y. length (prim_tokens y)) (λ m. ((out-RawMask m).operands, (out-RawMask m).operators)) (bracket_prim x >>- as_mask) x
-    (omega (arith, length-append (prim_tokens x) []))
-    (λ m e. omega (arith, mask_layer m, then_falls (length (prim_tokens x)) expr_tokens mask_tokens (bracket_prim x) as_mask m (prim_held x) as_mask_falls e)) in
+-- A tree of a rule whose first operand is joined where its bracket holds a tree of the same rule.
+joined_most : {A B C : Type 0} (inner : A → Tokens) (outer : C → Tokens) (written : Operands A B → Tokens) (parts : C → Operands A B) (tree : Operands A B → C) (bracket : A → Option RawExpr) (narrow : RawExpr → Option C)
+    → Falls inner expr_tokens bracket → Falls expr_tokens outer narrow → ((c : C) → outer c ≡ written (parts c)) → ((xs : List A) (os : List B) → outer (tree (xs, os)) ≡ written (xs, os))
+    → ((x : A) → written (x ∷ [], []) ≡ inner x ++ []) → ((ops : Operands A B) (b : B) (y : A) → length (written (ops.0 ++ y ∷ [], ops.1 ++ b ∷ [])) ≤ length (written ops) + suc (length (inner y)))
+    → (x : A) (more : List (B × A)) → length (outer (tree (extended (first_of parts (bracket x >>- narrow) x) more))) ≤ length (inner x) + separated (map (λ z. length (inner z.1)) more)
+joined_most {A = A} {B = B} inner outer written parts tree bracket narrow held narrowed taken makes alone grows x more =
+    let size : Operands A B → ℕ = λ o. length (written o) in
+    let start : Operands A B = first_of parts (bracket x >>- narrow) x in
+    let ops : Operands A B = extended start more in
+    let one : size (x ∷ [], []) ≡ length (inner x ++ []) = ap length (alone x) in
+    let all : length (outer (tree ops)) ≡ size ops = ap length (makes ops.0 ops.1) in
+    let grown : size ops ≤ size start + separated (map (λ z. length (inner z.1)) more) = extended_most size (λ y. length (inner y)) grows start more in
+    let begun : size start ≤ length (inner x) =
+    first_most size (λ y. length (inner y)) parts (bracket x >>- narrow) x (omega (arith, one, length-append (inner x) []))
+    (λ c e. omega (arith, ap length (taken c), then_falls (length (inner x)) expr_tokens outer (bracket x) narrow c (held x) narrowed e)) in
     omega (arith, all, grown, begun)
+
+-- one with a word between its operands
+worded_most : {A C : Type 0} (inner : A → Tokens) (outer : C → Tokens) (w : Word) (parts : C → Operands A Position) (tree : Operands A Position → C) (bracket : A → Option RawExpr) (narrow : RawExpr → Option C)
+    → Falls inner expr_tokens bracket → Falls expr_tokens outer narrow → ((c : C) → outer c ≡ between (word w) (map inner (parts c).0)) → ((xs : List A) (os : List Position) → outer (tree (xs, os)) ≡ between (word w) (map inner xs))
+    → (x : A) (more : List (Position × A)) → length (outer (tree (extended (first_of parts (bracket x >>- narrow) x) more))) ≤ length (inner x) + separated (map (λ z. length (inner z.1)) more)
+worded_most inner outer w parts tree bracket narrow held narrowed taken makes =
+    joined_most inner outer (λ o. between (word w) (map inner o.0)) parts tree bracket narrow held narrowed taken makes (λ x. refl) (λ o b y. between_grows (word w) inner o.0 y)
+
+pub mask_most : (x : RawPrim) (more : List (Position × RawPrim)) → length (mask_tokens (mask_tree (extended (mask_start x) more))) ≤ length (prim_tokens x) + separated (map (λ z. length (prim_tokens z.1)) more)
+mask_most = worded_most prim_tokens mask_tokens words.Mask mask_parts mask_tree bracket_prim as_mask prim_held as_mask_falls mask-layer mask-tokens
 
 pub union_most : (x : RawMask) (more : List (Position × RawMask)) → length (union_tokens (union_tree (extended (union_start x) more))) ≤ length (mask_tokens x) + separated (map (λ z. length (mask_tokens z.1)) more)
-union_most x more =
-    let ops : Operands RawMask Position = extended (union_start x) more in
-    let size : Operands RawMask Position → ℕ = λ o. length (between (word words.Union) (map mask_tokens o.0)) in
-    let all : length (union_tokens (union_tree ops)) ≡ size ops = ap length (union-tokens ops.0 ops.1) in
-    let grown : size ops ≤ size (union_start x) + separated (map (λ z. length (mask_tokens z.1)) more) = extended_most size (λ y. length (mask_tokens y)) (λ o b y. between_grows (word words.Union) mask_tokens o.0 y) (union_start x) more in
-    let begun : size (union_start x) ≤ length (mask_tokens x) =
-    first_most size (λ y. length (mask_tokens y)) (λ m. ((out-RawUnion m).operands, (out-RawUnion m).operators)) (bracket_mask x >>- as_union) x
-    (omega (arith, length-append (mask_tokens x) []))
-    (λ m e. omega (arith, union_layer m, then_falls (length (mask_tokens x)) expr_tokens union_tokens (bracket_mask x) as_union m (mask_held x) as_union_falls e)) in
-    omega (arith, all, grown, begun)
+union_most = worded_most mask_tokens union_tokens words.Union union_parts union_tree bracket_mask as_union mask_held as_union_falls union-layer union-tokens
 
 pub differ_most : (x : RawUnion) (more : List (Position × RawUnion)) → length (differ_tokens (differ_tree (extended (differ_start x) more))) ≤ length (union_tokens x) + separated (map (λ z. length (union_tokens z.1)) more)
-differ_most x more =
-    let ops : Operands RawUnion Position = extended (differ_start x) more in
-    let size : Operands RawUnion Position → ℕ = λ o. length (between (word words.Differ) (map union_tokens o.0)) in
-    let all : length (differ_tokens (differ_tree ops)) ≡ size ops = ap length (differ-tokens ops.0 ops.1) in
-    let grown : size ops ≤ size (differ_start x) + separated (map (λ z. length (union_tokens z.1)) more) = extended_most size (λ y. length (union_tokens y)) (λ o b y. between_grows (word words.Differ) union_tokens o.0 y) (differ_start x) more in
-    let begun : size (differ_start x) ≤ length (union_tokens x) =
-    first_most size (λ y. length (union_tokens y)) (λ m. ((out-RawDiffer m).operands, (out-RawDiffer m).operators)) (bracket_union x >>- as_differ) x
-    (omega (arith, length-append (union_tokens x) []))
-    (λ m e. omega (arith, differ_layer m, then_falls (length (union_tokens x)) expr_tokens differ_tokens (bracket_union x) as_differ m (union_held x) as_differ_falls e)) in
-    omega (arith, all, grown, begun)
+differ_most = worded_most union_tokens differ_tokens words.Differ differ_parts differ_tree bracket_union as_differ union_held as_differ_falls differ-layer differ-tokens
 
 pub term_most : (x : RawDiffer) (more : List (RawFactorSign × RawDiffer)) → length (term_tokens (term_tree (extended (term_start x) more))) ≤ length (differ_tokens x) + separated (map (λ z. length (differ_tokens z.1)) more)
-term_most x more =
-    let ops : Operands RawDiffer RawFactorSign = extended (term_start x) more in
-    let size : Operands RawDiffer RawFactorSign → ℕ = λ o. length (operation (map (λ s. multiply_symbol s.op) o.1) (map differ_tokens o.0)) in
-    let all : length (term_tokens (term_tree ops)) ≡ size ops = ap length (term-tokens ops.0 ops.1) in
-    let grown : size ops ≤ size (term_start x) + separated (map (λ z. length (differ_tokens z.1)) more) =
-    extended_most size (λ y. length (differ_tokens y)) (λ o b y. operation_grows (λ s. multiply_symbol s.op) differ_tokens o.1 o.0 b y) (term_start x) more in
-    let begun : size (term_start x) ≤ length (differ_tokens x) =
-    first_most size (λ y. length (differ_tokens y)) (λ m. ((out-RawTerm m).operands, (out-RawTerm m).operators)) (bracket_differ x >>- as_term) x
-    (omega (arith, length-append (differ_tokens x) []))
-    (λ m e. omega (arith, term_layer m, then_falls (length (differ_tokens x)) expr_tokens term_tokens (bracket_differ x) as_term m (differ_held x) as_term_falls e)) in
-    omega (arith, all, grown, begun)
+term_most = joined_most differ_tokens term_tokens (λ (o : Operands RawDiffer RawFactorSign). operation (map (λ (s : RawFactorSign). multiply_symbol s.op) o.1) (map differ_tokens o.0)) term_parts term_tree bracket_differ as_term differ_held as_term_falls term-layer term-tokens
+    (λ x. refl) (λ o b y. operation_grows (λ (s : RawFactorSign). multiply_symbol s.op) differ_tokens o.1 o.0 b y)
 
 -- ---- sums
 

@@ -24,8 +24,9 @@ use Rattle.cw_show.specs.Canonical.{Tokens, name as the_name, number, literal, o
 use Rattle.cw_show.specs.ItemTokens.{name_tokens, names_tokens, place_tokens, places_tokens, assigned_tokens, preset_tokens, range_tokens, second_range_tokens, bounds_tokens, group_tokens, groups_tokens, unsigned_tokens, shape_tokens, two_ints, elem_tokens, elems_tokens, table_with, data_tokens, base_tokens, overlay_tokens}
 use Rattle.cw_show.specs.SegmentTokens.{answer_tokens, tag, ips_tokens, ps_tokens, spec_tokens, citem_tokens, address_tokens, aitem_tokens, comm_tokens}
 use Rattle.cw_read_back.proofs.Shorter.Lengths.{between_length, between_append, between_none, listed_most}
-use Rattle.cw_read_back.proofs.Shorter.Built.{Built, b_one, b_none, b_then, b_left, b_right, b_map, b_again, Counts, behind_counts, token_counts}
-use Rattle.cw_read_back.proofs.Shorter.Expressions.{name_counts, number_counts, octal_counts, int_counts, front_counts, sint_counts, size_counts, type_counts, round_length}
+use Rattle.cw_tokens.proofs.Counting.{b_one, b_none, b_then, b_left, b_right, b_map, b_again, behind_counts, token_counts, name_counts, number_counts}
+use Rattle.cw_read_back.proofs.Shorter.Built.{Built, Counts}
+use Rattle.cw_read_back.proofs.Shorter.Expressions.{octal_counts, int_counts, front_counts, sint_counts, size_counts, type_counts, round_length}
 
 -- ---- lists
 

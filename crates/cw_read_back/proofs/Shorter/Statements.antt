@@ -34,8 +34,9 @@ use Rattle.cw_show.specs.SegmentTokens.{answer_tokens, tag, ips_tokens, comm_tok
 use Rattle.cw_show.specs.StatementTokens.{param_tokens, felem_tokens, params_tokens, felems_tokens, assignment_tokens, control_tokens, head_tokens, labels_tokens, decl_tokens, form_tokens, simple_tokens, block_tokens, stmt_tokens, canonical_tokens}
 use Rattle.cw_read_back.proofs.Trees.StatementLayers.{data_decl-tokens, overlay_decl-tokens, switch_decl-tokens, proc_decl-tokens, simple_form-tokens, if_alone-tokens, if_else-tokens, for_form-tokens, empty-tokens, assign-tokens, assign_bits-tokens, goto-tokens, goto_switch-tokens, call-tokens, answer-tokens, block_form-tokens, block-tokens, proc-tokens, stmt-tokens}
 use Rattle.cw_read_back.proofs.Shorter.Lengths.{ended_length, listed_most}
-use Rattle.cw_read_back.proofs.Shorter.Built.{behind_else, Built, b_one, b_none, b_then, b_left, b_right, b_map, b_opens, b_again, Counts, separated_counts}
-use Rattle.cw_read_back.proofs.Shorter.Expressions.{name_counts, type_counts, bits_counts, square_length, ref_name, ref_bare, indexed_most, reference_counts, condition_counts, expr_counts}
+use Rattle.cw_tokens.proofs.Counting.{b_one, b_none, b_then, b_left, b_right, b_map, b_opens, b_again, separated_counts, name_counts}
+use Rattle.cw_read_back.proofs.Shorter.Built.{behind_else, Built, Counts}
+use Rattle.cw_read_back.proofs.Shorter.Expressions.{type_counts, bits_counts, square_length, ref_name, ref_bare, indexed_most, reference_counts, condition_counts, expr_counts}
 use Rattle.cw_read_back.proofs.Shorter.Items.{semicolons_counts, listed_counts, names_counts, table_counts, data_table_counts, singles_counts, arrays_counts, overlay_counts, tag_counts, ips_list_counts, comm_counts}
 
 -- ---- simple statements

@@ -5,16 +5,11 @@ use Rattle.cw_tree.specs.declared.leaf.RawSign.{RawSign}
 use Rattle.cw_tree.specs.declared.leaf.RawFactorSign.{RawFactorSign}
 use Rattle.cw_tree.specs.declared.expression.RawBits.{RawBits}
 use Rattle.cw_tree.specs.declared.expression.RawExpr.TheOpen as layer
-use Rattle.cw_tree.specs.declared.expression.RawExpr.TheOpen.{RawExpr-F}
-use Rattle.cw_tree.specs.declared.expression.RawExpr.TheViews.{roll-out-RawExpr, roll-out-RawPrimary, roll-out-RawPrim, roll-out-RawMask, roll-out-RawUnion, roll-out-RawDiffer, roll-out-RawTerm, roll-out-RawSum}
+use Rattle.cw_tree.specs.declared.expression.RawExpr.TheViews.{roll-out-RawExpr, roll-out-RawPrimary}
 use Rattle.cw_tree.specs.declared.expression.RawExpr.{RawExpr, roll-RawExpr, out-RawExpr}
 use Rattle.cw_tree.specs.declared.expression.RawExpr.TheVariants as expr_tree
 use Rattle.cw_tree.specs.declared.expression.RawPrimary.{RawPrimary, roll-RawPrimary, out-RawPrimary}
 use Rattle.cw_tree.specs.declared.expression.RawPrimary.TheVariants as primary_tree
-use Rattle.cw_tree.specs.declared.expression.RawRef.{RawRef}
-use Rattle.cw_tree.specs.declared.expression.RawCand.{RawCand}
-use Rattle.cw_tree.specs.declared.expression.RawCmp.{RawCmp}
-use Rattle.cw_tree.specs.declared.expression.RawCond.{RawCond}
 use Rattle.cw_tree.specs.declared.expression.RawDiffer.{RawDiffer, out-RawDiffer}
 use Rattle.cw_tree.specs.declared.expression.RawMask.{RawMask, out-RawMask}
 use Rattle.cw_tree.specs.declared.expression.RawPrim.{RawPrim, out-RawPrim}
@@ -22,13 +17,14 @@ use Rattle.cw_tree.specs.declared.expression.RawSum.{RawSum, out-RawSum}
 use Rattle.cw_tree.specs.declared.expression.RawTerm.{RawTerm, out-RawTerm}
 use Rattle.cw_tree.specs.declared.expression.RawUnion.{RawUnion, out-RawUnion}
 use Rattle.cw_grammar.specs.Trees.{sole, as_sum, sole_term, as_term, as_differ, as_union, as_mask, as_prim, bracket_primary, bracket_prim, bracket_mask, bracket_union, bracket_differ, bracket_term, bracket_sum}
+use Rattle.cw_derived.proofs.Layers.{ExprLayer, PrimaryLayer, held}
 use Rattle.cw_derived.proofs.Held.{not_none, same_some, both_steps, both_of}
 use Rattle.cw_show.specs.Spelling.{word}
 use Rattle.cw_show.specs.Canonical.{add_symbol, multiply_symbol, sign_tokens, operation, joined}
 use Rattle.cw_show.specs.ExpressionTokens.{bits_tokens, expr_tokens, primary_tokens, differ_tokens, mask_tokens, prim_tokens, sum_tokens, term_tokens, union_tokens}
 use Rattle.cw_read_back.proofs.Expressions.Reading.{Each}
-use Rattle.cw_read_back.proofs.Expressions.Stays.{PrimaryLayer, inside}
-use Rattle.cw_read_back.proofs.Expressions.ExpressionLayers.{sum_expr-tokens, bracket-tokens, differ-tokens, mask-tokens, union-tokens, prim-tokens, sum-tokens, term-tokens}
+use Rattle.cw_show.proofs.ExpressionLayers.{differ-layer, mask-layer, union-layer, prim-layer, sum-layer, term-layer}
+use Rattle.cw_read_back.proofs.Expressions.ExpressionLayers.{sum_expr-tokens, bracket-tokens}
 use Rattle.cw_read_back.proofs.Texts.Spelled.{Spelled, rest_of, out_of_brackets, between_parts, operation_parts}
 
 sole_of : {X : Type 0} (P : X → Type 0) (xs : List X) (x : X) → Each P xs → sole xs ≡ Some x → P x
@@ -39,42 +35,29 @@ sole_of P (y ∷ z ∷ zs) x h q = absurd (not_none q)
 -- ---- operands
 
 pub mask_operands : (x : RawMask) → Spelled (mask_tokens x) → Each (λ (y : RawPrim). Spelled (prim_tokens y)) (out-RawMask x).operands
-mask_operands x h =
-    between_parts prim_tokens (word words.Mask) (out-RawMask x).operands
-    (subst Spelled (mask-tokens (out-RawMask x).operands (out-RawMask x).operators) (subst (λ (z : RawMask). Spelled (mask_tokens z)) (sym (roll-out-RawMask x)) h))
+mask_operands x h = between_parts prim_tokens (word words.Mask) (out-RawMask x).operands (subst Spelled (mask-layer x) h)
 
 pub union_operands : (x : RawUnion) → Spelled (union_tokens x) → Each (λ (y : RawMask). Spelled (mask_tokens y)) (out-RawUnion x).operands
-union_operands x h =
-    between_parts mask_tokens (word words.Union) (out-RawUnion x).operands
-    (subst Spelled (union-tokens (out-RawUnion x).operands (out-RawUnion x).operators) (subst (λ (z : RawUnion). Spelled (union_tokens z)) (sym (roll-out-RawUnion x)) h))
+union_operands x h = between_parts mask_tokens (word words.Union) (out-RawUnion x).operands (subst Spelled (union-layer x) h)
 
 pub differ_operands : (x : RawDiffer) → Spelled (differ_tokens x) → Each (λ (y : RawUnion). Spelled (union_tokens y)) (out-RawDiffer x).operands
-differ_operands x h =
-    between_parts union_tokens (word words.Differ) (out-RawDiffer x).operands
-    (subst Spelled (differ-tokens (out-RawDiffer x).operands (out-RawDiffer x).operators) (subst (λ (z : RawDiffer). Spelled (differ_tokens z)) (sym (roll-out-RawDiffer x)) h))
+differ_operands x h = between_parts union_tokens (word words.Differ) (out-RawDiffer x).operands (subst Spelled (differ-layer x) h)
 
 pub term_operands : (x : RawTerm) → Spelled (term_tokens x) → Each (λ (y : RawDiffer). Spelled (differ_tokens y)) (out-RawTerm x).operands
-term_operands x h =
-    operation_parts differ_tokens (λ (s : RawFactorSign). multiply_symbol s.op) (out-RawTerm x).operators (out-RawTerm x).operands
-    (subst Spelled (term-tokens (out-RawTerm x).operands (out-RawTerm x).operators) (subst (λ (z : RawTerm). Spelled (term_tokens z)) (sym (roll-out-RawTerm x)) h))
+term_operands x h = operation_parts differ_tokens (λ (s : RawFactorSign). multiply_symbol s.op) (out-RawTerm x).operators (out-RawTerm x).operands (subst Spelled (term-layer x) h)
 
 pub sum_operands : (x : RawSum) → Spelled (sum_tokens x) → Each (λ (y : RawTerm). Spelled (term_tokens y)) (out-RawSum x).operands
 sum_operands x h =
     let y = out-RawSum x in
     operation_parts term_tokens (λ (s : RawSign). add_symbol s.op) y.operators y.operands
-    (rest_of (sign_tokens y.sign) (operation (map (λ (s : RawSign). add_symbol s.op) y.operators) (map term_tokens y.operands))
-    (subst Spelled (sum-tokens y.sign y.operands y.operators) (subst (λ (z : RawSum). Spelled (sum_tokens z)) (sym (roll-out-RawSum x)) h)))
+    (rest_of (sign_tokens y.sign) (operation (map (λ (s : RawSign). add_symbol s.op) y.operators) (map term_tokens y.operands)) (subst Spelled (sum-layer x) h))
 
 pub prim_operand : (x : RawPrim) → Spelled (prim_tokens x) → Spelled (primary_tokens (out-RawPrim x).primary)
 prim_operand x h =
     let y = out-RawPrim x in
-    rest_of (joined (map bits_tokens y.bits)) (primary_tokens y.primary)
-    (subst Spelled (prim-tokens y.bits y.primary) (subst (λ (z : RawPrim). Spelled (prim_tokens z)) (sym (roll-out-RawPrim x)) h))
+    rest_of (joined (map bits_tokens y.bits)) (primary_tokens y.primary) (subst Spelled (prim-layer x) h)
 
 -- ---- an expression that is a tree of a narrower rule
-
-abbrev ExprLayer : Type 0
-ExprLayer = RawExpr-F RawExpr RawPrimary RawRef RawCand RawCmp RawCond RawDiffer RawMask RawPrim RawSum RawTerm RawUnion
 
 abbrev summed : ExprLayer → Option RawSum
 summed y = elim y [ layer.Choice at c a b ↦ None | layer.Sum s ↦ Some s ]
@@ -126,18 +109,11 @@ as_prim_in e d h q = elim (both_of (as_mask e) (λ y. sole (out-RawMask y).opera
 
 -- ---- what a bracket alone holds
 
-layer_held : (l : PrimaryLayer) (e : RawExpr) → Spelled (primary_tokens (roll-RawPrimary l)) → inside l ≡ Some e → Spelled (expr_tokens e)
-layer_held (layer.Number n) e h q = absurd (not_none q)
-layer_held (layer.Octal n) e h q = absurd (not_none q)
-layer_held (layer.Literal c) e h q = absurd (not_none q)
-layer_held (layer.Text at cs) e h q = absurd (not_none q)
-layer_held (layer.Location at r) e h q = absurd (not_none q)
-layer_held (layer.Forced t x) e h q = absurd (not_none q)
+layer_held : (l : PrimaryLayer) (e : RawExpr) → Spelled (primary_tokens (roll-RawPrimary l)) → held l ≡ Some e → Spelled (expr_tokens e)
 layer_held (layer.Bracket at x) e h q =
     subst (λ (z : RawExpr). Spelled (expr_tokens z)) (same_some q)
     (out_of_brackets (expr_tokens x) (subst Spelled (bracket-tokens at x) (subst (λ (z : RawPrimary). Spelled (primary_tokens z)) (primary_tree.rolls-Bracket at x) h)))
-layer_held (layer.Ref r) e h q = absurd (not_none q)
-layer_held (layer.Call f xs) e h q = absurd (not_none q)
+layer_held _ e h q = absurd (not_none q)
 
 pub primary_held : (x : RawPrimary) (e : RawExpr) → Spelled (primary_tokens x) → bracket_primary x ≡ Some e → Spelled (expr_tokens e)
 primary_held x e h q = layer_held (out-RawPrimary x) e (subst (λ (z : RawPrimary). Spelled (primary_tokens z)) (sym (roll-out-RawPrimary x)) h) q

@@ -24,10 +24,9 @@ use Rattle.cw_show.specs.Canonical.{Tokens, comma, semicolon}
 use Rattle.cw_show.specs.ItemTokens.{name_tokens, names_tokens, place_tokens, assigned_tokens, preset_tokens, group_tokens, elem_tokens, table_with, data_tokens, base_tokens, overlay_tokens}
 use Rattle.cw_show.specs.SegmentTokens.{spec_tokens, citem_tokens, aitem_tokens}
 use Rattle.cw_read_back.proofs.Expressions.Reading.{Each}
-use Rattle.cw_read_back.proofs.Texts.Spelled.{Spelled, nothing, the_word, the_symbol, the_number, ◌&◌, in_brackets, list_between}
+use Rattle.cw_read_back.proofs.Texts.Spelled.{each_append, Spelled, nothing, the_word, the_symbol, the_number, ◌&◌, in_brackets, list_between}
 use Rattle.cw_read_back.proofs.Texts.Plain.{sign_spelled, octal_spelled, int_spelled, sint_spelled, size_spelled, type_spelled, bounds_spelled, shape_spelled, two_ints_spelled, address_spelled, answer_spelled, tag_spelled, ps_listed}
 use Rattle.cw_read_back.proofs.Texts.Tokens.{literal_spelled}
-use Rattle.cw_read_back.proofs.Texts.Operands.{each_append}
 use Rattle.cw_read_back.proofs.Texts.Expressions.{NameGood, name_keeps, names_keep}
 use Rattle.cw_read_back.proofs.Texts.Good.{OfOption, ElemGood, TableGood, Given, Keeps, given_good}
 

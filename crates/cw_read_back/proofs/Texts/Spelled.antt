@@ -32,13 +32,13 @@ the_symbol s = record { each = (tt, tt) }
 pub the_number : (n : Number) → Spelled (number n ∷ [])
 the_number n = record { each = (tt, tt) }
 
-each_append : (a b : Tokens) → Each IsRight a → Each IsRight b → Each IsRight (a ++ b)
-each_append [] b h k = k
-each_append (t ∷ a) b h k = (h.0, each_append a b h.1 k)
+pub each_append : {A : Type 0} (P : A → Type 0) (xs ys : List A) → Each P xs → Each P ys → Each P (xs ++ ys)
+each_append P [] ys h k = k
+each_append P (x ∷ xs) ys h k = (h.0, each_append P xs ys h.1 k)
 
 infixr 30 ◌&◌
 pub ◌&◌ : {a b : Tokens} → Spelled a → Spelled b → Spelled (a ++ b)
-◌&◌ {a = a} {b = b} h k = record { each = each_append a b h.each k.each }
+◌&◌ {a = a} {b = b} h k = record { each = each_append IsRight a b h.each k.each }
 
 each_front : (a b : Tokens) → Each IsRight (a ++ b) → Each IsRight a
 each_front [] b h = tt

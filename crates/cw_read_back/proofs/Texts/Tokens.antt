@@ -73,10 +73,7 @@ name_right : (k : TokenKind) (w : List ℕ) → IsProperAs k w → same k kinds.
 name_right kinds.Name w p h = identifier_no_word (map to_ascii_uppercase w) (no_word w (no_word_of w p.0))
 name_right (kinds.Symbol s) w p h = absurd (not_so (symbol_code s) 0 (symbol_after s) (omega arith) h)
 name_right (kinds.Word k) w p h = absurd (not_so (word_code k) 0 (word_after k) (omega arith) h)
-name_right kinds.Number w p h = absurd cc
-name_right kinds.Text w p h = absurd cc
-name_right kinds.BodyText w p h = absurd cc
-name_right kinds.Literal w p h = absurd cc
+name_right _ w p h = absurd cc
 
 pub name_spelled : (t : Item) → IsProperItem t → same t.kind kinds.Name ≡ true → Spelled (name (name_of t.text) ∷ [])
 name_spelled t p h = alone (name (name_of t.text)) (name_right t.kind t.text p h)
@@ -121,9 +118,7 @@ string_right kinds.Text w p h = between_quotes _ (text_again w p)
 string_right kinds.BodyText w p h = between_quotes _ (body_again w p)
 string_right (kinds.Symbol s) w p h = absurd (not_so (symbol_code s) 2 (symbol_after s) (omega arith) h)
 string_right (kinds.Word k) w p h = absurd (not_so (word_code k) 2 (word_after k) (omega arith) h)
-string_right kinds.Name w p h = absurd cc
-string_right kinds.Number w p h = absurd cc
-string_right kinds.Literal w p h = absurd cc
+string_right _ w p h = absurd cc
 
 pub string_spelled : (t : Item) → IsProperItem t → same t.kind kinds.Text ≡ true → Spelled (string (characters t.kind t.text) ∷ [])
 string_spelled t p h = alone (string (characters t.kind t.text)) (string_right t.kind t.text p h)
@@ -145,10 +140,7 @@ literal_right : (k : TokenKind) (w : List ℕ) → IsProperAs k w → same k kin
 literal_right kinds.Literal w p h = byte_is w p
 literal_right (kinds.Symbol s) w p h = absurd (not_so (symbol_code s) 3 (symbol_after s) (omega arith) h)
 literal_right (kinds.Word k) w p h = absurd (not_so (word_code k) 3 (word_after k) (omega arith) h)
-literal_right kinds.Name w p h = absurd cc
-literal_right kinds.Number w p h = absurd cc
-literal_right kinds.Text w p h = absurd cc
-literal_right kinds.BodyText w p h = absurd cc
+literal_right _ w p h = absurd cc
 
 pub literal_spelled : (t : Item) → IsProperItem t → same t.kind kinds.Literal ≡ true → Spelled (literal (literal_byte t.text) ∷ [])
 literal_spelled t p h = alone (literal (literal_byte t.text)) (literal_right t.kind t.text p h)

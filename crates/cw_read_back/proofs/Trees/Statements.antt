@@ -47,8 +47,8 @@ use Rattle.cw_read_back.specs.Expressions.Unplaced.{nowhere, unplaced_name, unpl
 use Rattle.cw_read_back.specs.Trees.UnplacedItems.{unplaced_base, unplaced_ptag}
 use Rattle.cw_read_back.specs.Trees.UnplacedStatements.{unplaced_felem, unplaced_param, unplaced_decl_step, unplaced_form_step, unplaced_simple_step, unplaced_block_step, unplaced_proc_step, unplaced_stmt_step, unplaced_decl, unplaced_form, unplaced_simple, unplaced_block, unplaced_stmt}
 use Rattle.cw_read_back.proofs.Expressions.Reading.{Reads, Back, Each, Held, IsSome, word_is, symbol_is, ◌&◌, left, right, mapped, led_back, opened, opened_word, second, first, respelled, nothing, absent_read, present_read, between_read}
-use Rattle.cw_read_back.proofs.Expressions.Expressions.{RefRead, Indexes, one_inside, two_inside, subscript_read, bare_same, called_read}
-use Rattle.cw_read_back.proofs.Expressions.ExpressionLayers.{named-tokens, named-bare, one_index-tokens, two_indexes-tokens, bare-tokens}
+use Rattle.cw_read_back.proofs.Expressions.Expressions.{RefRead, Indexes, one_inside, two_inside, subscript_read, bare_same, name_same, called_read}
+use Rattle.cw_read_back.proofs.Expressions.ExpressionLayers.{named-tokens, one_index-tokens, two_indexes-tokens, bare-tokens}
 use Rattle.cw_read_back.proofs.Trees.Forms.{ap₃, ap₄, started, sectioned_read, ended_read}
 use Rattle.cw_read_back.proofs.Trees.Data.{Name, NumberType, TableRead, names_read}
 use Rattle.cw_read_back.proofs.Trees.Specifications.{DataRead, IpsRead, tag_tokens, overlay_read, ips_list_read}
@@ -100,7 +100,7 @@ pub name_assigned : {n : ℕ} {p : Bool} (f : RawName) (x : RawExpr) → Name n 
 unfolding simple_behind
 name_assigned {p = p} f x h k =
     named_simple p f (simple_tree.Assign (ref_tree.Name f) x) (symbol symbols.Assign ∷ expr_tokens x) (assign-tokens (ref_tree.Name f) x ∙ ap (λ u. u ++ symbol symbols.Assign ∷ expr_tokens x) (named-tokens f)) h
-    (left (mapped (second (symbol_is symbols.Assign) k) (λ y e z d. assign_same (ref_tree.Name f) (ref_tree.Name z) x y (named-bare z ∙ ap (λ v. ref_tree.Name v) d ∙ sym (named-bare f)) e)))
+    (left (mapped (second (symbol_is symbols.Assign) k) (λ y e z d. assign_same (ref_tree.Name f) (ref_tree.Name z) x y (name_same f z d) e)))
 
 index_assigned : {n : ℕ} {p : Bool} (f : RawName) (r : RawRef) (a : Tokens) (x : RawExpr) → ref_tokens r ≡ name_spelling f.name ∷ symbol symbols.OpenSquare ∷ a → Name (suc n) f → Indexes n f a r → Expr (suc n) x → SimpleRead (suc n) p (simple_tree.Assign r x)
 unfolding simple_behind

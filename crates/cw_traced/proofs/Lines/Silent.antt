@@ -90,10 +90,7 @@ logic-silent logic.Differ = refl
 
 pub call-silent : (s : Scope) (t : Target) → begun_by (call_order s t) ≡ []
 call-silent s (target.Own q) = refl
-call-silent s (target.Common d) = refl
-call-silent s (target.Special k f) = refl
-call-silent s target.Read = refl
-call-silent s target.Write = refl
+call-silent s _ = refl
 
 pub label-silent : (s : Scope) (g : Goal) → begun_by (label_order s g) ≡ []
 label-silent s (goal.Own l) = refl
@@ -103,10 +100,7 @@ label-silent s (goal.Common d) = refl
 
 pub after-silent : (t : Target) → begun_in (after_statement_call t) ≡ []
 after-silent (target.Own q) = refl
-after-silent (target.Common d) = refl
-after-silent (target.Special k f) = refl
-after-silent target.Read = refl
-after-silent target.Write = refl
+after-silent _ = refl
 
 pub goal-silent : (u : SourceUnit) (who : Option ℕ) (g : Goal) → begun_by (goal_order u who g) ≡ []
 goal-silent u who (goal.Own l) = by_owner who (slice_get u.labels l)

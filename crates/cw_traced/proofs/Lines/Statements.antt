@@ -57,15 +57,11 @@ each-part [] = refl
 each-part (s ∷ ss) = ap (λ ls. lines_in s ++ ls) (each-part ss)
 
 layer-parts : (x : Stmt-F Stmt) → lines_layer x ≡ line_of x ++ flat_map lines_in (parts_of x)
-layer-parts (statement.Put line r e) = refl
-layer-parts (statement.PutBits line t b r e) = refl
-layer-parts (statement.Go line d) = refl
-layer-parts (statement.Call line t args) = refl
-layer-parts (statement.Answer line e) = refl
 layer-parts (statement.If line c a b) = ap (λ ls. line ∷ (lines_in a ++ ls)) (sym (append-nil (lines_in b)))
 layer-parts (statement.For line item r es body) = ap (λ ls. line ∷ ls) (sym (append-nil (lines_in body)))
 layer-parts (statement.Seq ss) = each-part ss
 layer-parts (statement.Mark ls t) = sym (append-nil (lines_in t))
+layer-parts _ = refl
 
 pub by-parts : (t : Stmt) → lines_in t ≡ line_of (out-Stmt t) ++ flat_map lines_in (parts_of (out-Stmt t))
 by-parts t = lines-made t ∙ layer-parts (out-Stmt t)

@@ -12,7 +12,7 @@ use Rattle.cw_unit.specs.declared.unit.Spot.{Spot, out-Spot}
 use Rattle.cw_unit.specs.declared.unit.Ref.{Ref, out-Ref}
 use Rattle.cw_unit.specs.declared.unit.Expr.{Expr, Expr-F, out-Expr}
 use Rattle.cw_unit.specs.declared.unit.Arg.TheOpen as layer
-use Rattle.cw_unit.specs.declared.unit.Arg.TheOpen.{Arg-F, Cond-F, Spot-F, Ref-F}
+use Rattle.cw_unit.specs.declared.unit.Arg.TheOpen.{Arg-F, Cond-F, Spot-F}
 use Rattle.cw_unit.specs.declared.unit.Field.{Field}
 use Rattle.cw_unit.specs.declared.unit.LogicOp.{LogicOp}
 use Rattle.cw_unit.specs.declared.unit.LogicOp.TheVariants as logic
@@ -26,12 +26,12 @@ use Rattle.cw_unit.specs.Storage.{layout_of}
 use Rattle.cw_unit.specs.ValidStorage.{IsStorable}
 use Rattle.cw_safety.specs.Kinds.{Kind, LabelKind, SwitchKind, WordKind, procedure_kind}
 use Rattle.cw_safety.specs.WellFormed as formed
-use Rattle.cw_safety.specs.WellFormed.{kind_if, kind_and, kinds_of, takes_arguments, reaches, reaches_switch, procedure_of_place, is_call, kind_of, is_expression, is_condition, is_spot, is_reference}
+use Rattle.cw_safety.specs.WellFormed.{kind_if, kind_and, kinds_of, takes_arguments, reaches, reaches_switch, procedure_of_place, is_call, kind_of, is_expression, is_condition, is_reference}
 use Rattle.cw_safety.proofs.Expanding.{kinds, arg_kinds, cond_kinds, spot_kinds, formed-expression, formed-argument, formed-condition, formed-spot, formed-reference}
 use Rattle.cw_gen_expr.specs.Pieces.{Piece, plain, followed_by, sequence, with_end}
 use Rattle.cw_gen_expr.specs.NamedItems.{has_words}
 use Rattle.cw_gen_expr.specs.BuiltExpressions as built
-use Rattle.cw_gen_expr.specs.BuiltExpressions.{BuiltValue, most_levels, within, whole, all_built, built_value, built_reference, is_argument}
+use Rattle.cw_gen_expr.specs.BuiltExpressions.{most_levels, within, whole, all_built, built_value, built_reference, is_argument}
 use Rattle.cw_gen_expr.specs.ReferenceExpressions.{Scope, ConditionPiece, at_line, saved, two_values, control_place, item_order, item_span, row_order, table_span, table_orders, bounds_orders, load_orders, store_orders, rescale_orders, logic_order, number_order, known_or, named_or, comparator_for, pick_mark, narrow, call_order, label_order, value_of, condition_piece, argument_piece, reference_of, expression_piece}
 use Rattle.cw_gen_expr.specs.KnownValues.{all_inside}
 use Rattle.cw_gen_expr.specs.ReferenceEntries.{scope_of}
@@ -109,11 +109,8 @@ module _ (u : SourceUnit) (stored : IsStorable u) (few : length u.items ≤ 6553
 
     pub call-named : (wanted : Bool) (t : Target) (ks : Option (List Kind)) → IsTrue (is_call (alone u) 0 o wanted t ks) → IsTrue (Names (call_order Here t))
     call-named wanted t None h = no h
-    call-named wanted (target.Own q) (Some ks) h = refl
     call-named wanted (target.Common d) (Some ks) h = listed u named d (λ x. takes_arguments (procedure_of_place (alone u) (procedure_of_def x)) ks) refl h
-    call-named wanted (target.Special k f) (Some ks) h = refl
-    call-named wanted target.Read (Some ks) h = refl
-    call-named wanted target.Write (Some ks) h = refl
+    call-named wanted _ (Some ks) h = refl
 
     pub call-kinds : (wanted : Bool) (t : Target) (ks : Option (List Kind)) → IsTrue (is_call (alone u) 0 o wanted t ks) → IsTrue (is_some ks)
     call-kinds wanted t None h = h

@@ -1,6 +1,6 @@
 -- What a body of a unit that is built names: items in families of its layout, and descriptors that it has.
-use Rattle.std.proofs.Common.{◌≡◌, ℕ, zero, suc, ◌+◌, ◌%◌, ◌<◌, ◌≤◌, nat_lt, List, [], ◌∷◌, map, length, Bool, true, false, IsTrue, ◌&&◌, not, cond, if◌then◌else◌, Option, Some, None, is_some, is_none, slice_get, slice_index_or, refl, sym, ap, ◌∙◌, subst, arith}
-use Rattle.std.proofs.lemmas.Option.{none-some, slice_get_within}
+use Rattle.std.proofs.Common.{◌≡◌, ℕ, suc, ◌+◌, ◌%◌, ◌<◌, ◌≤◌, nat_lt, List, [], ◌∷◌, map, length, Bool, true, false, IsTrue, ◌&&◌, not, cond, if◌then◌else◌, Option, Some, None, is_some, is_none, slice_get, slice_index_or, refl, sym, ap, ◌∙◌, subst, arith}
+use Rattle.std.proofs.lemmas.Option.{slice_get_within}
 use Rattle.std.specs.List.{list_all}
 use Rattle.std.specs.Str.{bytes_eq}
 use Rattle.cw_unit.specs.declared.unit.Unit.{Unit as SourceUnit}
@@ -15,7 +15,7 @@ use Rattle.cw_unit.specs.declared.descriptor.DescBody.TheVariants as bodies
 use Rattle.cw_unit.specs.declared.layout.Family.{Family}
 use Rattle.cw_unit.specs.declared.layout.Sort.{Sort}
 use Rattle.cw_unit.specs.declared.layout.Sort.TheVariants as sort
-use Rattle.cw_unit.specs.Storage.{base_of_home, family_at, families_from, layout_of, positions_from, family_of, family_offset, root_of}
+use Rattle.cw_unit.specs.Storage.{base_of_home, family_at, families_from, layout_of, family_of, family_offset, root_of}
 use Rattle.cw_unit.specs.Program.{name_in, definition_in, found_in, definition_from, definition_of}
 use Rattle.cw_unit.specs.ValidStorage.{IsStorable}
 use Rattle.cw_unit.proofs.Families.{root_at, family_found}
@@ -28,6 +28,7 @@ use Rattle.cw_gen_unit.specs.ReferenceStatements.{place_put}
 use Rattle.cw_gen_unit.specs.BuiltUnits.{item_fits, items_fit}
 use Rattle.cw_built.specs.Listed.{is_empty, are_named, lists_name, definition_as, defining}
 use Rattle.cw_built.specs.Built.{alone}
+use Rattle.cw_writable.proofs.Coded.Frames.{position-of}
 use Rattle.cw_writable.proofs.Coded.Fine.{no, both, parts}
 use Rattle.cw_writable.proofs.Coded.Numbers.{lt_true}
 use Rattle.cw_writable.proofs.Back.Fit.{is_place, is_cell, names_well, passed}
@@ -43,15 +44,6 @@ families-few u n (i ∷ is) = by_base (is_none (base_of_home u i.home)) (familie
     by_base false h = omega (arith, h)
 
 -- ---- items
-
-position-from : (u : SourceUnit) (n : ℕ) (xs : List Item) (k : ℕ) (x : Item) → slice_get xs k ≡ Some x → slice_index_or (positions_from n u xs) k (0, 0) ≡ (family_of u (n + k), family_offset u (n + k))
-position-from u n [] k x e = absurd (none-some x e)
-position-from u n (y ∷ xs) zero x e = let at : n ≡ n + 0 = omega arith in ap (λ k. (family_of u k, family_offset u k)) at
-position-from u n (y ∷ xs) (suc k) x e =
-    let at : n + 1 + k ≡ n + suc k = omega arith in position-from u (n + 1) xs k x e ∙ ap (λ k. (family_of u k, family_offset u k)) at
-
-position-of : (u : SourceUnit) (k : ℕ) (x : Item) → slice_get u.items k ≡ Some x → slice_index_or (layout_of u).homes k (0, 0) ≡ (family_of u k, family_offset u k)
-position-of u k x e = let at : 0 + k ≡ k = omega arith in position-from u 0 u.items k x e ∙ ap (λ k. (family_of u k, family_offset u k)) at
 
 module _ (u : SourceUnit) (stored : IsStorable u) (few : length u.items ≤ 65535) where
   abbrev Names : Order → Bool

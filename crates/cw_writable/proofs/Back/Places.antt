@@ -1,5 +1,5 @@
 -- Places in the code of a unit: where statements begin, and where what is defined begins.
-use Rattle.std.proofs.Common.{◌≡◌, ℕ, zero, suc, ◌+◌, ◌*◌, ◌<◌, ◌≤◌, nat_eq, nat_le, nat_lt, List, [], ◌∷◌, ◌++◌, map, length, Bool, true, false, IsTrue, ◌&&◌, ◌||◌, if◌then◌else◌, ℤ, Option, Some, None, slice_get, slice_index, refl, sym, ap, ◌∙◌, subst, arith, length-append, drop}
+use Rattle.std.proofs.Common.{◌≡◌, ℕ, zero, suc, ◌+◌, ◌<◌, ◌≤◌, nat_eq, nat_le, nat_lt, List, [], ◌∷◌, ◌++◌, map, length, Bool, true, false, IsTrue, ◌&&◌, ◌||◌, if◌then◌else◌, ℤ, Option, Some, None, slice_get, slice_index, refl, sym, ap, ◌∙◌, subst, arith, length-append, drop}
 use Rattle.std.proofs.lemmas.Bool.{eqb-true}
 use Rattle.std.proofs.lemmas.Option.{slice_get_within}
 use Rattle.std.specs.List.{list_all}
@@ -31,7 +31,7 @@ use Rattle.cw_tmpl.specs.declared.blocks.Use.TheVariants as uses
 use Rattle.cw_tmpl.specs.declared.blocks.Block.{Block}
 use Rattle.cw_tmpl.specs.declared.blocks.Block.TheVariants as block
 use Rattle.cw_tmpl.specs.Pieces.{blanks}
-use Rattle.cw_tmpl.specs.Names.{Reach, mark_place, landing_start, has_landing, landing_bytes, switch_bytes, place_of_one, way_to_label, switch_size}
+use Rattle.cw_tmpl.specs.Names.{Reach, mark_place, landing_start, has_landing, landing_bytes, switch_bytes, place_of_one}
 use Rattle.cw_tmpl.specs.Named.{is_named_label, is_named_switch}
 use Rattle.cw_tmpl.specs.Blocks.{address_orders, element_orders, operand_orders, order_of, count_order, block_at, orders_left, bounds_orders, form_order, column_orders, orders_in_row, orders_to_row, row_order}
 use Rattle.cw_tmpl.proofs.Shapes.{IsBlock, shape}
@@ -39,7 +39,7 @@ use Rattle.cw_tmpl.specs.Mnemonics.{ax, at_si, load}
 use Rattle.cw_tmpl.specs.Templates.{block_size, entry_pieces}
 use Rattle.cw_tmpl.specs.ShortForms.{is_short, saved}
 use Rattle.cw_tmpl.specs.Sizes.{listed_size}
-use Rattle.cw_tmpl.specs.ReferenceCode.{templates, landings, switches, entry_size, reach_of, order_places, switch_places, switch_sizes, landings_place, switches_place, names_of, mark_starts, label_starts, statement_at, statements_from, orders_code, landing_places, landing_sizes, routine_sizes}
+use Rattle.cw_tmpl.specs.ReferenceCode.{templates, landings, switches, entry_size, reach_of, order_places, switch_places, landings_place, switches_place, names_of, mark_starts, label_starts, statement_at, statements_from, orders_code, landing_places, landing_sizes, routine_sizes}
 use Rattle.cw_tmpl.proofs.Growing.{blanks-append}
 use Rattle.cw_tmpl.proofs.Endings.{saves}
 use Rattle.cw_tmpl.proofs.Sizes.{listed as size_alone, element_at_long, size_by, size_to, places_are, mark_start, size_of_templates, landings_at}
@@ -117,12 +117,7 @@ operand-ends (simple.Contents x) = end-both (address_orders x) (order.Load ∷ [
 
 use-ends : (u : Use) → IsTrue (ends_block (order_of u))
 use-ends (uses.Add line) = refl
-use-ends (uses.Subtract line) = refl
-use-ends (uses.Multiply line) = refl
-use-ends uses.Mask = refl
-use-ends uses.Union = refl
-use-ends uses.Differ = refl
-use-ends (uses.Compare c m) = refl
+use-ends _ = refl
 
 left-before : (xs : List Order) (last : Order) (rest : List Order) → All-end xs → IsTrue (ends_block last) → IsTrue (left_over (suc (length xs)) (xs ++ last ∷ rest))
 left-before [] last rest h k = both (ends_block last) true k refl
@@ -247,15 +242,8 @@ alone-long _ h = absurd h
 -- the short form saves not all of them
 saved-less : (o : Order) → BeginsStatement o → saved block.Single o < listed_size o
 saved-less (order.Jump m) h = omega arith
-saved-less (order.JumpIf c m) h = absurd h
-saved-less (order.LoopWay marks) h = absurd h
-saved-less (order.Add line) h = absurd h
-saved-less (order.Sub line) h = absurd h
-saved-less (order.Neg line) h = absurd h
-saved-less (order.Rescale from to line) h = absurd h
-saved-less (order.Mul s line) h = absurd h
-saved-less (order.Div s line) h = absurd h
 saved-less o h = alone-long o h
+saved-less _ h = absurd h
 
 -- and so has that of the block which it begins
 begins-long : (short : Bool) (o : Order) (os : List Order) → BeginsStatement o → 0 < block_size short (block_at 0 (o ∷ os)) o
@@ -281,14 +269,8 @@ begins-long short o os h = cases (block_at 0 (o ∷ os)) (shape (o ∷ os))
     cases (block.FetchElement e) sh = let z = element_at_long e (load ax at_si) refl in omega (arith, z)
     cases (block.Assign x) sh = absurd (not-so _ sh)
     cases block.Write sh = absurd (not-so _ sh)
-    cases (block.Divide w line) sh = absurd (not-so _ sh.0)
-    cases (block.Operate s u) sh = absurd (not-so _ sh.0)
-    cases (block.AssignPart x t b) sh = absurd (not-so _ sh.0)
-    cases (block.AssignElement e) sh = absurd (not-so _ sh.0)
     cases (block.Count down line) sh = absurd (not-so _ sh)
-    cases (block.Halve w power places line) sh = absurd (not-so _ sh.0)
-    cases (block.Bounded b) sh = absurd (not-so _ sh.0)
-    cases (block.Row r) sh = absurd (not-so _ sh.0)
+    cases _ sh = absurd (not-so _ sh.0)
 
 module _ (reach : Reach) (n : ℕ) (fs : List Family) (places : List ℕ) (size : ℕ) (small : size ≤ 2097120) where
   pub begun-from : (os : List Order) → Fit n fs os → AreBegun os → (number left at low k : ℕ) → IsTrue (left_over left os) → low ≤ at → at + size-to reach number left os (length os) ≤ size

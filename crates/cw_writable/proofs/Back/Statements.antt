@@ -20,7 +20,7 @@ use Rattle.cw_unit.specs.declared.unit.Felem.TheVariants as element
 use Rattle.cw_unit.specs.declared.unit.Expr.{Expr}
 use Rattle.cw_unit.specs.declared.unit.Cond.{Cond}
 use Rattle.cw_unit.specs.declared.unit.Ref.{Ref, out-Ref}
-use Rattle.cw_unit.specs.declared.unit.Stmt.{Stmt, Stmt-F, out-Stmt, map-Stmt, fold-Stmt, fold_out-Stmt}
+use Rattle.cw_unit.specs.declared.unit.Stmt.{Stmt, Stmt-F, out-Stmt, map-Stmt, fold_out-Stmt}
 use Rattle.cw_unit.specs.declared.unit.Stmt.TheOpen as statement
 use Rattle.cw_unit.specs.declared.unit.Def.{Def}
 use Rattle.cw_unit.specs.Program.{definition_of}
@@ -32,7 +32,7 @@ use Rattle.cw_safety.specs.WellFormed.{kinds_of, kind_of, reaches, reaches_switc
 use Rattle.cw_safety.proofs.Expanding.{formed-statement}
 use Rattle.cw_gen_expr.specs.Pieces.{Piece, plain, followed_by, sequence, with_end}
 use Rattle.cw_gen_expr.specs.BuiltExpressions as expressions
-use Rattle.cw_gen_expr.specs.BuiltExpressions.{most_levels, within, all_built, built_reference, is_argument}
+use Rattle.cw_gen_expr.specs.BuiltExpressions.{most_levels, within, built_reference}
 use Rattle.cw_gen_expr.specs.ReferenceExpressions.{Scope, at_line, saved, argument_words, control_place, item_order, store_orders, number_order, call_order, condition_piece, reference_of, expression_piece}
 use Rattle.cw_gen_expr.specs.ReferenceEntries.{scope_of}
 use Rattle.cw_gen_expr.specs.UnitTables.{label_mark}
@@ -40,7 +40,7 @@ use Rattle.cw_gen_expr.proofs.Layers.{total}
 use Rattle.cw_gen_unit.specs.BuiltStatements as built
 use Rattle.cw_gen_unit.specs.Endings.{comes_to_end}
 use Rattle.cw_gen_unit.proofs.Layers.{statement_layer, statement-made, jump-holds}
-use Rattle.cw_gen_unit.specs.ReferenceStatements.{begin_orders, after_statement_call, from_procedure, own_order, goal_order, owned_marks, switch_order, jump_piece, with_middle, keep_orders, number_orders, set_orders, bump_orders, turn_piece, while_values, step_values, element_piece, elements_piece, element_ways, ring_piece, loop_place, value_orders, limit_orders, past_orders, turn_orders, simple_orders, simple_beginning, first_turn, stepped_piece, begun_loop, jump_past, statement_piece}
+use Rattle.cw_gen_unit.specs.ReferenceStatements.{begin_orders, after_statement_call, from_procedure, own_order, goal_order, owned_marks, switch_order, jump_piece, with_middle, keep_orders, number_orders, set_orders, bump_orders, turn_piece, while_values, step_values, element_piece, elements_piece, element_ways, ring_piece, loop_place, value_orders, past_orders, turn_orders, simple_orders, simple_beginning, first_turn, stepped_piece, begun_loop, jump_past, statement_piece}
 use Rattle.cw_gen_unit.specs.declared.simple.Simple.{Simple}
 use Rattle.cw_gen_unit.specs.declared.simple.Simple.TheVariants as simple
 use Rattle.cw_gen_unit.specs.declared.simple.SimpleStep.{SimpleStep}
@@ -48,6 +48,7 @@ use Rattle.cw_gen_unit.specs.SimpleLoops.{simple_step}
 use Rattle.cw_built.specs.Listed.{are_named}
 use Rattle.cw_built.specs.Built.{alone}
 use Rattle.cw_writable.proofs.Coded.Fine.{no, both, parts}
+use Rattle.cw_writable.proofs.Coded.Statements.{statement_size, size_layer, statement-size}
 use Rattle.cw_writable.specs.Back.Ready.{all, is_line, lines_step, has_lines}
 use Rattle.cw_writable.proofs.Back.Fit.{passed, plainly, both_good, ended_good, labels_good, begin_good}
 use Rattle.cw_writable.proofs.Back.Names.{place-named, listed}
@@ -55,23 +56,7 @@ use Rattle.cw_writable.proofs.Back.Loops.{ValueHas, Has as StepWords, StepHas, s
 use Rattle.cw_writable.proofs.Back.Expressions as named
 use Rattle.cw_writable.proofs.Back.Expressions.{Names, Fine, Words}
 
--- ---- sizes
-
-abbrev size_step : Stmt-F ℕ → ℕ
-size_step (statement.If line c a b) = 1 + (a + b)
-size_step (statement.For line item r es a) = 1 + a
-size_step (statement.Seq ss) = 1 + total ss
-size_step (statement.Mark ls a) = 1 + a
-size_step _ = 0
-
-abbrev statement_size : Stmt → ℕ
-statement_size = fold-Stmt ℕ size_step
-
-abbrev size_layer : Stmt-F Stmt → ℕ
-size_layer x = size_step (map-Stmt Stmt ℕ statement_size x)
-
-statement-size : (x : Stmt) → statement_size x ≡ size_layer (out-Stmt x)
-statement-size = fold_out-Stmt ℕ size_step
+-- ---- lines
 
 abbrev lines_layer : Stmt-F Stmt → Bool
 lines_layer x = lines_step (map-Stmt Stmt Bool has_lines x)
@@ -319,10 +304,7 @@ module _ (u : SourceUnit) (stored : IsStorable u) (few : length u.items ≤ 6553
 
   after-named : (t : Target) → Well (after_statement_call t)
   after-named (target.Own q) = refl
-  after-named (target.Common d) = refl
-  after-named (target.Special k f) = refl
-  after-named target.Read = refl
-  after-named target.Write = refl
+  after-named _ = refl
 
   abbrev built_layer : Stmt-F Stmt → ℕ → Bool
   built_layer x = built.statement_step u Has who answer (map-Stmt Stmt (ℕ → Bool) (built.is_statement u Has who answer) x)

@@ -14,7 +14,7 @@ use Rattle.cw_unit.specs.declared.unit.Spot.{Spot, out-Spot}
 use Rattle.cw_unit.specs.declared.unit.Ref.{Ref, out-Ref}
 use Rattle.cw_unit.specs.declared.unit.Expr.{Expr, Expr-F, out-Expr}
 use Rattle.cw_unit.specs.declared.unit.Arg.TheOpen as layer
-use Rattle.cw_unit.specs.declared.unit.Arg.TheOpen.{Arg-F, Cond-F, Spot-F, Ref-F}
+use Rattle.cw_unit.specs.declared.unit.Arg.TheOpen.{Arg-F, Cond-F, Spot-F}
 use Rattle.cw_unit.specs.Scales.{answer_scale}
 use Rattle.cw_gen_expr.specs.Pieces.{Piece, plain, followed_by, sequence, with_end}
 use Rattle.cw_gen_expr.specs.ReferenceExpressions.{Scope, saved, two_values, Value, ConditionPiece, argument_words, control_place, item_order, item_span, row_order, table_span, table_orders, bounds_orders, load_orders, rescale_orders, logic_order, narrow, number_order, known_or, named_or, comparator_for, pick_mark, call_order, label_order, value_of, condition_piece, argument_piece, reference_of, expression_piece}
@@ -51,21 +51,14 @@ module _ (s : Scope) where
   same-reference r = ap (λ x. x.scale) (reference-ranged s.unit r) ∙ sym (ap (λ x. x.scale) (reference-made s r))
 
   same-layer : (n : ℕ) → SameBelow n → (x : Expr-F Arg Cond Expr Spot Ref) → expression_size_layer x ≤ n → Same (value_layer s x) (ranged_value_layer s.unit x)
-  same-layer n b (layer.Num k) le = (refl, refl)
-  same-layer n b (layer.Const z) le = (refl, refl)
-  same-layer n b (layer.Text i) le = (refl, refl)
   same-layer n b (layer.Read r) le = twice (same-reference r)
-  same-layer n b (layer.Call t args) le = (refl, refl)
-  same-layer n b (layer.Force g e) le = (refl, refl)
-  same-layer n b (layer.Locate r) le = (refl, refl)
-  same-layer n b (layer.Bits t d e) le = (refl, refl)
-  same-layer n b (layer.Logic op a d) le = (refl, refl)
   same-layer n b (layer.Sum a d) le = twice (ap₂ max (b a (let z : expression_size a < n = omega (arith, le) in z)).0 (b d (let z : expression_size d < n = omega (arith, le) in z)).0)
   same-layer n b (layer.Less a d) le = twice (ap₂ max (b a (let z : expression_size a < n = omega (arith, le) in z)).0 (b d (let z : expression_size d < n = omega (arith, le) in z)).0)
   same-layer n b (layer.Minus a) le = twice (b a (let z : expression_size a < n = omega (arith, le) in z)).0
   same-layer n b (layer.Times a d) le = twice (ap₂ max (b a (let z : expression_size a < n = omega (arith, le) in z)).0 (b d (let z : expression_size d < n = omega (arith, le) in z)).0)
   same-layer n b (layer.Over a d) le = twice (ap₂ max (b a (let z : expression_size a < n = omega (arith, le) in z)).0 (b d (let z : expression_size d < n = omega (arith, le) in z)).0)
   same-layer n b (layer.Choice c a d) le = twice (ap₂ max (b a (let z : expression_size a < n = omega (arith, le) in z)).0 (b d (let z : expression_size d < n = omega (arith, le) in z)).0)
+  same-layer n b _ le = (refl, refl)
 
   same-below : (n : ℕ) → SameBelow n
   same-below zero d lt = absurd (omega (arith, lt))

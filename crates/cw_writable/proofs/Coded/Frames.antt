@@ -48,7 +48,7 @@ position-from u n (y ∷ xs) zero x e = let at : n ≡ n + 0 = omega arith in ap
 position-from u n (y ∷ xs) (suc k) x e =
     let at : n + 1 + k ≡ n + suc k = omega arith in position-from u (n + 1) xs k x e ∙ ap (λ k. (family_of u k, family_offset u k)) at
 
-position-of : (u : SourceUnit) (k : ℕ) (x : Item) → slice_get u.items k ≡ Some x → slice_index_or (layout_of u).homes k (0, 0) ≡ (family_of u k, family_offset u k)
+pub position-of : (u : SourceUnit) (k : ℕ) (x : Item) → slice_get u.items k ≡ Some x → slice_index_or (layout_of u).homes k (0, 0) ≡ (family_of u k, family_offset u k)
 position-of u k x e = let at : 0 + k ≡ k = omega arith in position-from u 0 u.items k x e ∙ ap (λ k. (family_of u k, family_offset u k)) at
 
 same-procedure : (p : ℕ) (owner : Option ℕ) → IsTrue (is_same_procedure (Some p) owner) → owner ≡ Some p

@@ -174,12 +174,7 @@ control-coded ps k h = let le = control-within ps k in lt_true (control_place ps
 
 two-words : (q : Param) → parameter_words q ≤ 2
 two-words (param.Value i s) = omega arith
-two-words (param.Location i s) = omega arith
-two-words (param.Array i s) = omega arith
-two-words (param.Table i n) = omega arith
-two-words (param.Label k) = omega arith
-two-words (param.Switch k) = omega arith
-two-words (param.Proc k s) = omega arith
+two-words _ = omega arith
 
 words-within : (ps : List Param) → argument_words ps ≤ length ps + length ps
 words-within [] = omega arith

@@ -29,7 +29,7 @@ use Rattle.cw_gen_expr.proofs.Layers.{total}
 use Rattle.cw_gen_unit.specs.Endings.{comes_to_end}
 use Rattle.cw_gen_unit.proofs.Layers.{statement_layer, statement-made, jump-holds}
 use Rattle.cw_gen_unit.proofs.SwitchMarks.{few-marks}
-use Rattle.cw_gen_unit.specs.ReferenceStatements.{begin_orders, after_statement_call, from_procedure, own_order, goal_order, owned_marks, switch_order, jump_piece, with_middle, keep_orders, number_orders, set_orders, bump_orders, turn_piece, while_values, step_values, element_piece, elements_piece, element_ways, ring_piece, loop_place, value_orders, limit_orders, past_orders, turn_orders, simple_orders, simple_beginning, first_turn, stepped_piece, begun_loop, loop_piece, jump_past, statement_piece}
+use Rattle.cw_gen_unit.specs.ReferenceStatements.{begin_orders, after_statement_call, from_procedure, own_order, goal_order, owned_marks, switch_order, jump_piece, with_middle, keep_orders, number_orders, set_orders, bump_orders, turn_piece, while_values, step_values, element_piece, elements_piece, element_ways, ring_piece, loop_place, value_orders, limit_orders, past_orders, turn_orders, simple_orders, simple_beginning, first_turn, stepped_piece, begun_loop, jump_past, statement_piece}
 use Rattle.cw_gen_unit.specs.declared.simple.Simple.{Simple}
 use Rattle.cw_gen_unit.specs.declared.simple.Simple.TheVariants as simple
 use Rattle.cw_gen_unit.specs.declared.simple.SimpleStep.{SimpleStep}
@@ -57,13 +57,13 @@ size_step (statement.Seq ss) = 1 + total ss
 size_step (statement.Mark ls a) = 1 + a
 size_step _ = 0
 
-abbrev statement_size : Stmt → ℕ
+abbrev pub statement_size : Stmt → ℕ
 statement_size = fold-Stmt ℕ size_step
 
-abbrev size_layer : Stmt-F Stmt → ℕ
+abbrev pub size_layer : Stmt-F Stmt → ℕ
 size_layer x = size_step (map-Stmt Stmt ℕ statement_size x)
 
-statement-size : (x : Stmt) → statement_size x ≡ size_layer (out-Stmt x)
+pub statement-size : (x : Stmt) → statement_size x ≡ size_layer (out-Stmt x)
 statement-size = fold_out-Stmt ℕ size_step
 
 -- ---- lists of orders
@@ -76,10 +76,7 @@ begin_good line h = plainly (begin_orders line) (begin-coded line h)
 
 after-coded : (t : Target) → IsTrue (list_all has_code (after_statement_call t))
 after-coded (target.Own q) = refl
-after-coded (target.Common d) = refl
-after-coded (target.Special k f) = refl
-after-coded target.Read = refl
-after-coded target.Write = refl
+after-coded _ = refl
 
 from-coded : (x : Option Label) (m : ℕ) → IsTrue (has_code (from_procedure x m))
 from-coded None m = refl

@@ -96,11 +96,8 @@ module _ (u : SourceUnit) (fit : ItemsFit u) where
 
   module _ (presets : PresetsFit u) where
     not_framed : (n : ℕ) (x r : Item) (h : Home) (p : ℕ × ℕ) (ps : List (ℕ × ℕ)) → slice_get u.items n ≡ Some x → slice_get u.items (root_of u n) ≡ Some r → r.home ≡ h → x.presets ≡ p ∷ ps → IsTrue (not (is_frame (sort_of u (root_of u n) r.owner h)))
-    not_framed n x r (home.Common d) p ps e f k w = refl
-    not_framed n x r home.Own p ps e f k w = refl
-    not_framed n x r (home.Absolute a) p ps e f k w = refl
     not_framed n x r home.Frame p ps e f k w = let none = presets.apart n x r e f k in absurd (cc)
-    not_framed n x r (home.Over b o) p ps e f k w = refl
+    not_framed n x r _ p ps e f k w = refl
 
     set : (n : ℕ) (x : Item) (p : ℕ × ℕ) → slice_get u.items n ≡ Some x → (q : ℕ × ℕ) (qs : List (ℕ × ℕ)) → x.presets ≡ q ∷ qs → IsTrue (nat_lt p.0 x.words) → IsTrue (nat_lt p.1 65536) → IsTrue (is_set (layout_of u).families (preset_at u n p))
     set n x p e q qs w inside word =
