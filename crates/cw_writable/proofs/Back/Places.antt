@@ -242,8 +242,15 @@ alone-long _ h = absurd h
 -- the short form saves not all of them
 saved-less : (o : Order) → BeginsStatement o → saved block.Single o < listed_size o
 saved-less (order.Jump m) h = omega arith
+saved-less (order.JumpIf c m) h = absurd h
+saved-less (order.LoopWay marks) h = absurd h
+saved-less (order.Add line) h = absurd h
+saved-less (order.Sub line) h = absurd h
+saved-less (order.Neg line) h = absurd h
+saved-less (order.Rescale from to line) h = absurd h
+saved-less (order.Mul s line) h = absurd h
+saved-less (order.Div s line) h = absurd h
 saved-less o h = alone-long o h
-saved-less _ h = absurd h
 
 -- and so has that of the block which it begins
 begins-long : (short : Bool) (o : Order) (os : List Order) → BeginsStatement o → 0 < block_size short (block_at 0 (o ∷ os)) o
