@@ -1,5 +1,5 @@
 -- The way of a switch whose labels stand in the body at work.
-use Rattle.std.proofs.Common.{◌≡◌, ℕ, ◌+◌, ◌*◌, ◌%◌, ◌≤◌, true, false, List, [], Some, subst, arith, lit<, lit≤}
+use Rattle.std.proofs.Common.{◌≡◌, ℕ, ◌+◌, ◌*◌, ◌%◌, true, false, List, Some, subst, arith, lit<, lit≤}
 use Rattle.std.specs.Prelude.{slice_get}
 use Rattle.cw_unit.specs.Stop.{SwitchRange, Running}
 use Rattle.cw_unit.specs.Words.{Words}

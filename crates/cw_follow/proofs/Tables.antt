@@ -31,7 +31,7 @@ use Rattle.cw_tmpl.specs.Names.{Names, mark_place, label_start}
 use Rattle.cw_tmpl.specs.Templates.{mark_words, goal_words}
 use Rattle.cw_tmpl.specs.Library.{stop_place}
 use Rattle.cw_routines.specs.Results.{Stands}
-use Rattle.cw_follow.proofs.Standing.{HasPieces, HasAll, HasWord, Image}
+use Rattle.cw_follow.proofs.Standing.{HasPieces, Has, HasAll, HasWord, Image}
 use Rattle.cw_follow.proofs.Rows.{Rows}
 use Rattle.cw_follow.proofs.Chains.{Is, IsCompared, Leads, view, seen, to_place, call, near, compare_number, jump_below, pass_above, not_zero, jump_if, pass_if, through_table, more, compared_more, last}
 use Rattle.cw_follow.proofs.Acting.{act}
@@ -205,7 +205,7 @@ module _ (rows : Rows) (prog : OrderProgram) (image : Image) where
   -- ---- the way of a loop of one element
 
   -- the number in AX is counted down: where nothing is left the way is that of the one mark
-  module _ {q : Watched} {at : ℕ} (g : ℕ) (acts : List OrderActivation) (by : ℕ) (i : HasAll image at (i86.Dec 0 ∷ i86.JumpIf 5 3 ∷ i86.Jump by ∷ [])) (z : ℤ) (rest : List Operand) (memory : List ℤ) (input output : List ℕ)
+  module _ {q : Watched} {at : ℕ} (g : ℕ) (acts : List OrderActivation) (i : Has image at (i86.Dec 0)) (z : ℤ) (rest : List Operand) (memory : List ℤ) (input output : List ℕ)
       (l : Landed prog image at g true acts (record { operands = Word z ∷ rest; memory = memory; input = input; output = output }) q) where
     abbrev counted : View
     counted =
@@ -213,27 +213,42 @@ module _ (rows : Rows) (prog : OrderProgram) (image : Image) where
 
     -- whether nothing is left
     abbrev Counted : Bool → Watched → Type 0
-    Counted b r = Is image (at + 1) counted r × (holds r.processor.state.flags 5 ≡ not b)
+    Counted b r = Is image (at + 1) counted r × (holds r.processor.state.flags 4 ≡ b)
 
     counts : (b : Bool) → (word_difference (unsigned z) 1 == 0) ≡ b → Counted b (watched_step q)
     counts b is =
-        let a = act rows (Count true 0) (lit< tt) i.0 tt (with_ax l.operands.0 l.stacked.is) in
-        (a.is, not_zero (watched_step q).processor.state.flags ∙ ap (λ f. not (holds f 4)) a.flags ∙ ap not (rows.counted_zero true (unsigned z) q.processor.state.flags ∙ is))
+        let a = act rows (Count true 0) (lit< tt) i tt (with_ax l.operands.0 l.stacked.is) in
+        (a.is, ap (λ f. holds f 4) a.flags ∙ (rows.counted_zero true (unsigned z) q.processor.state.flags ∙ is))
 
-    one_to : (to : ℕ) → (word_difference (unsigned z) 1 == 0) ≡ true → (at + 6 + by) % 65536 ≡ to % 65536
-        → Leads output 3 q (Landed prog image to g false acts (record { operands = rest; memory = memory; input = input; output = output }))
-    one_to to is arrives =
+    abbrev Leaves : (n to : ℕ) → Type 0
+    Leaves n to = Leads output n q (Landed prog image to g false acts (record { operands = rest; memory = memory; input = input; output = output }))
+
+    -- by a jump behind one that goes past it
+    one_to : (by to : ℕ) → HasAll image (at + 1) (i86.JumpIf 5 3 ∷ i86.Jump by ∷ []) → (word_difference (unsigned z) 1 == 0) ≡ true → (at + 6 + by) % 65536 ≡ to % 65536 → Leaves 3 to
+    one_to by to h is arrives =
         let there : (at + 1 + 2 + 3 + by) % 65536 ≡ to % 65536 = omega arith in
         compared_more rows {Between = Counted true} l.stacked.is l.kept.wrote (counts true is) (λ r t.
-        more rows {to = at + 1 + 2} {w = counted} t.0 l.kept.wrote (pass_if rows 5 3 t.1 i.1.0 t.0) (λ r u.
-        last rows u l.kept.wrote (landed rows prog image g acts false to l.top rest memory input output refl l.operands.1 l.kept (to_place there (near rows by i.1.1.0 u)))))
+        more rows {to = at + 1 + 2} {w = counted} t.0 l.kept.wrote (pass_if rows 5 3 (not_zero r.processor.state.flags ∙ ap not t.1) h.0 t.0) (λ r u.
+        last rows u l.kept.wrote (landed rows prog image g acts false to l.top rest memory input output refl l.operands.1 l.kept (to_place there (near rows by h.1.0 u)))))
 
-    one_past : (to : ℕ) → (word_difference (unsigned z) 1 == 0) ≡ false → at + 6 ≡ to
-        → Leads output 2 q (Landed prog image to g false acts (record { operands = rest; memory = memory; input = input; output = output }))
-    one_past to is e =
+    one_past : (by to : ℕ) → HasAll image (at + 1) (i86.JumpIf 5 3 ∷ i86.Jump by ∷ []) → (word_difference (unsigned z) 1 == 0) ≡ false → at + 6 ≡ to → Leaves 2 to
+    one_past by to h is e =
         let ends : at + 1 + 2 + 3 ≡ to = omega arith in
         compared_more rows {Between = Counted false} l.stacked.is l.kept.wrote (counts false is) (λ r t.
-        last rows t.0 l.kept.wrote (landed rows prog image g acts false to l.top rest memory input output ends l.operands.1 l.kept (jump_if rows 5 3 t.1 i.1.0 t.0)))
+        last rows t.0 l.kept.wrote (landed rows prog image g acts false to l.top rest memory input output ends l.operands.1 l.kept (jump_if rows 5 3 (not_zero r.processor.state.flags ∙ ap not t.1) h.0 t.0)))
+
+    -- by a short jump
+    short_to : (by to : ℕ) → HasAll image (at + 1) (i86.JumpIf 4 by ∷ []) → (word_difference (unsigned z) 1 == 0) ≡ true → (at + 3 + sign_extended by) % 65536 ≡ to % 65536 → Leaves 2 to
+    short_to by to h is arrives =
+        let there : (at + 1 + 2 + sign_extended by) % 65536 ≡ to % 65536 = omega arith in
+        compared_more rows {Between = Counted true} l.stacked.is l.kept.wrote (counts true is) (λ r t.
+        last rows t.0 l.kept.wrote (landed rows prog image g acts false to l.top rest memory input output refl l.operands.1 l.kept (to_place there (jump_if rows 4 by t.1 h.0 t.0))))
+
+    short_past : (by to : ℕ) → HasAll image (at + 1) (i86.JumpIf 4 by ∷ []) → (word_difference (unsigned z) 1 == 0) ≡ false → at + 3 ≡ to → Leaves 2 to
+    short_past by to h is e =
+        let ends : at + 1 + 2 ≡ to = omega arith in
+        compared_more rows {Between = Counted false} l.stacked.is l.kept.wrote (counts false is) (λ r t.
+        last rows t.0 l.kept.wrote (landed rows prog image g acts false to l.top rest memory input output ends l.operands.1 l.kept (pass_if rows 4 by t.1 h.0 t.0)))
 
   pub loops_once : {q : Watched} {at : ℕ} (g : ℕ) (acts : List OrderActivation) (to by : ℕ) (start : ℕ → ℕ) (m : ℕ) (operands : List Operand) (memory : List ℤ) (input output : List ℕ)
       → at + 6 ≡ to → (at + 6 + by) % 65536 ≡ start m % 65536 → All OperandFits operands → HasAll image at (i86.Dec 0 ∷ i86.JumpIf 5 3 ∷ i86.Jump by ∷ [])
@@ -243,38 +258,8 @@ module _ (rows : Rows) (prog : OrderProgram) (image : Image) where
       marked g acts 3 to start 0 (m ∷ []) to_mark_in operands memory input output (lit< tt) fits l
       (λ k x rest is l.
       let o = only m k x is in
-      further 3 (lit≤ tt) (lit< tt) (one_to g acts by i (pos (suc k)) rest memory input output l (start x) (ap (λ j. word_difference (unsigned (pos (suc j))) 1 == 0) o.0) (arrives ∙ ap (λ y. start y % 65536) (sym o.1))))
-      (λ z rest same far l. further 2 (lit≤ tt) (lit< tt) (one_past g acts by i z rest memory input output l to (some_left _ (omega arith)) e))
-
-  -- the same with a short jump
-  module _ {q : Watched} {at : ℕ} (g : ℕ) (acts : List OrderActivation) (by : ℕ) (i : HasAll image at (i86.Dec 0 ∷ i86.JumpIf 4 by ∷ [])) (z : ℤ) (rest : List Operand) (memory : List ℤ) (input output : List ℕ)
-      (l : Landed prog image at g true acts (record { operands = Word z ∷ rest; memory = memory; input = input; output = output }) q) where
-    abbrev counted_down : View
-    counted_down =
-        view (word_difference (unsigned z) 1) l.stacked.cx l.stacked.dx l.stacked.bx (2 * l.top) (record_of acts) l.stacked.si prog.limits.area (difference_overflows (unsigned z) 1) l.cells l.stack l.input l.told
-
-    -- whether nothing is left
-    abbrev CountedDown : Bool → Watched → Type 0
-    CountedDown b r = Is image (at + 1) counted_down r × (holds r.processor.state.flags 4 ≡ b)
-
-    counts_down : (b : Bool) → (word_difference (unsigned z) 1 == 0) ≡ b → CountedDown b (watched_step q)
-    counts_down b is =
-        let a = act rows (Count true 0) (lit< tt) i.0 tt (with_ax l.operands.0 l.stacked.is) in
-        (a.is, ap (λ f. holds f 4) a.flags ∙ (rows.counted_zero true (unsigned z) q.processor.state.flags ∙ is))
-
-    short_to : (to : ℕ) → (word_difference (unsigned z) 1 == 0) ≡ true → (at + 3 + sign_extended by) % 65536 ≡ to % 65536
-        → Leads output 2 q (Landed prog image to g false acts (record { operands = rest; memory = memory; input = input; output = output }))
-    short_to to is arrives =
-        let there : (at + 1 + 2 + sign_extended by) % 65536 ≡ to % 65536 = omega arith in
-        compared_more rows {Between = CountedDown true} l.stacked.is l.kept.wrote (counts_down true is) (λ r t.
-        last rows t.0 l.kept.wrote (landed rows prog image g acts false to l.top rest memory input output refl l.operands.1 l.kept (to_place there (jump_if rows 4 by t.1 i.1.0 t.0))))
-
-    short_past : (to : ℕ) → (word_difference (unsigned z) 1 == 0) ≡ false → at + 3 ≡ to
-        → Leads output 2 q (Landed prog image to g false acts (record { operands = rest; memory = memory; input = input; output = output }))
-    short_past to is e =
-        let ends : at + 1 + 2 ≡ to = omega arith in
-        compared_more rows {Between = CountedDown false} l.stacked.is l.kept.wrote (counts_down false is) (λ r t.
-        last rows t.0 l.kept.wrote (landed rows prog image g acts false to l.top rest memory input output ends l.operands.1 l.kept (pass_if rows 4 by t.1 i.1.0 t.0)))
+      further 3 (lit≤ tt) (lit< tt) (one_to g acts i.0 (pos (suc k)) rest memory input output l by (start x) i.1 (ap (λ j. word_difference (unsigned (pos (suc j))) 1 == 0) o.0) (arrives ∙ ap (λ y. start y % 65536) (sym o.1))))
+      (λ z rest same far l. further 2 (lit≤ tt) (lit< tt) (one_past g acts i.0 z rest memory input output l by to i.1 (some_left _ (omega arith)) e))
 
   pub loops_close : {q : Watched} {at : ℕ} (g : ℕ) (acts : List OrderActivation) (to by : ℕ) (start : ℕ → ℕ) (m : ℕ) (operands : List Operand) (memory : List ℤ) (input output : List ℕ)
       → at + 3 ≡ to → (at + 3 + sign_extended by) % 65536 ≡ start m % 65536 → All OperandFits operands → HasAll image at (i86.Dec 0 ∷ i86.JumpIf 4 by ∷ [])
@@ -284,8 +269,8 @@ module _ (rows : Rows) (prog : OrderProgram) (image : Image) where
       marked g acts 3 to start 0 (m ∷ []) to_mark_in operands memory input output (lit< tt) fits l
       (λ k x rest is l.
       let o = only m k x is in
-      further 2 (lit≤ tt) (lit< tt) (short_to g acts by i (pos (suc k)) rest memory input output l (start x) (ap (λ j. word_difference (unsigned (pos (suc j))) 1 == 0) o.0) (arrives ∙ ap (λ y. start y % 65536) (sym o.1))))
-      (λ z rest same far l. further 2 (lit≤ tt) (lit< tt) (short_past g acts by i z rest memory input output l to (some_left _ (omega arith)) e))
+      further 2 (lit≤ tt) (lit< tt) (short_to g acts i.0 (pos (suc k)) rest memory input output l by (start x) i.1 (ap (λ j. word_difference (unsigned (pos (suc j))) 1 == 0) o.0) (arrives ∙ ap (λ y. start y % 65536) (sym o.1))))
+      (λ z rest same far l. further 2 (lit≤ tt) (lit< tt) (short_past g acts i.0 z rest memory input output l by to i.1 (some_left _ (omega arith)) e))
 
   -- ---- switches
 

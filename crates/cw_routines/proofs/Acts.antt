@@ -86,10 +86,14 @@ module _ (finds : Finds) {code : List ℕ} {at : ℕ} {v : View} {f : Flags} {p 
 
   -- ---- the arithmetic unit
 
-  pub sum : (r : ℕ) (src : Source) → 0 < length (bytes_of (i86.AluRm 0 true true r (rm_of src))) → length (bytes_of (i86.AluRm 0 true true r (rm_of src))) ≤ 7
-      → Has code at (i86.AluRm 0 true true r (rm_of src)) → SourceNeeds code src v
-      → At code (at + length (bytes_of (i86.AluRm 0 true true r (rm_of src)))) (with_register r (word_sum (register v r) (value_of src v)) v)
-      (sum_flags 32768 (register v r) (value_of src v) false) (processor_step p)
+  -- an operation on a register and a source: it leaves the view w and the flags g
+  abbrev pub Operates : (kind r : ℕ) (src : Source) (w : View) (g : Flags) → Type 0
+  Operates kind r src w g =
+      0 < length (bytes_of (i86.AluRm kind true true r (rm_of src))) → length (bytes_of (i86.AluRm kind true true r (rm_of src))) ≤ 7
+      → Has code at (i86.AluRm kind true true r (rm_of src)) → SourceNeeds code src v
+      → At code (at + length (bytes_of (i86.AluRm kind true true r (rm_of src)))) w g (processor_step p)
+
+  pub sum : (r : ℕ) (src : Source) → Operates 0 r src (with_register r (word_sum (register v r) (value_of src v)) v) (sum_flags 32768 (register v r) (value_of src v) false)
   unfolding operated with_operand with_sized_register alu_value alu_flags operand sized_register
   sum r src some short h n =
       let i = i86.AluRm 0 true true r (rm_of src) in
@@ -98,10 +102,7 @@ module _ (finds : Finds) {code : List ℕ} {at : ℕ} {v : View} {f : Flags} {p 
       (once_set _ _ r _ _ s.sees.registers (ap₂ (λ a b. (a + b + 0) % 65536) (one r) b ∙ plain_sum (register v r) (value_of src v)))
       (past_it _ at (length (bytes_of i)) s.sees.place) (ap₂ (λ a b. sum_flags 32768 a b false) (one r) b) refl refl
 
-  pub difference : (r : ℕ) (src : Source) → 0 < length (bytes_of (i86.AluRm 5 true true r (rm_of src))) → length (bytes_of (i86.AluRm 5 true true r (rm_of src))) ≤ 7
-      → Has code at (i86.AluRm 5 true true r (rm_of src)) → SourceNeeds code src v
-      → At code (at + length (bytes_of (i86.AluRm 5 true true r (rm_of src)))) (with_register r (word_difference (register v r) (value_of src v)) v)
-      (difference_flags 32768 (register v r) (value_of src v) false) (processor_step p)
+  pub difference : (r : ℕ) (src : Source) → Operates 5 r src (with_register r (word_difference (register v r) (value_of src v)) v) (difference_flags 32768 (register v r) (value_of src v) false)
   unfolding operated with_operand with_sized_register alu_value alu_flags operand sized_register
   difference r src some short h n =
       let i = i86.AluRm 5 true true r (rm_of src) in
@@ -110,10 +111,7 @@ module _ (finds : Finds) {code : List ℕ} {at : ℕ} {v : View} {f : Flags} {p 
       (once_set _ _ r _ _ s.sees.registers (ap₂ (λ a b. (a + 65536 - (b + 0)) % 65536) (one r) b ∙ plain_difference (register v r) (value_of src v)))
       (past_it _ at (length (bytes_of i)) s.sees.place) (ap₂ (λ a b. difference_flags 32768 a b false) (one r) b) refl refl
 
-  pub either : (r : ℕ) (src : Source) → 0 < length (bytes_of (i86.AluRm 1 true true r (rm_of src))) → length (bytes_of (i86.AluRm 1 true true r (rm_of src))) ≤ 7
-      → Has code at (i86.AluRm 1 true true r (rm_of src)) → SourceNeeds code src v
-      → At code (at + length (bytes_of (i86.AluRm 1 true true r (rm_of src)))) (with_register r (bit_or (register v r) (value_of src v)) v)
-      (logic_flags 32768 (bit_or (register v r) (value_of src v)) f) (processor_step p)
+  pub either : (r : ℕ) (src : Source) → Operates 1 r src (with_register r (bit_or (register v r) (value_of src v)) v) (logic_flags 32768 (bit_or (register v r) (value_of src v)) f)
   unfolding operated with_operand with_sized_register alu_value alu_flags operand sized_register
   either r src some short h n =
       let i = i86.AluRm 1 true true r (rm_of src) in
@@ -122,10 +120,7 @@ module _ (finds : Finds) {code : List ℕ} {at : ℕ} {v : View} {f : Flags} {p 
       arrives finds {w = with_register r (bit_or (register v r) (value_of src v)) v} i some short h s refl (held s) refl
       (once_set _ _ r _ _ s.sees.registers c) (past_it _ at (length (bytes_of i)) s.sees.place) (ap₂ (λ a f. logic_flags 32768 a f) c s.flags) refl refl
 
-  pub one_of : (r : ℕ) (src : Source) → 0 < length (bytes_of (i86.AluRm 6 true true r (rm_of src))) → length (bytes_of (i86.AluRm 6 true true r (rm_of src))) ≤ 7
-      → Has code at (i86.AluRm 6 true true r (rm_of src)) → SourceNeeds code src v
-      → At code (at + length (bytes_of (i86.AluRm 6 true true r (rm_of src)))) (with_register r (bit_xor (register v r) (value_of src v)) v)
-      (logic_flags 32768 (bit_xor (register v r) (value_of src v)) f) (processor_step p)
+  pub one_of : (r : ℕ) (src : Source) → Operates 6 r src (with_register r (bit_xor (register v r) (value_of src v)) v) (logic_flags 32768 (bit_xor (register v r) (value_of src v)) f)
   unfolding operated with_operand with_sized_register alu_value alu_flags operand sized_register
   one_of r src some short h n =
       let i = i86.AluRm 6 true true r (rm_of src) in
@@ -134,9 +129,7 @@ module _ (finds : Finds) {code : List ℕ} {at : ℕ} {v : View} {f : Flags} {p 
       arrives finds {w = with_register r (bit_xor (register v r) (value_of src v)) v} i some short h s refl (held s) refl
       (once_set _ _ r _ _ s.sees.registers c) (past_it _ at (length (bytes_of i)) s.sees.place) (ap₂ (λ a f. logic_flags 32768 a f) c s.flags) refl refl
 
-  pub comparison : (r : ℕ) (src : Source) → 0 < length (bytes_of (i86.AluRm 7 true true r (rm_of src))) → length (bytes_of (i86.AluRm 7 true true r (rm_of src))) ≤ 7
-      → Has code at (i86.AluRm 7 true true r (rm_of src)) → SourceNeeds code src v
-      → At code (at + length (bytes_of (i86.AluRm 7 true true r (rm_of src)))) v (difference_flags 32768 (register v r) (value_of src v) false) (processor_step p)
+  pub comparison : (r : ℕ) (src : Source) → Operates 7 r src v (difference_flags 32768 (register v r) (value_of src v) false)
   unfolding operated alu_flags operand sized_register
   comparison r src some short h n =
       let i = i86.AluRm 7 true true r (rm_of src) in
