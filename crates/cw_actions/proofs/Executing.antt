@@ -1,6 +1,6 @@
 pub mod Running
+pub mod Ends
 pub mod Right
-pub mod InOrder
 pub mod Called
 pub mod Files
 pub mod Statuses

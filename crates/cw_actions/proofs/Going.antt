@@ -1,5 +1,3 @@
-pub mod Files
-pub mod Links
 pub mod Unlinked
 pub mod Library
 pub mod Meant

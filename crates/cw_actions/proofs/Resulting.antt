@@ -7,12 +7,13 @@ pub mod Fates
 pub mod Outcomes
 pub mod Units
 pub mod Objects
-pub mod ImageCases
 pub mod Images
 pub mod Told
 pub mod Steps
+pub mod Sizes
 pub mod Maps
 pub mod Shows
+pub mod Filing
 pub mod Compiles
 pub mod Migrates
 pub mod Hexes

@@ -1,5 +1,5 @@
 pub mod Idle
-pub mod Closed
+pub mod Outside
 pub mod Written
 pub mod Results
 pub mod OneStatus

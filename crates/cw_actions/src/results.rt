@@ -1,6 +1,5 @@
 //! Actions that run nothing: `map` and `list` write a text to `out`, `compile`, `migrate` and `hex` a file.
 
-mod closing;
 mod compiling;
 mod first;
 mod hexing;
@@ -12,7 +11,6 @@ mod saving;
 mod showing;
 mod unlinking;
 
-pub use closing::close;
 pub use compiling::compile;
 pub use cw_texts::laws::compiled_units;
 pub use cw_texts::read_units;

@@ -6,8 +6,8 @@ use Rattle.cw_say.specs.compile.Texts.{text_limit, IsUnitOf}
 use Rattle.cw_build.specs.Building.{IsMadeOf}
 use Rattle.cw_image.specs.declared.image.Image.{Image}
 use Rattle.cw_say.specs.declared.status.Status.{Status}
-use Rattle.cw_say.specs.declared.status.Status.TheVariants.{Ended, Usage, Refused, Unlinked, Stopped, Unfinished, NoFile, Outside, NoMemory, BadFile, TooLong, BadCode, Divided, TooMany, NoPlace, NoItem}
-use Rattle.cw_say.specs.declared.status.Bad.TheVariants.{Object, Image as BadImage, Hex, Library}
+use Rattle.cw_say.specs.declared.status.Status.TheVariants.{Refused, NoMemory, BadFile}
+use Rattle.cw_say.specs.declared.status.Bad.TheVariants.{Object, Image as BadImage}
 use Rattle.cw_files.specs.declared.segments.Segment.{Segment}
 use Rattle.cw_files.specs.declared.segments.Segments.{Segments}
 use Rattle.cw_build.specs.declared.made.Made.{Made}
@@ -22,69 +22,18 @@ use Rattle.cw_files.proofs.Taking.{takes_none, takes_more, takes_all, stops_unre
 
 pub unread_text : (files : List Told) (texts : List (List ℕ)) (taken : ℕ) (before after : Counts) (status : Status) → IsUnread text_limit files taken before after status
     → StopsTexts files texts taken before after status
-unread_text files texts taken before after Ended unread = unread
-unread_text files texts taken before after Usage unread = unread
-unread_text files texts taken before after (Unlinked fault) unread = unread
-unread_text files texts taken before after (Stopped kind segment line) unread = unread
-unread_text files texts taken before after (Unfinished steps) unread = unread
-unread_text files texts taken before after (NoFile file) unread = unread
-unread_text files texts taken before after (Outside which) unread = unread
-unread_text files texts taken before after NoMemory unread = unread
-unread_text files texts taken before after (TooLong long) unread = unread
-unread_text files texts taken before after (BadCode offset) unread = unread
-unread_text files texts taken before after (Divided offset) unread = unread
-unread_text files texts taken before after (TooMany count) unread = unread
-unread_text files texts taken before after NoPlace unread = unread
-unread_text files texts taken before after (NoItem index) unread = unread
 unread_text files texts taken before after (Refused file fault) unread = absurd unread
-unread_text files texts taken before after (BadFile file (Object fault)) unread = absurd unread
-unread_text files texts taken before after (BadFile file (BadImage fault)) unread = absurd unread
-unread_text files texts taken before after (BadFile file (Hex fault)) unread = absurd unread
-unread_text files texts taken before after (BadFile file (Library fault)) unread = absurd unread
+unread_text files texts taken before after _ unread = unread
 
 pub unread_object : (files : List Told) (texts : List (List ℕ)) (taken : ℕ) (before after : Counts) (status : Status) → IsUnread object_limit files taken before after status
     → StopsObjects files texts taken before after status
-unread_object files texts taken before after Ended unread = unread
-unread_object files texts taken before after Usage unread = unread
-unread_object files texts taken before after (Unlinked fault) unread = unread
-unread_object files texts taken before after (Stopped kind segment line) unread = unread
-unread_object files texts taken before after (Unfinished steps) unread = unread
-unread_object files texts taken before after (NoFile file) unread = unread
-unread_object files texts taken before after (Outside which) unread = unread
-unread_object files texts taken before after NoMemory unread = unread
-unread_object files texts taken before after (TooLong long) unread = unread
-unread_object files texts taken before after (BadCode offset) unread = unread
-unread_object files texts taken before after (Divided offset) unread = unread
-unread_object files texts taken before after (TooMany count) unread = unread
-unread_object files texts taken before after NoPlace unread = unread
-unread_object files texts taken before after (NoItem index) unread = unread
-unread_object files texts taken before after (Refused file fault) unread = absurd unread
 unread_object files texts taken before after (BadFile file (Object fault)) unread = absurd unread
-unread_object files texts taken before after (BadFile file (BadImage fault)) unread = absurd unread
-unread_object files texts taken before after (BadFile file (Hex fault)) unread = absurd unread
-unread_object files texts taken before after (BadFile file (Library fault)) unread = absurd unread
+unread_object files texts taken before after _ unread = unread
 
 pub unread_image : (files : List Told) (texts : List (List ℕ)) (taken : ℕ) (before after : Counts) (status : Status) → IsUnread object_limit files taken before after status
     → StopsImages files texts taken before after status
-unread_image files texts taken before after Ended unread = unread
-unread_image files texts taken before after Usage unread = unread
-unread_image files texts taken before after (Unlinked fault) unread = unread
-unread_image files texts taken before after (Stopped kind segment line) unread = unread
-unread_image files texts taken before after (Unfinished steps) unread = unread
-unread_image files texts taken before after (NoFile file) unread = unread
-unread_image files texts taken before after (Outside which) unread = unread
-unread_image files texts taken before after NoMemory unread = unread
-unread_image files texts taken before after (TooLong long) unread = unread
-unread_image files texts taken before after (BadCode offset) unread = unread
-unread_image files texts taken before after (Divided offset) unread = unread
-unread_image files texts taken before after (TooMany count) unread = unread
-unread_image files texts taken before after NoPlace unread = unread
-unread_image files texts taken before after (NoItem index) unread = unread
-unread_image files texts taken before after (Refused file fault) unread = absurd unread
-unread_image files texts taken before after (BadFile file (Object fault)) unread = absurd unread
 unread_image files texts taken before after (BadFile file (BadImage fault)) unread = absurd unread
-unread_image files texts taken before after (BadFile file (Hex fault)) unread = absurd unread
-unread_image files texts taken before after (BadFile file (Library fault)) unread = absurd unread
+unread_image files texts taken before after _ unread = unread
 
 -- ---- texts
 

@@ -3,8 +3,8 @@ use Rattle.std.proofs.Common.{◌≡◌, ℕ, ◌≤◌, false, List, [], ◌∷
 use Rattle.cw_io.specs.File.{Told, Is}
 use Rattle.cw_image.specs.declared.fault.ImageFault.{ImageFault}
 use Rattle.cw_say.specs.declared.status.Status.{Status}
-use Rattle.cw_say.specs.declared.status.Status.TheVariants.{Ended, Usage, Refused, Unlinked, Stopped, Unfinished, NoFile, Outside, NoMemory, BadFile, TooLong, BadCode, Divided, TooMany, NoPlace, NoItem}
-use Rattle.cw_say.specs.declared.status.Bad.TheVariants.{Object, Image as BadImage, Hex, Library}
+use Rattle.cw_say.specs.declared.status.Status.TheVariants.{BadFile}
+use Rattle.cw_say.specs.declared.status.Bad.TheVariants.{Image as BadImage}
 use Rattle.cw_files.specs.declared.images.Runnable.{Runnable}
 use Rattle.cw_files.specs.Texts.{IsBad, begins_hex, HasRunnable, IsBadRunnable, object_limit}
 use Rattle.cw_files.specs.Reading.{Counts, SameCounts, IsBadAt, IsUnread, StopsImages, StopsRunnables, AnswersRunnable}
@@ -22,45 +22,15 @@ pub image_stops : (files : List Told) (texts : List (List ℕ)) (before after : 
     → StopsImages files texts 0 before after status → StopsRunnables files texts 0 before after status
 image_stops files texts before after bytes (BadFile number (BadImage fault)) is at x =
     (x.0, bad_image (slice_get texts number) bytes fault (ap (λ n. slice_get texts n) x.0 ∙ at) is x.1)
-image_stops files texts before after bytes (BadFile number (Object fault)) is at x = absurd x
-image_stops files texts before after bytes (BadFile number (Hex fault)) is at x = absurd x
-image_stops files texts before after bytes (BadFile number (Library fault)) is at x = absurd x
-image_stops files texts before after bytes Ended is at x = x
-image_stops files texts before after bytes Usage is at x = x
-image_stops files texts before after bytes (Refused file fault) is at x = x
-image_stops files texts before after bytes (Unlinked fault) is at x = x
-image_stops files texts before after bytes (Stopped kind segment line) is at x = x
-image_stops files texts before after bytes (Unfinished steps) is at x = x
-image_stops files texts before after bytes (NoFile file) is at x = x
-image_stops files texts before after bytes (Outside which) is at x = x
-image_stops files texts before after bytes NoMemory is at x = x
-image_stops files texts before after bytes (TooLong long) is at x = x
-image_stops files texts before after bytes (BadCode offset) is at x = x
-image_stops files texts before after bytes (Divided offset) is at x = x
-image_stops files texts before after bytes (TooMany count) is at x = x
-image_stops files texts before after bytes NoPlace is at x = x
-image_stops files texts before after bytes (NoItem index) is at x = x
+image_stops files texts before after bytes (BadFile number _) is at x = absurd x
+image_stops files texts before after bytes _ is at x = x
 
 -- ---- the one file
 
 unread_runnable : (files : List Told) (texts : List (List ℕ)) (taken : ℕ) (before after : Counts) (status : Status) → IsUnread object_limit files taken before after status
     → StopsRunnables files texts taken before after status
-unread_runnable files texts taken before after Ended unread = unread
-unread_runnable files texts taken before after Usage unread = unread
-unread_runnable files texts taken before after (Refused file fault) unread = unread
-unread_runnable files texts taken before after (Unlinked fault) unread = unread
-unread_runnable files texts taken before after (Stopped kind segment line) unread = unread
-unread_runnable files texts taken before after (Unfinished steps) unread = unread
-unread_runnable files texts taken before after (NoFile file) unread = unread
-unread_runnable files texts taken before after (Outside which) unread = unread
-unread_runnable files texts taken before after NoMemory unread = unread
-unread_runnable files texts taken before after (TooLong long) unread = unread
-unread_runnable files texts taken before after (BadCode offset) unread = unread
-unread_runnable files texts taken before after (Divided offset) unread = unread
-unread_runnable files texts taken before after (TooMany count) unread = unread
-unread_runnable files texts taken before after NoPlace unread = unread
-unread_runnable files texts taken before after (NoItem index) unread = unread
 unread_runnable files texts taken before after (BadFile file fault) unread = absurd unread
+unread_runnable files texts taken before after _ unread = unread
 
 pub runnable_taken : (file : Told) (bytes : List ℕ) (before after : Counts) (result : Result Runnable Status) → Is file bytes → length bytes ≤ object_limit → SameCounts before after
     → IfOk result (λ runnable. HasRunnable bytes runnable)

@@ -14,26 +14,12 @@ use Rattle.cw_link_files.specs.Parts.{Part, Given, Members, begins_library, Tell
 use Rattle.cw_link_files.specs.Taken.{StopsParts, AreFilesOf, AreObjects, AreMore, AnswersPart, TookFile, AnswersParts}
 use Rattle.cw_link_files.specs.declared.reading.LinkFiles.{LinkFiles}
 use Rattle.cw_files.specs.say.declared.status.Status.{Status}
-use Rattle.cw_files.specs.say.declared.status.Status.TheVariants.{Ended, Usage, Refused, Unlinked, Stopped, Unfinished, NoFile, Outside, NoMemory, BadFile, TooLong, BadCode, Divided, TooMany, NoPlace, NoItem}
+use Rattle.cw_files.specs.say.declared.status.Status.TheVariants.{BadFile}
 
 unread_part : (files : List Told) (texts : List (List ℕ)) (taken : ℕ) (before after : Counts) (status : Status) → IsUnread object_limit files taken before after status
     → StopsParts files texts taken before after status
-unread_part files texts taken before after Ended unread = unread
-unread_part files texts taken before after Usage unread = unread
-unread_part files texts taken before after (Refused file fault) unread = unread
-unread_part files texts taken before after (Unlinked fault) unread = unread
-unread_part files texts taken before after (Stopped kind segment line) unread = unread
-unread_part files texts taken before after (Unfinished steps) unread = unread
-unread_part files texts taken before after (NoFile file) unread = unread
-unread_part files texts taken before after (Outside which) unread = unread
-unread_part files texts taken before after NoMemory unread = unread
 unread_part files texts taken before after (BadFile file fault) unread = absurd unread
-unread_part files texts taken before after (TooLong long) unread = unread
-unread_part files texts taken before after (BadCode offset) unread = unread
-unread_part files texts taken before after (Divided offset) unread = unread
-unread_part files texts taken before after (TooMany count) unread = unread
-unread_part files texts taken before after NoPlace unread = unread
-unread_part files texts taken before after (NoItem index) unread = unread
+unread_part files texts taken before after _ unread = unread
 
 -- ---- parts behind others
 

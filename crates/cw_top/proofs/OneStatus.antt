@@ -15,11 +15,11 @@ use Rattle.cw_say.specs.declared.status.Status.{Status}
 use Rattle.cw_say.specs.declared.status.Status.TheVariants.{NoMemory, TooLong}
 use Rattle.cw_say.specs.declared.status.Long.TheVariants as long
 use Rattle.cw_actions.specs.Going.Laws as going
-use Rattle.cw_actions.proofs.Going.Called.{map_twice}
+use Rattle.cw_actions.proofs.Resulting.Readings.{map_twice}
 use Rattle.cw_actions.specs.Executing.Laws as executing
 use Rattle.cw_actions.specs.Resulting.OneStatus.{AllowsOneStatus}
 use Rattle.cw_actions.specs.Tracing.Laws as tracing
-use Rattle.cw_top.proofs.Asked.{behind_first}
+use Rattle.cw_actions.proofs.Archiving.Archived.{behind_first}
 
 -- the same of each action
 pub record OneEach : Type 0 where

@@ -23,7 +23,7 @@ use Rattle.cw_actions.specs.Executing.Laws as executing
 use Rattle.cw_actions.specs.Resulting.Idle.{IsIdle, AllowsIdle}
 use Rattle.cw_actions.specs.Tracing.Laws as tracing
 use Rattle.cw_top.specs.Quits.{MayQuit}
-use Rattle.cw_top.proofs.Asked.{over_any, asked, copies_told, stop_told, no_stop}
+use Rattle.cw_top.proofs.Asked.{asked, asked_so, copies_told, stop_told, no_stop}
 
 after_nothing : (told : Option (List ℕ)) → after_told told [] ≡ told
 after_nothing None = refl
@@ -108,16 +108,16 @@ module _ (before after : Surroundings) where
 
     of_action : (action : Action) → copies_of action parts.names ≡ Some parts.copies → stop_of action parts.names ≡ Some parts.stop → parts.action ≡ action → IsCorrectRequest (Some parts) before after NoMemory
     of_action Go told stops is = asked Go parts before after NoMemory is (idles.texts (λ us. map_text us (limits_of parts)) Go (limits_of parts) parts.steps parts.names before after (named parts.names closes))
-    of_action Exec told stops is = asked Exec parts before after NoMemory is (over_any (call Exec) NoMemory (λ input. idles.exec (call Exec) input (named parts.names closes)))
-    of_action Map told stops is = asked Map parts before after NoMemory is (over_any (call Map) NoMemory (λ input. idles.map (call Map) (is_idle Map)))
-    of_action Depth told stops is = asked Depth parts before after NoMemory is (over_any (call Depth) NoMemory (λ input. idles.depth (call Depth) (is_idle Depth)))
-    of_action Code told stops is = asked Code parts before after NoMemory is (over_any (call Code) NoMemory (λ input. idles.code (call Code) (is_idle Code)))
-    of_action Show told stops is = asked Show parts before after NoMemory is (over_any (call Show) NoMemory (λ input. idles.list (call Show) (is_idle Show)))
-    of_action Compile told stops is = asked Compile parts before after NoMemory is (over_any (call Compile) NoMemory (λ input. idles.compile (call Compile) (is_idle Compile)))
-    of_action Lib told stops is = asked Lib parts before after NoMemory is (over_any (call Lib) NoMemory (λ input. idles.lib (call Lib) (is_idle Lib)))
-    of_action Link told stops is = asked Link parts before after NoMemory is (over_any (call Link) NoMemory (λ input. idles.link (call Link) (is_idle Link)))
-    of_action Migrate told stops is = asked Migrate parts before after NoMemory is (over_any (call Migrate) NoMemory (λ input. idles.migrate (call Migrate) (is_idle Migrate)))
-    of_action Hex told stops is = asked Hex parts before after NoMemory is (over_any (call Hex) NoMemory (λ input. idles.hex (call Hex) (is_idle Hex)))
+    of_action Exec told stops is = asked_so Exec parts before after NoMemory is (λ input. idles.exec (call Exec) input (named parts.names closes))
+    of_action Map told stops is = asked_so Map parts before after NoMemory is (λ input. idles.map (call Map) (is_idle Map))
+    of_action Depth told stops is = asked_so Depth parts before after NoMemory is (λ input. idles.depth (call Depth) (is_idle Depth))
+    of_action Code told stops is = asked_so Code parts before after NoMemory is (λ input. idles.code (call Code) (is_idle Code))
+    of_action Show told stops is = asked_so Show parts before after NoMemory is (λ input. idles.list (call Show) (is_idle Show))
+    of_action Compile told stops is = asked_so Compile parts before after NoMemory is (λ input. idles.compile (call Compile) (is_idle Compile))
+    of_action Lib told stops is = asked_so Lib parts before after NoMemory is (λ input. idles.lib (call Lib) (is_idle Lib))
+    of_action Link told stops is = asked_so Link parts before after NoMemory is (λ input. idles.link (call Link) (is_idle Link))
+    of_action Migrate told stops is = asked_so Migrate parts before after NoMemory is (λ input. idles.migrate (call Migrate) (is_idle Migrate))
+    of_action Hex told stops is = asked_so Hex parts before after NoMemory is (λ input. idles.hex (call Hex) (is_idle Hex))
     of_action Big told stops is =
         let (input, is_input, runs) = idles.texts (program_line parts.copies) Big (limits_of parts) parts.steps (large_program parts.copies) (in_memory before) (in_memory after) (in_memory_closes (large_program parts.copies)) in
         let right : MakesRight parts.copies (call Big) input NoMemory = record {

@@ -1,35 +1,35 @@
 -- A call of `lib` keeps its promise.
-use Rattle.std.proofs.Common.{◌≡◌, ◌≢◌, ◌⊎◌, ℕ, ◌-◌, ◌≤◌, List, [], ◌∷◌, map, take, drop, length, Some, None, refl, sym, ap, ◌∙◌, subst, inl, inr, arith}
+use Rattle.std.proofs.Common.{◌≡◌, ◌≢◌, ℕ, ◌-◌, ◌≤◌, List, [], ◌∷◌, map, take, drop, length, Some, refl, sym, ap, ◌∙◌, subst, arith}
 use Rattle.std.specs.List.{AllByRecursion}
 use Rattle.std.specs.Borrow.{Bor}
-use Rattle.std.proofs.lemmas.List.{length-map, length-drop, take_all}
+use Rattle.std.proofs.lemmas.List.{length-drop, take_all}
 use Rattle.std.proofs.lemmas.List.Elements.{All-drop}
 use Rattle.std.specs.Prelude.{All, slice_index_or}
-use Rattle.cw_io.specs.Count.{Rose}
 use Rattle.cw_io.specs.File.{Told, AllStay}
 use Rattle.cw_cpu86.specs.Ports.{AreBytes}
-use Rattle.cw_view.specs.ObjectFormat.{IsObject, IsFirstObjectFault}
+use Rattle.cw_view.specs.ObjectFormat.{IsObject}
 use Rattle.cw_view.specs.Uniqueness.{HasOneFault}
 use Rattle.cw_lib.specs.LibraryFormat.{library_bytes}
 use Rattle.cw_files.specs.Texts.{HasObject, object_limit}
-use Rattle.cw_files.specs.Reading.{HaveBytes, HaveValues, AllTaken, Stopped, StopsObjects, SameCounts}
+use Rattle.cw_files.specs.Reading.{HaveBytes, HaveValues, AllTaken, SameCounts}
 use Rattle.cw_unit.specs.declared.layout.Limits.{Limits}
 use Rattle.cw_words.specs.declared.action.Action.TheVariants.{Lib}
 use Rattle.cw_correct.specs.Calls.{Surroundings, call_as, Call, over_others, told_files, NoFault, IsUntouched, IsUnwritten}
 use Rattle.cw_correct.specs.Correct.{TellsBytes}
-use Rattle.cw_correct.specs.Files.{counts_before, counts_after, AllAccepted}
-use Rattle.cw_correct.specs.Results.{WritesFile, IsDone, ObjectsCome, MakesLibrary, LibsRight}
-use Rattle.cw_actions.specs.Resulting.Closed.{Files, files_at}
+use Rattle.cw_correct.specs.Files.{counts_before, AllAccepted}
+use Rattle.cw_correct.specs.Results.{WritesFile, MakesLibrary, LibsRight}
+use Rattle.cw_actions.specs.Resulting.Outside.{Files, files_at}
 use Rattle.cw_actions.specs.Resulting.Written.{GivesFile}
 use Rattle.cw_actions.specs.Resulting.OneStatus.{AllowsOneStatus}
 use Rattle.cw_say.specs.declared.status.Status.{Status}
-use Rattle.cw_say.specs.declared.status.Status.TheVariants.{Ended, NoMemory}
-use Rattle.cw_actions.proofs.Resulting.Cases.{stops_objects, gives_file, objects_come}
-use Rattle.cw_actions.proofs.Resulting.Keeping.{Closed, says_last, writes_file}
-use Rattle.cw_actions.proofs.Resulting.Fates.{one_fate}
-use Rattle.cw_actions.proofs.Resulting.Statuses.{all_bytes, ended, wrong}
-use Rattle.cw_actions.proofs.Resulting.Objects.{ObjectRuns, bad_status, not_bad, all_run, stop_runs, stop_done}
-use Rattle.cw_actions.proofs.Resulting.Readings.{Found, all_told, tells}
+use Rattle.cw_say.specs.declared.status.Status.TheVariants.{NoMemory}
+use Rattle.cw_actions.proofs.Resulting.Keeping.{Closed}
+use Rattle.cw_actions.proofs.Resulting.Fates.{one_ended}
+use Rattle.cw_actions.proofs.Resulting.Statuses.{all_bytes}
+use Rattle.cw_actions.proofs.Resulting.Objects.{objects as object_files}
+use Rattle.cw_actions.proofs.Resulting.Readings.{Found, all_told}
+use Rattle.cw_actions.proofs.Resulting.Filing as filing
+use Rattle.cw_actions.proofs.Resulting.Filing.{Reads, StopsReading, fate}
 
 -- what was taken are objects that are not too long
 pub opened : (texts objects : List (List ℕ)) → HaveValues HasObject texts objects → AllByRecursion IsObject objects
@@ -44,67 +44,35 @@ short [] (text ∷ texts) (object ∷ objects) have values = absurd have
 short (file ∷ files) (text ∷ texts) (object ∷ objects) have values = (subst (λ t. length t ≤ 16777216) (sym values.0.1) have.1, short files texts objects have.2 values.1)
 
 module _ (name : List ℕ) (c : Call) where
-  module _ (untouched : IsUntouched c.before c.after) (unwritten : IsUnwritten c.before c.after) (s : Status) (closed : Closed c s) where
-    make : (texts objects : List (List ℕ)) → HaveBytes object_limit (told_files c) texts → HaveValues HasObject texts objects → ObjectsCome c texts objects s
-        → WritesFile c name (library_bytes objects) (AllAccepted c objects) s → MakesLibrary name c s
-    make texts objects have values comes writes = record {
+  module _ (untouched : IsUntouched c.before c.after) (unwritten : IsUnwritten c.before c.after) where
+    pub right : (texts objects : List (List ℕ)) (s : Status) → Reads object_files c texts objects s → WritesFile c name (library_bytes objects) (AllAccepted c objects) s → MakesLibrary name c s
+    right texts objects s x writes = record {
       texts = texts;
       objects = objects;
-      have_bytes = have;
-      have_objects = values;
-      comes = comes;
-      says = says_last c.before c.after c.names s (λ e. subst (λ t. ObjectsCome c texts objects t) e comes) closed;
+      have_bytes = x.have_bytes;
+      have_objects = x.have_values;
+      comes = x.comes;
+      says = x.says;
       writes = writes;
       untouched = untouched;
       unwritten = unwritten;
-      completes = λ told others tell taken quiet.
-          objects_come IsDone c texts objects (λ x. tt) (λ x. absurd (quiet.store x))
-          (λ t x. stop_done c (map Some told) (tell ∙ tells told) texts objects have values quiet others taken t x) s comes;
+      completes = x.completes;
     }
 
-    pub stopped : AllStay c.before.files c.after.files → Stopped object_limit HasObject (λ texts taken. StopsObjects (told_files c) texts taken (counts_before c) (counts_after c) s) (told_files c) → MakesLibrary name c s
-    stopped stay x =
-        make x.texts x.values x.have_bytes x.have_values
-        (stops_objects (λ t. ObjectsCome c x.texts x.values t) (told_files c) x.texts (length x.values) (counts_before c) (counts_after c) (λ number fault y. y) (λ number y. y) (λ y. y) (λ number y. y) tt s x.stops)
-        (stops_objects (λ t. WritesFile c name (library_bytes x.values) (AllAccepted c x.values) t) (told_files c) x.texts (length x.values) (counts_before c) (counts_after c) (λ number fault y. stay) (λ number y. stay) (λ y. inl stay) (λ number y. stay) stay s x.stops)
+    pub stopped : (s : Status) → Closed c s → AllStay c.before.files c.after.files → StopsReading object_files c s → MakesLibrary name c s
+    stopped = filing.stopped object_files c name library_bytes (MakesLibrary name c) right
 
-    pub written : (objects : List (List ℕ)) → AllTaken object_limit HasObject (told_files c) objects → (between : Files) → AllStay c.before.files between.told → SameCounts (counts_before c) between.counts
+    pub written : (s : Status) → Closed c s → (objects : List (List ℕ)) → AllTaken object_limit HasObject (told_files c) objects → (between : Files) → AllStay c.before.files between.told → SameCounts (counts_before c) between.counts
         → GivesFile name (library_bytes objects) between (files_at c.after.files c.after.store_faults c.after.absences) s → MakesLibrary name c s
-    written objects x between stay same gives =
-        let all : AllAccepted c objects = x.all ∙ length-map c.names c.before.files in
-        let after : Files = files_at c.after.files c.after.store_faults c.after.absences in
-        make x.texts objects x.have_bytes x.have_values
-        (gives_file (λ t. ObjectsCome c x.texts objects t) name (library_bytes objects) between after (λ y. all) (λ y. subst (λ faults. Rose faults c.after.store_faults) same.0 y.2) (λ y. tt) s gives)
-        (writes_file c untouched name (library_bytes objects) (AllAccepted c objects) s all unwritten between stay same closed gives)
-
-  -- ---- one status
-
-  abbrev After : List (List ℕ) → Status → Type 0
-  After objects s = s ≡ Ended
-
-  abbrev Fate : List Found → Status → Type 0
-  Fate found s = (s ≡ NoMemory) ⊎ (((xs : List (List ℕ)) × ObjectRuns found xs (Some s)) ⊎ ((xs : List (List ℕ)) × ObjectRuns found xs None × After xs s))
-
-  fate : (s : Status) → MakesLibrary name c s → (found : List Found) → told_files c ≡ all_told found → NoFault c.before c.after → Fate found s
-  fate s x found told quiet =
-      objects_come (λ t. Fate found t) c x.texts x.objects
-      (λ all. inr (inr (x.objects, all_run c found told x.texts x.objects x.have_bytes x.have_objects all, refl)))
-      (λ rose. absurd (quiet.store rose))
-      (λ t stops. more t (stop_runs c found told x.texts x.objects x.have_bytes x.have_objects quiet t stops))
-      s x.comes
-    where
-      more : (t : Status) → (t ≡ NoMemory) ⊎ ObjectRuns found x.objects (Some t) → Fate found t
-      more t (inl e) = inl e
-      more t (inr run) = inr (inl (x.objects, run))
+    written = filing.written object_files c name library_bytes (MakesLibrary name c) right untouched unwritten
 
   library_once : HasOneFault → (a b : Status) (found : List Found) → told_files c ≡ all_told found → All TellsBytes found → NoFault c.before c.after → a ≢ NoMemory → b ≢ NoMemory → MakesLibrary name c a → MakesLibrary name c b → a ≡ b
   library_once one_fault a b found told all quiet m n x y =
-      one_fate object_limit HasObject IsFirstObjectFault bad_status After not_bad AreBytes (wrong one_fault)
-      found (λ us vs s t runs others after other. ended s t after other)
-      a b (all_bytes found all) m n (fate a x found told quiet) (fate b y found told quiet)
+      one_ended object_files AreBytes one_fault found a b (all_bytes found all) m n
+      (fate object_files c x.texts x.objects x.have_bytes x.have_objects a x.comes found told quiet) (fate object_files c y.texts y.objects y.have_bytes y.have_objects b y.comes found told quiet)
 
 -- the files of the objects are told, where all are
-behind_first : {A B : Type 0} (f : A → B) (xs : List A) → map f (drop 1 xs) ≡ drop 1 (map f xs)
+pub behind_first : {A B : Type 0} (f : A → B) (xs : List A) → map f (drop 1 xs) ≡ drop 1 (map f xs)
 behind_first f [] = refl
 behind_first f (x ∷ xs) = refl
 

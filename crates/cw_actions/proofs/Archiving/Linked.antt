@@ -10,7 +10,7 @@ use Rattle.cw_build.specs.Linking.{AreLinked, IsFault}
 use Rattle.cw_view.specs.Uniqueness.{HasOneFault}
 use Rattle.cw_lib.specs.Uniqueness.{HasOneLibrary, HasNotBoth}
 use Rattle.cw_lib.specs.Uniqueness as libraries
-use Rattle.cw_link_files.specs.Parts.{Part, HasPart, IsBadPart, IsListOf, IsLinkList, HasOneLinkList, all_members}
+use Rattle.cw_link_files.specs.Parts.{Part, HasPart, IsListOf, IsLinkList, HasOneLinkList, all_members}
 use Rattle.cw_link_files.specs.Taken.{StopsParts, AreFilesOf}
 use Rattle.cw_link_files.specs.declared.reading.LinkFiles.{LinkFiles}
 use Rattle.cw_files.specs.Texts.{object_limit}
@@ -18,19 +18,21 @@ use Rattle.cw_files.specs.Reading.{HaveBytes, HaveValues, AllTaken, Stopped, Sam
 use Rattle.cw_correct.specs.Calls.{Call, told_files, NoFault, IsUntouched, IsUnwritten}
 use Rattle.cw_correct.specs.Files.{counts_before, counts_after}
 use Rattle.cw_correct.specs.Results.{WritesFile, IsDone, AreListed, AreFew, all_contents, image_file, LinkComes, LinksRight}
-use Rattle.cw_actions.specs.Resulting.Closed.{Files, files_at}
+use Rattle.cw_actions.specs.Resulting.Outside.{Files, files_at}
 use Rattle.cw_actions.specs.Resulting.OneStatus.{AllowsOneStatus}
 use Rattle.cw_actions.specs.Archiving.Linking.{LinksList, LinksTaken}
 use Rattle.cw_say.specs.declared.status.Status.{Status}
-use Rattle.cw_say.specs.declared.status.Status.TheVariants.{Ended, Unlinked, NoMemory, BadFile, TooMany}
+use Rattle.cw_say.specs.declared.status.Status.TheVariants.{Ended, Unlinked, NoMemory, TooMany}
 use Rattle.cw_actions.proofs.Resulting.Cases.{gives_file}
 use Rattle.cw_actions.proofs.Resulting.Keeping.{Closed, says_last, writes_file}
 use Rattle.cw_actions.proofs.Resulting.Links.{links_not_faulty, one_fault}
-use Rattle.cw_actions.proofs.Resulting.Fates.{one_fate}
+use Rattle.cw_actions.proofs.Resulting.Outcomes.{Kind, FileRuns, all_taken, all_run, stop_runs, stop_done}
+use Rattle.cw_actions.proofs.Resulting.Fates.{Fate, stopped as stopped_fate, one_fate}
 use Rattle.cw_actions.proofs.Resulting.Statuses.{all_bytes}
 use Rattle.cw_actions.proofs.Resulting.Readings.{Found, all_told, tells}
-use Rattle.cw_actions.proofs.Archiving.Cases.{stops_parts, links_objects, links_list, links_taken, link_comes}
-use Rattle.cw_actions.proofs.Archiving.Parts.{PartRuns, not_bad, one_bad, all_run, all_taken, same_parts, stop_runs, stop_done}
+use Rattle.cw_actions.proofs.Resulting.Filing.{keeps_file}
+use Rattle.cw_actions.proofs.Archiving.Cases.{links_objects, links_list, links_taken, link_comes, stops_come}
+use Rattle.cw_actions.proofs.Archiving.Parts.{parts as part_kind, one_bad, same_parts}
 
 -- the laws that the promise rests on
 pub record OneOfFiles : Type 0 where
@@ -39,6 +41,9 @@ pub record OneOfFiles : Type 0 where
   pub list : HasOneLinkList
 
 module _ (given : OneOfFiles) where
+  abbrev kind : Kind
+  kind = part_kind given.no_fault
+
   one_list : (parts : List Part) (a b : List (List ℕ)) → IsLinkList parts a → IsLinkList parts b → a ≡ b
   one_list parts a b x y =
       let found = given.list parts in
@@ -48,9 +53,9 @@ module _ (given : OneOfFiles) where
     abbrev AreAll : (parts : List Part) → (list : List (List ℕ)) → Type 0
     AreAll parts list = AreListed c parts list × AreFew list × AreLinked (all_contents list) c.limits
 
-    same_list : (found : List Found) (xs ys : List Part) (a b : List (List ℕ)) → PartRuns found xs None → PartRuns found ys None → IsLinkList xs a → IsLinkList ys b → a ≡ b
+    same_list : (found : List Found) (xs ys : List Part) (a b : List (List ℕ)) → FileRuns kind found xs None → FileRuns kind found ys None → IsLinkList xs a → IsLinkList ys b → a ≡ b
     same_list found xs ys a b x y listed also =
-        let same : xs ≡ ys = same_parts given.library found xs ys x y in
+        let same : xs ≡ ys = same_parts given.no_fault given.library found xs ys x y in
         one_list ys a b (subst (λ zs. IsLinkList zs a) same listed) also
 
     module _ (untouched : IsUntouched c.before c.after) (unwritten : IsUnwritten c.before c.after) (s : Status) (closed : Closed c s) where
@@ -63,24 +68,24 @@ module _ (given : OneOfFiles) where
         have_bytes = have;
         have_parts = values;
         comes = comes;
-        says = says_last c.before c.after c.names s (λ e. subst (λ t. LinkComes c texts parts list t) e comes) closed;
+        says = says_last c s (λ e. subst (λ t. LinkComes c texts parts list t) e comes) closed;
         writes = writes;
         untouched = untouched;
         unwritten = unwritten;
         completes = λ told others also tell taken listed few links quiet.
             let tell_all = tell ∙ tells told in
-            let one : AreListed c parts list → also ≡ list = λ x. same_list (map Some told) others parts also list (all_taken given.no_fault c (map Some told) tell_all others taken) (all_run given.no_fault c (map Some told) tell_all texts parts have values x.all) listed x.listed in
+            let one : AreListed c parts list → also ≡ list = λ x. same_list (map Some told) others parts also list (all_taken kind c (map Some told) tell_all others taken) (all_run kind c (map Some told) tell_all texts parts have values x.all) listed x.listed in
             link_comes IsDone c texts parts list (λ x. tt) (λ x. absurd (quiet.store x))
             (λ fault x. absurd (links_not_faulty (all_contents list) c.limits fault (subst (λ xs. AreLinked (all_contents xs) c.limits) (one x.0) links) x.2))
             (λ count x. absurd (omega (arith, x.1, x.2, few, ap length (one x.0))))
-            (λ t x. stop_done given.no_fault c (map Some told) tell_all texts parts have values quiet others taken t x) s comes;
+            (λ t x. stop_done kind c (map Some told) tell_all texts parts have values quiet others taken t x) s comes;
       }
 
       pub stopped : AllStay c.before.files c.after.files → Stopped object_limit HasPart (λ texts taken. StopsParts (told_files c) texts taken (counts_before c) (counts_after c) s) (told_files c) → LinksRight c s
       stopped stay x =
           make x.texts x.values [] x.have_bytes x.have_values
-          (stops_parts (λ t. LinkComes c x.texts x.values [] t) (told_files c) x.texts (length x.values) (counts_before c) (counts_after c) (λ number fault y. y) (λ number y. y) (λ y. y) (λ number y. y) tt s x.stops)
-          (stops_parts (λ t. WritesFile c (codes "A.IMG") (image_file [] c.limits) (AreAll x.values []) t) (told_files c) x.texts (length x.values) (counts_before c) (counts_after c) (λ number fault y. stay) (λ number y. stay) (λ y. inl stay) (λ number y. stay) stay s x.stops)
+          (stops_come c x.texts x.values s x.stops)
+          (keeps_file kind c x.texts (length x.values) stay (codes "A.IMG") (image_file [] c.limits) (AreAll x.values []) s x.stops)
 
       -- nothing came of the files for want of memory
       unlisted : (parts : List Part) → AllTaken object_limit HasPart (told_files c) parts → s ≡ NoMemory → AllStay c.before.files c.after.files → LinksRight c s
@@ -149,31 +154,23 @@ module _ (given : OneOfFiles) where
     one_of_list a b s t same (inr (inr (count, is, many, e))) (inr (inl (fault, also, wrong, f))) = absurd (omega (arith, also, is, many, ap length same))
     one_of_list a b s t same (inr (inr (count, is, many, e))) (inr (inr (other, also, more, f))) = e ∙ ap TooMany (is ∙ ap length same ∙ sym also) ∙ sym f
 
-    one_after : (found : List Found) (xs ys : List Part) (s t : Status) → PartRuns found xs None → PartRuns found ys None → After xs s → After ys t → s ≡ t
+    one_after : (found : List Found) (xs ys : List Part) (s t : Status) → FileRuns kind found xs None → FileRuns kind found ys None → After xs s → After ys t → s ≡ t
     one_after found xs ys s t runs others (a, listed, x) (b, also, y) = one_of_list a b s t (same_list found xs ys a b runs others listed also) x y
 
-    abbrev Fate : List Found → Status → Type 0
-    Fate found s = (s ≡ NoMemory) ⊎ (((xs : List Part) × PartRuns found xs (Some s)) ⊎ ((xs : List Part) × PartRuns found xs None × After xs s))
-
-    fate : (s : Status) → LinksRight c s → (found : List Found) → told_files c ≡ all_told found → NoFault c.before c.after → Fate found s
+    fate : (s : Status) → LinksRight c s → (found : List Found) → told_files c ≡ all_told found → NoFault c.before c.after → Fate kind After found s
     fate s x found told quiet =
-        link_comes (λ t. Fate found t) c x.texts x.parts x.list
+        link_comes (λ t. Fate kind After found t) c x.texts x.parts x.list
         (λ y. inr (inr (x.parts, run y.0, (x.list, y.0.listed, inl (refl, y.1, y.2)))))
         (λ rose. absurd (quiet.store rose))
         (λ fault y. inr (inr (x.parts, run y.0, (x.list, y.0.listed, inr (inl (fault, y.1, y.2, refl))))))
         (λ count y. inr (inr (x.parts, run y.0, (x.list, y.0.listed, inr (inr (count, y.1, y.2, refl))))))
-        (λ t stops. more t (stop_runs given.no_fault c found told x.texts x.parts x.have_bytes x.have_parts quiet t stops))
+        (λ t stops. stopped_fate kind After found x.parts t (stop_runs kind c found told x.texts x.parts x.have_bytes x.have_parts quiet t stops))
         s x.comes
       where
-        run : AreListed c x.parts x.list → PartRuns found x.parts None
-        run are = all_run given.no_fault c found told x.texts x.parts x.have_bytes x.have_parts are.all
-
-        more : (t : Status) → (t ≡ NoMemory) ⊎ PartRuns found x.parts (Some t) → Fate found t
-        more t (inl e) = inl e
-        more t (inr run) = inr (inl (x.parts, run))
+        run : AreListed c x.parts x.list → FileRuns kind found x.parts None
+        run are = all_run kind c found told x.texts x.parts x.have_bytes x.have_parts are.all
 
   pub links_once : HasOneFault → libraries.HasOneFault → AllowsOneStatus LinksRight
   links_once object_fault library_fault c a b found told all quiet m n x y =
-      one_fate object_limit HasPart IsBadPart BadFile (After c) (not_bad given.no_fault) AreBytes (one_bad object_fault library_fault)
-      found (λ us vs s t runs others after other. one_after c found us vs s t runs others after other)
-      a b (all_bytes found all) m n (fate c a x found told quiet) (fate c b y found told quiet)
+      one_fate kind (After c) AreBytes (one_bad object_fault library_fault) found a b (λ us vs runs others after other. one_after c found us vs a b runs others after other)
+      (all_bytes found all) m n (fate c a x found told quiet) (fate c b y found told quiet)

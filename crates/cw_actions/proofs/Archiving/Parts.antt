@@ -1,7 +1,6 @@
--- What comes of the files of `link`, where the store tells them and no count rose.
-use Rattle.std.proofs.Common.{◌≡◌, ◌⊎◌, ℕ, Bool, true, false, List, map, length, Option, Some, None, sym, ap, ◌∙◌, subst, slice_get}
+-- The files of `link` as they are read.
+use Rattle.std.proofs.Common.{◌≡◌, ◌⊎◌, ℕ, Bool, true, false, List, map, None, refl, sym, ap, ◌∙◌, subst, inl, inr, slice_get}
 use Rattle.std.specs.Borrow.{Bor}
-use Rattle.cw_io.specs.Count.{Rose}
 use Rattle.cw_io.specs.File.{Told}
 use Rattle.cw_cpu86.specs.Ports.{AreBytes}
 use Rattle.cw_view.specs.Uniqueness.{HasOneFault}
@@ -11,39 +10,22 @@ use Rattle.cw_lib.specs.Uniqueness as libraries
 use Rattle.cw_link_files.specs.Parts.{Part, Given, Members, begins_library, TellsPart, HasPart, IsBadPart}
 use Rattle.cw_link_files.specs.Taken.{StopsParts}
 use Rattle.cw_files.specs.Texts.{object_limit}
-use Rattle.cw_files.specs.Reading.{Counts, HaveBytes, HaveValues, AllTaken, Stopped, IsAbsentAt, IsLongerAt, IsBadAt}
-use Rattle.cw_correct.specs.Calls.{Call, told_files, NoFault}
-use Rattle.cw_correct.specs.Files.{counts_before, counts_after, AllAccepted}
-use Rattle.cw_correct.specs.Results.{IsDone}
+use Rattle.cw_files.specs.Reading.{Counts, AllTaken, Stopped, IsUnread}
 use Rattle.cw_say.specs.declared.status.Bad.{Bad}
 use Rattle.cw_say.specs.declared.status.Bad.TheVariants.{Object, Image as BadImage, Hex, Library}
 use Rattle.cw_say.specs.declared.status.Status.{Status}
-use Rattle.cw_say.specs.declared.status.Status.TheVariants.{NoFile, Outside, BadFile, NoMemory, TooLong}
-use Rattle.cw_say.specs.declared.status.Which.TheVariants.{Store}
-use Rattle.cw_say.specs.declared.status.Long.TheVariants.{File}
-use Rattle.cw_actions.proofs.Resulting.Readings.{Found, all_told, RefusesAt, Runs, same_values}
+use Rattle.cw_say.specs.declared.status.Status.TheVariants.{BadFile}
+use Rattle.cw_actions.proofs.Resulting.Readings.{Found, bad_at, same_values}
 use Rattle.cw_actions.proofs.Resulting.Told.{same_told}
-use Rattle.cw_actions.proofs.Resulting.Outcomes as outcomes
-use Rattle.cw_actions.proofs.Archiving.Cases.{stops_parts}
-
-abbrev pub PartRuns : List Found → List Part → Option Status → Type 0
-PartRuns found parts s = Runs object_limit HasPart IsBadPart BadFile 0 found parts s
+use Rattle.cw_actions.proofs.Resulting.Outcomes.{IsRefusedAs, Kind, FileRuns}
 
 true_false : (b : Bool) → b ≡ true → b ≡ false → ⊥
 true_false b e f = absurd (cc (e, f))
 
-bad_at : (o : Option (List ℕ)) (fault : Bad) → IsBadAt IsBadPart o fault → RefusesAt IsBadPart o fault
-bad_at None fault x = x
-bad_at (Some bytes) fault x = x
-
-by_cases : (P : Status → Type 0) (files : List Told) (texts : List (List ℕ)) (taken : ℕ) (before after : Counts)
-    → ((number : ℕ) (fault : Bad) → (number ≡ taken) × RefusesAt IsBadPart (slice_get texts number) fault → P (BadFile number fault))
-    → ((number : ℕ) → (number ≡ taken) × IsAbsentAt (slice_get files number) × Rose before.absences after.absences → P (NoFile number))
-    → (Rose before.faults after.faults → P (Outside Store))
-    → ((number : ℕ) → (number ≡ taken) × IsLongerAt (slice_get files number) object_limit → P (TooLong (File number)))
-    → P NoMemory → (s : Status) → StopsParts files texts taken before after s → P s
-by_cases P files texts taken before after bad absent failed longer wanted =
-    stops_parts P files texts taken before after (λ number fault x. bad number fault (x.0, bad_at (slice_get texts number) fault x.1)) absent failed longer wanted
+pub stop_is : (files : List Told) (texts : List (List ℕ)) (taken : ℕ) (before after : Counts) (s : Status) → StopsParts files texts taken before after s
+    → IsUnread object_limit files taken before after s ⊎ IsRefusedAs Bad IsBadPart BadFile texts taken s
+stop_is files texts taken before after (BadFile number fault) x = inr (number, fault, x.0, bad_at IsBadPart (λ fault. fault) (slice_get texts number) fault x.1, refl)
+stop_is files texts taken before after _ x = inl x
 
 -- ---- what is taken is one thing, and is not refused
 
@@ -70,20 +52,19 @@ module _ (no_fault : HasNotBoth) where
   not_bad bytes part (BadImage fault) is bad = absurd bad
   not_bad bytes part (Hex fault) is bad = absurd bad
 
-  module _ (c : Call) (found : List Found) (told : told_files c ≡ all_told found) where
-    pub all_taken : (parts : List Part) → AllTaken object_limit HasPart (told_files c) parts → PartRuns found parts None
-    all_taken = outcomes.all_taken object_limit HasPart IsBadPart BadFile not_bad StopsParts by_cases c found told
-
-    module _ (texts : List (List ℕ)) (parts : List Part) (have : HaveBytes object_limit (told_files c) texts) (values : HaveValues HasPart texts parts) where
-      pub all_run : AllAccepted c parts → PartRuns found parts None
-      all_run = outcomes.all_run object_limit HasPart IsBadPart BadFile not_bad StopsParts by_cases c found told texts parts have values
-
-      pub stop_runs : NoFault c.before c.after → (s : Status) → StopsParts (told_files c) texts (length parts) (counts_before c) (counts_after c) s → (s ≡ NoMemory) ⊎ PartRuns found parts (Some s)
-      stop_runs = outcomes.stop_runs object_limit HasPart IsBadPart BadFile not_bad StopsParts by_cases c found told texts parts have values
-
-      -- where all are taken, nothing but want of memory stops the reading
-      pub stop_done : NoFault c.before c.after → (others : List Part) → AllTaken object_limit HasPart (told_files c) others → (s : Status) → StopsParts (told_files c) texts (length parts) (counts_before c) (counts_after c) s → IsDone s
-      stop_done = outcomes.stop_done object_limit HasPart IsBadPart BadFile not_bad StopsParts by_cases c found told texts parts have values
+  abbrev pub parts : Kind
+  parts = record {
+    Value = Part;
+    Wrong = Bad;
+    limit = object_limit;
+    Accepts = HasPart;
+    Refuses = IsBadPart;
+    status_of = BadFile;
+    is_refusal = λ number fault. tt;
+    not_both = not_bad;
+    Stops = StopsParts;
+    stop_is = stop_is;
+  }
 
 -- of the names of a call
 module _ (file : List ℕ → Told) (names : List (Bor (List ℕ))) where
@@ -94,8 +75,8 @@ module _ (file : List ℕ → Told) (names : List (Bor (List ℕ))) where
       → Stopped object_limit HasPart (λ texts taken. StopsParts (map file (map (λ name. name.now) names)) texts taken before after s) (map file (map (λ name. name.now) names))
   parts_stopped before after s x = subst (λ files. Stopped object_limit HasPart (λ texts taken. StopsParts files texts taken before after s) files) (same_told file names) x
 
-pub same_parts : (one_library : HasOneLibrary) (found : List Found) (xs ys : List Part) → PartRuns found xs None → PartRuns found ys None → xs ≡ ys
-same_parts one_library found xs ys x y = same_values object_limit HasPart IsBadPart BadFile (one_part one_library) 0 found xs ys x y
+pub same_parts : (no_fault : HasNotBoth) (one_library : HasOneLibrary) (found : List Found) (xs ys : List Part) → FileRuns (parts no_fault) found xs None → FileRuns (parts no_fault) found ys None → xs ≡ ys
+same_parts no_fault one_library found xs ys x y = same_values object_limit HasPart IsBadPart BadFile (one_part one_library) 0 found xs ys x y
 
 -- ---- bytes are refused for one thing
 

@@ -4,10 +4,10 @@ use Rattle.std.specs.Prelude.{codes}
 use Rattle.cw_unit.specs.declared.layout.Limits.{Limits}
 use Rattle.cw_link.specs.LinkFaults.{IsFirstLinkFault}
 use Rattle.cw_link.specs.declared.fault.LinkFault.{LinkFault}
-use Rattle.cw_link.specs.declared.fault.LinkFault.TheVariants.{SegmentTwice, Differs, DefinedTwice, Undefined, AbsoluteOutside, DataTooBig, ControlTooBig, PresetClash, CodeTooBig, NoMemory as NoMemoryToLink}
+use Rattle.cw_link.specs.declared.fault.LinkFault.TheVariants.{NoMemory as NoMemoryToLink}
 use Rattle.cw_build.specs.Linking.{AreLinked, IsFault}
 use Rattle.cw_correct.specs.Results.{AreFew, all_contents, image_file}
-use Rattle.cw_actions.specs.Resulting.Closed.{Files}
+use Rattle.cw_actions.specs.Resulting.Outside.{Files}
 use Rattle.cw_actions.specs.Resulting.Written.{GivesFile}
 use Rattle.cw_actions.specs.Resulting.Results.{unlinked_status}
 use Rattle.cw_actions.proofs.Resulting.Cases.{gives_file}
@@ -26,15 +26,7 @@ module _ (objects : List (List ℕ)) (limits : Limits) where
 
   unlinked_links_as : (files : Files) (fault : LinkFault) → IsFirstLinkFault (all_contents objects) limits fault → LinksObjects objects limits files files (unlinked_status fault)
   unlinked_links_as files NoMemoryToLink x = λ name. refl
-  unlinked_links_as files (SegmentTwice name) x = (as_fault (SegmentTwice name) (λ e. absurd (cc)) x, (λ other. refl))
-  unlinked_links_as files (Differs name first second) x = (as_fault (Differs name first second) (λ e. absurd (cc)) x, (λ other. refl))
-  unlinked_links_as files (DefinedTwice name first second) x = (as_fault (DefinedTwice name first second) (λ e. absurd (cc)) x, (λ other. refl))
-  unlinked_links_as files (Undefined name) x = (as_fault (Undefined name) (λ e. absurd (cc)) x, (λ other. refl))
-  unlinked_links_as files (AbsoluteOutside segment address) x = (as_fault (AbsoluteOutside segment address) (λ e. absurd (cc)) x, (λ other. refl))
-  unlinked_links_as files (DataTooBig need) x = (as_fault (DataTooBig need) (λ e. absurd (cc)) x, (λ other. refl))
-  unlinked_links_as files (ControlTooBig need) x = (as_fault (ControlTooBig need) (λ e. absurd (cc)) x, (λ other. refl))
-  unlinked_links_as files (PresetClash address first second) x = (as_fault (PresetClash address first second) (λ e. absurd (cc)) x, (λ other. refl))
-  unlinked_links_as files (CodeTooBig bytes) x = (as_fault (CodeTooBig bytes) (λ e. absurd (cc)) x, (λ other. refl))
+  unlinked_links_as files fault x = (as_fault fault (λ e. absurd (cc)) x, (λ other. refl))
 
   pub unlinked_links : (files : Files) (fault : LinkFault) (s : Status) → s ≡ unlinked_status fault → IsFirstLinkFault (all_contents objects) limits fault → LinksObjects objects limits files files s
   unlinked_links files fault s e x = subst (λ t. LinksObjects objects limits files files t) (sym e) (unlinked_links_as files fault x)

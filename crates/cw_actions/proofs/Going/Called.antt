@@ -1,48 +1,27 @@
 -- What the functions of the call answer, in the words of the call.
-use Rattle.std.proofs.Common.{◌≡◌, ℕ, ◌≤◌, List, [], ◌∷◌, length, map, Option, Bor, refl, ap, ap₂, ◌∙◌, subst, sym, arith}
+use Rattle.std.proofs.Common.{◌≡◌, ℕ, ◌≤◌, List, length, map, Option, Bor, refl, ap₂, ◌∙◌, subst, sym, arith}
 use Rattle.std.proofs.lemmas.List.{length-map}
-use Rattle.cw_io.specs.File.{Told, AllStay}
+use Rattle.cw_io.specs.File.{AllStay}
 use Rattle.cw_unit.specs.declared.unit.Unit.{Unit as SourceUnit}
 use Rattle.cw_unit.specs.declared.layout.Limits.{Limits}
 use Rattle.cw_unit.specs.declared.layout.Map.{Map}
 use Rattle.cw_unit.specs.Allocation.{storage_map}
 use Rattle.cw_unit.specs.Program.{program_at}
 use Rattle.cw_image.specs.declared.image.Image.{Image}
-use Rattle.cw_compile.specs.Texts.{text_limit}
 use Rattle.cw_list.specs.Rows.{program_listing}
-use Rattle.cw_build.specs.Linking.{Links, map_text, image_of}
-use Rattle.cw_files.specs.Texts.{HasUnit}
-use Rattle.cw_files.specs.Reading.{AllTaken, Stopped, StopsTexts, SameCounts}
+use Rattle.cw_build.specs.Linking.{map_text}
 use Rattle.cw_place.specs.Placement.{IsLimits}
 use Rattle.cw_words.specs.declared.action.Action.TheVariants.{Go}
-use Rattle.cw_correct.specs.Calls.{Surroundings, surroundings_of, Call, call_as, told_files}
+use Rattle.cw_correct.specs.Calls.{Surroundings, surroundings_of, call_as}
 use Rattle.cw_correct.specs.Closing.{Closes}
 use Rattle.cw_correct.specs.Correct.{IsCorrectCall}
-use Rattle.cw_correct.specs.Files.{counts_before, counts_after}
-use Rattle.cw_correct.specs.Going.{Telling}
 use Rattle.cw_write.specs.Said.{Says}
 use Rattle.cw_say.specs.Closing.{closing_line}
 use Rattle.cw_say.specs.declared.status.Status.{Status}
 use Rattle.cw_say.specs.declared.status.Status.TheVariants.{Ended}
 use Rattle.cw_actions.specs.Going.Runs.{Streams, Runs}
-use Rattle.cw_actions.specs.Going.Goes.{streams_of, StopsReading, Takes, RunsUnits, Goes}
+use Rattle.cw_actions.specs.Going.Goes.{Goes}
 use Rattle.cw_actions.specs.Going.Laws.{KeepsPromise}
-use Rattle.cw_actions.proofs.Going.Library.{names_are}
-
-pub map_twice : {A B C : Type 0} (g : B → C) (f : A → B) (xs : List A) → map (λ x. g (f x)) xs ≡ map g (map f xs)
-map_twice g f [] = refl
-map_twice g f (x ∷ xs) = ap (λ ys. g (f x) ∷ ys) (map_twice g f xs)
-
--- ---- files
-
-pub stops_reading : (files : List Told) (c : Call) (status : Status) → files ≡ told_files c → Stopped text_limit HasUnit (λ texts taken. StopsTexts files texts taken (counts_before c) (counts_after c) status) files
-    → streams_of c.after ≡ streams_of c.before → StopsReading c status
-stops_reading files c status e stopped same =
-    let P : List Told → Type 0 = λ fs. Stopped text_limit HasUnit (λ texts taken. StopsTexts fs texts taken (counts_before c) (counts_after c) status) fs in
-    record { stopped = subst P e stopped; same = same }
-
-pub takes : (files : List Told) (c : Call) (us : List SourceUnit) → files ≡ told_files c → AllTaken text_limit HasUnit files us → SameCounts (counts_before c) (counts_after c) → Takes c us
-takes files c us e all counts = record { all = subst (λ fs. AllTaken text_limit HasUnit fs us) e all; counts = counts }
 
 -- ---- the image
 
@@ -56,11 +35,6 @@ runs_as text other image meant steps a b status e f runs =
     let P : List ℕ → Type 0 = λ t. Runs t image steps a b status in
     let Q : Image → Type 0 = λ i. Runs other i steps a b status in
     subst Q f (subst P e runs)
-
-pub runs_units : (telling : Telling) (c : Call) (us : List SourceUnit) (image : Image) (segments : List (List ℕ)) (status : Status) → Links us c.limits → image ≡ image_of us c.limits → segments ≡ image.names
-    → Runs (telling us) (image_of us c.limits) c.steps (streams_of c.before) (streams_of c.after) status → RunsUnits telling c us segments status
-runs_units telling c us image segments status links is e runs =
-    record { links = links; named = e ∙ ap (λ (i : Image). i.names) is ∙ names_are us c.limits; runs = runs }
 
 -- ---- the closing line
 
@@ -86,12 +60,16 @@ closes_by between say say_faults names segments status says ended = record {
   out_faults = refl;
 }
 
-pub closed : KeepsPromise → (limits : Limits) (steps : ℕ) (names : List (Bor (List ℕ))) (segments : List (List ℕ)) (before between : Surroundings) (say : Option (List ℕ)) (say_faults : ℕ) (status result : Status)
-    → result ≡ status → IsLimits limits → 1 ≤ length names → length names ≤ 200 → AllStay before.files between.files → Goes (λ us. map_text us limits) (call_as Go limits steps (named names) before between) segments status
-    → Says between.say say between.say_faults say_faults (closing_line (named names) segments status) → (status ≡ Ended → say_faults ≡ between.say_faults)
-    → IsCorrectCall (call_as Go limits steps (named names) before (after_line between say say_faults)) result
-closed keeps limits steps names segments before between say say_faults status result same within some most stays goes says ended =
-    let after = after_line between say say_faults in
+-- what stood before it, where `say` held this
+abbrev pub before_line : (after : Surroundings) → (said : Option (List ℕ)) → (faults : ℕ) → Surroundings
+before_line a said faults = after_line a said faults
+
+-- a call of `go` that goes so up to there
+pub closed : KeepsPromise → (limits : Limits) (steps : ℕ) (names : List (Bor (List ℕ))) (segments : List (List ℕ)) (before after : Surroundings) (said : Option (List ℕ)) (faults : ℕ) (status result : Status)
+    → result ≡ status → IsLimits limits → 1 ≤ length names → length names ≤ 200 → AllStay before.files after.files → Says said after.say faults after.say_faults (closing_line (named names) segments status) → (status ≡ Ended → after.say_faults ≡ faults)
+    → Goes (λ us. map_text us limits) (call_as Go limits steps (named names) before (before_line after said faults)) segments status → IsCorrectCall (call_as Go limits steps (named names) before after) result
+closed keeps limits steps names segments before after said faults status result same within some most stays says ended goes =
+    let between = before_line after said faults in
     subst (IsCorrectCall (call_as Go limits steps (named names) before after)) (sym same)
     (keeps (λ us. map_text us limits) Go limits steps (named names) segments before between after status within (omega (arith, length-map names (λ (name : Bor (List ℕ)). name.now), some))
-    (omega (arith, length-map names (λ (name : Bor (List ℕ)). name.now), most)) stays goes (closes_by between say say_faults (named names) segments status says ended))
+    (omega (arith, length-map names (λ (name : Bor (List ℕ)). name.now), most)) stays goes (closes_by between after.say after.say_faults (named names) segments status says ended))

@@ -13,19 +13,12 @@ use Rattle.cw_unit.specs.Configuration.{FramesApart, activations_of}
 use Rattle.cw_unit.specs.Behaviour.{configuration_after}
 use Rattle.cw_sim.specs.Preservation.{IsLoaded, Preserves, Completes}
 use Rattle.cw_place.specs.Placement.{IsLimits}
-use Rattle.cw_compile.specs.Outcomes.{HasOneUnit, HasOneRefusal, HasNotBoth, CountsTokens}
 use Rattle.cw_link.specs.LinkedImage.{linked_size}
 use Rattle.cw_build.specs.Compiled.{IsCompilable, contents_of_units}
 use Rattle.cw_build.specs.Linking.{Links, image_of}
 use Rattle.cw_files.specs.Texts.{HasUnit}
 use Rattle.cw_files.specs.Reading.{HaveValues}
-
--- on texts
-pub record OneOfText : Type 0 where
-  pub one_unit : HasOneUnit
-  pub one_refusal : HasOneRefusal
-  pub not_both : HasNotBoth
-  pub tokens : CountsTokens
+use Rattle.cw_actions.proofs.Resulting.Texts.{OneOfText}
 
 -- on the units of texts
 abbrev pub AreCompilable : Type 0

@@ -1,7 +1,6 @@
--- What a run of the image of texts shows is what the texts mean, and no more than one thing comes of a text.
-use Rattle.std.proofs.Common.{◌≡◌, ◌≢◌, ℕ, ◌+◌, ◌*◌, ◌<◌, ◌≤◌, List, [], ◌∷◌, length, map, refl, sym, ap, ap₂, ◌∙◌, subst, inr, ⊎_elim, arith}
-use Rattle.std.specs.Prelude.{All, sum}
-use Rattle.std.proofs.lemmas.List.Sums.{sum_by-cons}
+-- What a run of the image of texts shows is what the texts mean.
+use Rattle.std.proofs.Common.{◌≡◌, ◌≢◌, ℕ, ◌+◌, ◌*◌, ◌<◌, ◌≤◌, List, [], length, ap, ◌∙◌, subst, inr, ⊎_elim, arith}
+use Rattle.std.specs.Prelude.{All}
 use Rattle.cw_i86.specs.State.{State}
 use Rattle.cw_i86.specs.MachineRun as run
 use Rattle.cw_unit.specs.declared.unit.Unit.{Unit as SourceUnit}
@@ -14,43 +13,16 @@ use Rattle.cw_unit.specs.Stop.{End, Running}
 use Rattle.cw_unit.specs.Behaviour.{observed}
 use Rattle.cw_sim.specs.Preservation.{TellsEnd, IsLoaded, Preserves}
 use Rattle.cw_place.specs.Placement.{IsLimits}
-use Rattle.cw_lex.specs.Lexical.{Lexeme}
-use Rattle.cw_compile.specs.declared.fault.Refusal.{Refusal}
-use Rattle.cw_compile.specs.Texts.{IsRefused}
-use Rattle.cw_compile.specs.Outcomes.{CountsTokens}
 use Rattle.cw_build.specs.Compiled.{IsCompilable}
 use Rattle.cw_build.specs.Linking.{Links, image_of}
 use Rattle.cw_files.specs.Texts.{HasUnit}
 use Rattle.cw_files.specs.Reading.{HaveValues}
-use Rattle.cw_correct.specs.Going.{ExpandTo}
-use Rattle.cw_actions.proofs.Going.Given.{OneOfText, AreCompilable, OnStorage, OnRuns}
+use Rattle.cw_actions.proofs.Going.Given.{AreCompilable, OnStorage, OnRuns}
 
 -- ---- units of texts
 
 pub valid : AreCompilable → OnStorage → (limits : Limits) (texts : List (List ℕ)) (us : List SourceUnit) → HaveValues HasUnit texts us → Links us limits → ValidStorageMap us limits (storage_map us)
 valid compilable given limits texts us have links = given.map us limits (compilable texts us have) links
-
--- the tokens of the units are the items to which the texts expand
-pub record Expanded (texts : List (List ℕ)) (us : List SourceUnit) : Type 0 where
-  pub items : List (List Lexeme)
-  pub expand : ExpandTo texts items
-  pub count : sum (map (λ (u : SourceUnit). u.tokens) us) ≡ sum (map (λ (xs : List Lexeme). length xs) items)
-
-pub expanded : CountsTokens → (texts : List (List ℕ)) (us : List SourceUnit) → HaveValues HasUnit texts us → length texts ≤ length us → Expanded texts us
-expanded counts [] [] have few = record { items = []; expand = tt; count = refl }
-expanded counts [] (u ∷ us) have few = absurd have
-expanded counts (t ∷ ts) [] have few = absurd (omega (arith, few))
-expanded counts (t ∷ ts) (u ∷ us) have few =
-    let tree = have.0.is_unit.has.names.tree in
-    let more = expanded counts ts us have.1 (omega (arith, few)) in
-    let first : u.tokens ≡ length tree.expanded = counts t u tree.expanded have.0.is_unit tree.expands in
-    let tokens = map (λ (v : SourceUnit). v.tokens) us in
-    let lengths = map (λ (xs : List Lexeme). length xs) more.items in
-    record {
-      items = tree.expanded ∷ more.items;
-      expand = (tree.expands, more.expand);
-      count = sum_by-cons (λ n. n) u.tokens tokens ∙ ap₂ (λ m n. m + n) first more.count ∙ sym (sum_by-cons (λ n. n) (length tree.expanded) lengths);
-    }
 
 -- ---- runs
 
@@ -92,12 +64,3 @@ module _ (given : OnRuns) (us : List SourceUnit) (limits : Limits) (some : us �
       let early : c.k ≤ steps = omega (arith, c.pace, soon) in
       let same : c.shown ≡ o = given.once s input steps c.shown o (over_stays s input c.k steps c.shown early over c.shows_at) shows in
       over (ap (λ x. x.end) same ∙ running)
-
--- ---- texts
-
-module _ (given : OneOfText) (text : List ℕ) where
-  pub one_unit : (u v : SourceUnit) → HasUnit text u → HasUnit text v → u ≡ v
-  one_unit u v x y = given.one_unit text u v x.is_unit y.is_unit
-
-  pub not_refused : (u : SourceUnit) (fault : Refusal) → HasUnit text u → IsRefused text fault → ⊥
-  not_refused u fault x y = given.not_both text u fault x.is_unit y

@@ -1,5 +1,5 @@
 -- The texts of the large program, as those of files that hold them.
-use Rattle.std.proofs.Common.{◌≡◌, ℕ, zero, suc, ◌+◌, ◌≤◌, ◌==◌, Bool, List, [], ◌∷◌, ◌++◌, length, length-append, map, slice_get, Option, Some, refl, ap, ◌∙◌, subst, arith}
+use Rattle.std.proofs.Common.{◌≡◌, ℕ, zero, suc, ◌+◌, ◌≤◌, ◌==◌, Bool, List, [], ◌∷◌, ◌++◌, length, length-append, map, slice_get, Some, refl, subst, arith}
 use Rattle.cw_io.specs.File.{Told}
 use Rattle.cw_unit.specs.declared.unit.Unit.{Unit as SourceUnit}
 use Rattle.cw_compile.specs.Texts.{text_limit, IsUnitOf}
@@ -8,9 +8,9 @@ use Rattle.cw_big.specs.LargeProgram.{large_text, first_texts}
 use Rattle.cw_files.specs.Texts.{HasUnit}
 use Rattle.cw_files.specs.Reading.{HaveBytes, HaveValues, IsRefusedAt, counts_at, StopsTexts}
 use Rattle.cw_say.specs.declared.status.Status.{Status}
-use Rattle.cw_say.specs.declared.status.Status.TheVariants.{Ended, Usage, Refused, Unlinked, Stopped, Unfinished, NoFile, Outside, NoMemory, BadFile, TooLong, BadCode, Divided, TooMany, NoPlace, NoItem}
-use Rattle.cw_say.specs.declared.status.Which.TheVariants.{Store, Input, Out, Say}
-use Rattle.cw_say.specs.declared.status.Long.TheVariants.{File, Input as LongInput}
+use Rattle.cw_say.specs.declared.status.Status.TheVariants.{Refused, NoFile, Outside, NoMemory, TooLong}
+use Rattle.cw_say.specs.declared.status.Which.TheVariants.{Store}
+use Rattle.cw_say.specs.declared.status.Long.TheVariants.{File}
 
 abbrev pub Short : Type 0
 Short = (number : ℕ) (is_last : Bool) → number ≤ 100 → length (large_text number is_last) ≤ 1000
@@ -56,19 +56,5 @@ compiled both text u has NoMemory h = refl
 compiled both text u has (Refused number fault) h = absurd (both text u fault has (subst (λ n. IsRefusedAt (slice_get (text ∷ []) n) fault) h.0 h.1))
 compiled both text u has (NoFile number) h = absurd (omega (arith, h.2))
 compiled both text u has (Outside Store) h = absurd (omega (arith, h))
-compiled both text u has (Outside Input) h = absurd h
-compiled both text u has (Outside Out) h = absurd h
-compiled both text u has (Outside Say) h = absurd h
 compiled both text u has (TooLong (File number)) h = absurd h.1
-compiled both text u has (TooLong LongInput) h = absurd h
-compiled both text u has Ended h = absurd h
-compiled both text u has Usage h = absurd h
-compiled both text u has (Unlinked fault) h = absurd h
-compiled both text u has (Stopped kind segment line) h = absurd h
-compiled both text u has (Unfinished steps) h = absurd h
-compiled both text u has (BadFile number fault) h = absurd h
-compiled both text u has (BadCode offset) h = absurd h
-compiled both text u has (Divided offset) h = absurd h
-compiled both text u has (TooMany count) h = absurd h
-compiled both text u has NoPlace h = absurd h
-compiled both text u has (NoItem index) h = absurd h
+compiled both text u has _ h = absurd h

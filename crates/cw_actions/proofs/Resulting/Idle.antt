@@ -4,6 +4,11 @@ use Rattle.cw_unit.specs.declared.unit.Unit.{Unit as SourceUnit}
 use Rattle.cw_unit.specs.declared.layout.Limits.{Limits}
 use Rattle.cw_correct.specs.Results.{TellsOfUnits, IsMap, IsDepth, IsCode, DepthsRight, MapsRight, CodesRight, ShowsRight, CompilesRight, MigratesRight, HexesRight}
 use Rattle.cw_actions.specs.Resulting.Idle.{AllowsIdle}
+use Rattle.cw_say.specs.declared.status.Status.TheVariants.{NoMemory}
+use Rattle.cw_actions.proofs.Resulting.Objects.{objects as object_files}
+use Rattle.cw_actions.proofs.Resulting.Images.{images as image_files}
+use Rattle.cw_actions.proofs.Resulting.Filing.{idle as idle_reads}
+use Rattle.cw_actions.proofs.Resulting.Migrates as migrating
 use Rattle.cw_actions.proofs.Resulting.Hexes as hexing
 
 told : (IsText : (texts : List (List ℕ)) → List SourceUnit → Limits → List ℕ → Type 0) → AllowsIdle (TellsOfUnits IsText)
@@ -60,22 +65,9 @@ compiles c idle = record {
 }
 
 pub migrates : AllowsIdle MigratesRight
-migrates c idle = record {
-  texts = [];
-  objects = [];
-  result = [];
-  have_bytes = tt;
-  have_objects = tt;
-  comes = tt;
-  says = idle.says;
-  migrates = tt;
-  writes = idle.stays;
-  untouched = idle.untouched;
-  unwritten = idle.unwritten;
-  completes = λ told objects tell taken quiet. tt;
-}
+migrates c idle = migrating.right c idle.untouched idle.unwritten [] [] [] NoMemory (idle_reads object_files c idle) tt idle.stays
 
 pub hexes : AllowsIdle HexesRight
-hexes c x = hexing.idle c x
+hexes c idle = hexing.right c idle.untouched idle.unwritten [] [] NoMemory (idle_reads image_files c idle) idle.stays
 
 pub ruleset laws = (maps, depths, listings, shows, compiles, migrates, hexes)

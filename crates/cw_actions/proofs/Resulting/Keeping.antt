@@ -1,64 +1,44 @@
 -- How a call that was closed says so, and what was written.
-use Rattle.std.proofs.Common.{◌≡◌, ◌≢◌, ℕ, ◌≤◌, List, [], ◌++◌, Option, Some, None, refl, sym, ap, ◌∙◌, subst, inl, inr, arith, append-nil}
-use Rattle.cw_io.specs.Bytes.{after_told}
+use Rattle.std.proofs.Common.{◌≡◌, ◌≢◌, ℕ, List, [], Option, refl, sym, ap, ◌∙◌, subst, inl, inr, arith}
 use Rattle.cw_io.specs.Count.{Rose}
-use Rattle.cw_io.specs.File.{Told, as_file, AllStay, KeptOrWhole, OthersStay}
+use Rattle.cw_io.specs.File.{Told, as_file, AllStay, KeptOrWhole}
 use Rattle.cw_write.specs.Said.{Says}
 use Rattle.cw_say.specs.Closing.{closing_line}
 use Rattle.cw_files.specs.Reading.{SameCounts as CountsStand}
-use Rattle.cw_correct.specs.Calls.{Surroundings, Call, SameCounts, IsUntouched, IsUnwritten}
+use Rattle.cw_correct.specs.Calls.{Call, SameCounts, IsUntouched, IsUnwritten}
 use Rattle.cw_correct.specs.Files.{counts_before, counts_after}
 use Rattle.cw_correct.specs.Saying.{IsFirstPart, SaysLast}
 use Rattle.cw_correct.specs.Results.{WritesOut, WritesFile}
-use Rattle.cw_actions.specs.Resulting.Closed.{IsClosed, Files, files_at, Out, out_at}
+use Rattle.cw_actions.specs.Resulting.Outside.{Files, files_at, out_at}
 use Rattle.cw_actions.specs.Resulting.Written.{GivesOut, GivesFile}
 use Rattle.cw_say.specs.declared.status.Status.{Status}
-use Rattle.cw_say.specs.declared.status.Status.TheVariants.{Ended, Usage, Refused, Unlinked, Stopped, Unfinished, NoFile, Outside, NoMemory, BadFile, TooLong, BadCode, Divided, TooMany, NoPlace, NoItem}
-use Rattle.cw_say.specs.declared.status.Which.TheVariants.{Store, Input, Out as ToOut, Say}
+use Rattle.cw_say.specs.declared.status.Status.TheVariants.{Ended, Outside, TooLong}
+use Rattle.cw_say.specs.declared.status.Which.TheVariants.{Say}
 use Rattle.cw_say.specs.declared.status.Long.TheVariants.{File}
-use Rattle.cw_say.specs.declared.status.Long.TheVariants as long
+use Rattle.cw_actions.proofs.Executing.Running.{after_nothing}
 use Rattle.cw_actions.proofs.Resulting.Cases.{gives_out, gives_file}
 
-after_nothing : (told : Option (List ℕ)) → after_told told [] ≡ told
-after_nothing None = refl
-after_nothing (Some held) = ap Some (append-nil held)
-
 first_part : (faults middle : ℕ) (s : Status) → s ≢ Outside Say → IsFirstPart [] faults middle s []
-first_part faults middle Ended other = refl
-first_part faults middle Usage other = refl
-first_part faults middle (Refused number fault) other = refl
-first_part faults middle (Unlinked fault) other = refl
-first_part faults middle (Stopped kind segment line) other = refl
-first_part faults middle (Unfinished steps) other = refl
-first_part faults middle (NoFile number) other = refl
-first_part faults middle (Outside Store) other = refl
-first_part faults middle (Outside Input) other = refl
-first_part faults middle (Outside ToOut) other = refl
 first_part faults middle (Outside Say) other = absurd (other refl)
-first_part faults middle NoMemory other = refl
-first_part faults middle (BadFile number fault) other = refl
 first_part faults middle (TooLong (File number)) other = refl
-first_part faults middle (TooLong long.Input) other = refl
-first_part faults middle (BadCode offset) other = refl
-first_part faults middle (Divided offset) other = refl
-first_part faults middle (TooMany count) other = refl
-first_part faults middle NoPlace other = refl
-first_part faults middle (NoItem index) other = refl
+first_part faults middle _ other = refl
 
--- `say` got the closing line alone
-pub says_last : (before after : Surroundings) (names : List (List ℕ)) (s : Status) → s ≢ Outside Say → IsClosed names s before.say after.say before.say_faults after.say_faults → SaysLast before after names [] s
-says_last before after names s other closed =
-    let P : Option (List ℕ) → Type 0 = λ told. Says told after.say before.say_faults after.say_faults (closing_line names [] s) in
+-- `say` got the line of the status
+pub record Closed (c : Call) (s : Status) : Type 0 where
+  pub says : Says c.before.say c.after.say c.before.say_faults c.after.say_faults (closing_line c.names [] s)
+  pub ended : s ≡ Ended → c.after.say_faults ≡ c.before.say_faults
+
+-- and nothing else
+pub says_last : (c : Call) (s : Status) → s ≢ Outside Say → Closed c s → SaysLast c.before c.after c.names [] s
+says_last c s other closed =
+    let P : Option (List ℕ) → Type 0 = λ told. Says told c.after.say c.before.say_faults c.after.say_faults (closing_line c.names [] s) in
     record {
       first = [];
-      middle = before.say_faults;
-      is_first = first_part before.say_faults before.say_faults s other;
+      middle = c.before.say_faults;
+      is_first = first_part c.before.say_faults c.before.say_faults s other;
       later = omega arith;
-      closing = subst P (sym (after_nothing before.say)) closed.says;
+      closing = subst P (sym (after_nothing c.before.say)) closed.says;
     }
-
-abbrev pub Closed : Call → Status → Type 0
-Closed c s = IsClosed c.names s c.before.say c.after.say c.before.say_faults c.after.say_faults
 
 pub unwritten : (c : Call) → out_at c.after.out c.after.out_faults ≡ out_at c.before.out c.before.out_faults → IsUnwritten c.before c.after
 unwritten c e = record { out = ap (λ x. x.held) e; faults = ap (λ x. x.faults) e }
@@ -90,7 +70,3 @@ module _ (c : Call) (untouched : IsUntouched c.before c.after) where
       (λ x end. inr (got, kept_then c.before.files between.told c.after.files name result stay x.0, (λ other differs. x.1 other differs ∙ stay other), subst (λ faults. Rose faults c.after.store_faults) same.0 x.2))
       (λ x end. λ other. x other ∙ stay other)
       s gives closed
-
--- of a file that is named and filled the same
-pub same_file : (name other result also : List ℕ) (files files' : Files) (s : Status) → name ≡ other → result ≡ also → GivesFile name result files files' s → GivesFile other also files files' s
-same_file name other result also files files' s e f gives = subst (λ x. GivesFile other x files files' s) f (subst (λ x. GivesFile x result files files' s) e gives)

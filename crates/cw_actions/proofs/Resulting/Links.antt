@@ -1,8 +1,7 @@
 -- Objects link, or have one first fault of linking.
-use Rattle.std.proofs.Common.{◌≡◌, ◌≢◌, ◌⊎◌, ℕ, zero, suc, ◌+◌, ◌<◌, ◌≤◌, List, [], map, length, Option, Some, None, refl, sym, ap, ap₂, ◌∙◌, inl, inr, subst, arith, slice_get}
-use Rattle.cw_unit.specs.declared.unit.Unit.{Unit as SourceUnit}
+use Rattle.std.proofs.Common.{◌≡◌, ◌≢◌, ◌⊎◌, ℕ, zero, suc, ◌+◌, ◌<◌, ◌≤◌, List, [], Option, Some, None, refl, sym, ap, ◌∙◌, inl, inr, arith, slice_get}
 use Rattle.cw_unit.specs.declared.layout.Limits.{Limits}
-use Rattle.cw_unit.specs.Allocation.{SegmentStorage, map_of}
+use Rattle.cw_unit.specs.Allocation.{SegmentStorage}
 use Rattle.cw_comm.specs.declared.face.Face.{Face}
 use Rattle.cw_comm.specs.declared.clash.Clash.{Clash}
 use Rattle.cw_comm.specs.declared.clash.Clash.TheVariants as clashes
@@ -12,12 +11,11 @@ use Rattle.cw_comm.specs.Clashes as clash
 use Rattle.cw_place.specs.declared.space.Space.{Space}
 use Rattle.cw_place.specs.declared.space.PlaceFault.{PlaceFault}
 use Rattle.cw_place.specs.declared.space.PlaceFault.TheVariants as places
-use Rattle.cw_place.specs.Fitting.{first_outside, control_words}
 use Rattle.cw_place.specs.Placement.{NoneOutside, FitsData, FitsControl, told_words, IsFirstFault}
 use Rattle.cw_link.specs.Contents.{Contents}
 use Rattle.cw_link.specs.Presets.{FilledWord, clash_at, NoPresetClash, IsPresetClash}
 use Rattle.cw_link.specs.LinkedImage.{faces_of, spaces_of, linked_presets, linked_size}
-use Rattle.cw_link.specs.LinkFaults.{HavePlace, HaveWords, IsFirstLinkFault, storages_of, of_clash, of_place_fault}
+use Rattle.cw_link.specs.LinkFaults.{HavePlace, HaveWords, storages_of, of_clash, of_place_fault}
 use Rattle.cw_link.specs.declared.fault.LinkFault.{LinkFault}
 use Rattle.cw_link.specs.declared.fault.LinkFault.TheVariants.{SegmentTwice, Differs, DefinedTwice, Undefined, AbsoluteOutside, DataTooBig, ControlTooBig, PresetClash, CodeTooBig, NoMemory}
 use Rattle.cw_build.specs.Linking.{AreLinked, IsFault}

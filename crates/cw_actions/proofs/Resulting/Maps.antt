@@ -1,80 +1,34 @@
 -- A call that tells a text of units, their storage map or another, keeps its promise.
-use Rattle.std.proofs.Common.{◌≡◌, ◌⊎◌, ℕ, suc, ◌+◌, ◌*◌, ◌<◌, ◌≤◌, List, [], ◌∷◌, map, sum, length, Option, Some, None, refl, sym, ap, ap₂, ◌∙◌, subst, inl, inr, arith}
+use Rattle.std.proofs.Common.{◌≡◌, ◌⊎◌, ℕ, List, [], map, Some, None, refl, sym, ap, ◌∙◌, subst, inl, inr}
 use Rattle.std.proofs.lemmas.List.{length-map}
-use Rattle.std.proofs.lemmas.List.Sums.{sum-map, sum_by-cons}
-use Rattle.cw_io.specs.Count.{Rose}
-use Rattle.cw_io.specs.File.{Told, AllStay}
-use Rattle.cw_lex.specs.Lexical.{Lexeme}
+use Rattle.cw_io.specs.File.{AllStay}
 use Rattle.cw_unit.specs.declared.unit.Unit.{Unit as SourceUnit}
 use Rattle.cw_unit.specs.declared.layout.Limits.{Limits}
 use Rattle.cw_compile.specs.Texts.{text_limit}
-use Rattle.cw_link.specs.LinkedImage.{linked_size}
 use Rattle.cw_link.specs.declared.fault.LinkFault.{LinkFault}
-use Rattle.cw_link.specs.declared.fault.LinkFault.TheVariants.{SegmentTwice, Differs, DefinedTwice, Undefined, AbsoluteOutside, DataTooBig, ControlTooBig, PresetClash, CodeTooBig, NoMemory as NoMemoryToLink}
 use Rattle.cw_build.specs.Compiled.{contents_of_units}
 use Rattle.cw_build.specs.Linking.{Links, IsLinkFault}
 use Rattle.cw_files.specs.Texts.{HasUnit}
 use Rattle.cw_files.specs.Reading.{HaveBytes, HaveValues, AllTaken, Stopped, StopsTexts, SameCounts}
 use Rattle.cw_correct.specs.Calls.{Call, told_files, NoFault, IsUntouched, IsUnwritten}
 use Rattle.cw_correct.specs.Files.{counts_before, counts_after, AllAccepted}
-use Rattle.cw_correct.specs.Going.{ExpandTo, HasCause}
-use Rattle.cw_correct.specs.Meaning.{TellBytes}
 use Rattle.cw_correct.specs.Results.{WritesOut, IsDone, IsWritten, MapComes, TellsOfUnits}
-use Rattle.cw_actions.specs.Resulting.Closed.{Out, out_at}
+use Rattle.cw_actions.specs.Resulting.Outside.{Out, out_at}
 use Rattle.cw_actions.specs.Resulting.Written.{GivesOut}
 use Rattle.cw_actions.specs.Resulting.Results.{TellsUnits}
 use Rattle.cw_say.specs.declared.status.Status.{Status}
-use Rattle.cw_say.specs.declared.status.Status.TheVariants.{Ended, Unlinked, Outside, NoMemory}
-use Rattle.cw_say.specs.declared.status.Which.TheVariants.{Out as ToOut}
-use Rattle.cw_actions.proofs.Resulting.Cases.{stops_texts, gives_out, tells_units, map_comes}
+use Rattle.cw_say.specs.declared.status.Status.TheVariants.{Ended, Unlinked}
+use Rattle.cw_actions.proofs.Resulting.Cases.{gives_out, tells_units, map_comes, map_stops, none_written, none_out}
 use Rattle.cw_actions.proofs.Resulting.Keeping.{Closed, says_last, unwritten, writes_out}
 use Rattle.cw_actions.proofs.Resulting.Links.{links_not_faulty, one_fault}
 use Rattle.cw_actions.proofs.Resulting.Readings.{Found, all_told, tells}
 use Rattle.cw_actions.proofs.Resulting.Texts.{OneOfText}
-use Rattle.cw_actions.proofs.Resulting.Units.{UnitRuns, all_run, all_taken, same_units, stop_runs, stop_done}
+use Rattle.cw_actions.proofs.Resulting.Outcomes.{FileRuns, all_run, all_taken, stop_runs, stop_done}
+use Rattle.cw_actions.proofs.Resulting.Fates.{Fate, stopped as stopped_fate}
+use Rattle.cw_actions.proofs.Resulting.Sizes.{HasSizes, same_length, cause}
+use Rattle.cw_actions.proofs.Resulting.Units.{units, same_units}
 
--- ---- code that is too big
-
-abbrev pub HasSizes : Type 0
-HasSizes = (texts : List (List ℕ)) (us : List SourceUnit) → HaveValues HasUnit texts us → linked_size (contents_of_units us) ≤ 32 * sum (map (λ u. u.tokens) us) + 4096
-
-same_length : (files : List Told) (texts : List (List ℕ)) (us : List SourceUnit) → HaveBytes text_limit files texts → HaveValues HasUnit texts us → length us ≡ length files → length us ≡ length texts
-same_length [] [] [] have values all = refl
-same_length (file ∷ files) [] [] have values all = refl
-same_length files [] (u ∷ us) have values all = absurd values
-same_length [] (text ∷ texts) us have values all = absurd have
-same_length (file ∷ files) (text ∷ texts) [] have values all = absurd (omega (arith, all))
-same_length (file ∷ files) (text ∷ texts) (u ∷ us) have values all = ap suc (same_length files texts us have.2 values.1 (omega (arith, all)))
-
-summed : {X : Type 0} (f : X → ℕ) (x : X) (xs : List X) → sum (map f (x ∷ xs)) ≡ f x + sum (map f xs)
-summed f x xs = sum-map f (x ∷ xs) ∙ sum_by-cons f x xs ∙ ap (λ n. f x + n) (sym (sum-map f xs))
-
-module _ (given : OneOfText) (sizes : HasSizes) (IsText : (texts : List (List ℕ)) → List SourceUnit → Limits → List ℕ → Type 0) where
-  -- the texts expand to as many items as the units have tokens
-  expands : (texts : List (List ℕ)) (us : List SourceUnit) → HaveValues HasUnit texts us → length us ≡ length texts → (expanded : List (List Lexeme)) × ExpandTo texts expanded × (sum (map length expanded) ≡ sum (map (λ u. u.tokens) us))
-  expands [] [] values all = ([], tt, refl)
-  expands [] (u ∷ us) values all = absurd values
-  expands (text ∷ texts) [] values all = absurd (omega (arith, all))
-  expands (text ∷ texts) (u ∷ us) values all =
-      let (more, x, count) = expands texts us values.1 (omega (arith, all)) in
-      let tree = values.0.is_unit.has.names.tree in
-      let here : u.tokens ≡ length tree.expanded = given.tokens text u tree.expanded values.0.is_unit tree.expands in
-      (tree.expanded ∷ more, (tree.expands, x), summed length tree.expanded more ∙ ap₂ (λ m n. m + n) (sym here) count ∙ sym (summed (λ (v : SourceUnit). v.tokens) u us))
-
-  cause : (limits : Limits) (texts : List (List ℕ)) (us : List SourceUnit) → HaveValues HasUnit texts us → length us ≡ length texts → (fault : LinkFault) → IsLinkFault us limits fault → HasCause texts fault
-  cause limits texts us values all (CodeTooBig bytes) x =
-      let (expanded, expand, count) = expands texts us values all in
-      (expanded, expand, omega (arith, sizes texts us values, x.first.1, count))
-  cause limits texts us values all (SegmentTwice name) x = tt
-  cause limits texts us values all (Differs name first second) x = tt
-  cause limits texts us values all (DefinedTwice name first second) x = tt
-  cause limits texts us values all (Undefined name) x = tt
-  cause limits texts us values all (AbsoluteOutside segment address) x = tt
-  cause limits texts us values all (DataTooBig need) x = tt
-  cause limits texts us values all (ControlTooBig need) x = tt
-  cause limits texts us values all (PresetClash address first second) x = tt
-  cause limits texts us values all NoMemoryToLink x = tt
-
+module _ (given : OneOfText) (IsText : (texts : List (List ℕ)) → List SourceUnit → Limits → List ℕ → Type 0) where
   module _ (c : Call) (untouched : IsUntouched c.before c.after) (stay : AllStay c.before.files c.after.files) (s : Status) (closed : Closed c s) where
     make : (texts : List (List ℕ)) (us : List SourceUnit) (text : List ℕ) → HaveBytes text_limit (told_files c) texts → HaveValues HasUnit texts us → MapComes c texts us s → IsWritten (IsText texts us c.limits) text s → WritesOut c text s → TellsOfUnits IsText c s
     make texts us text have values comes is writes = record {
@@ -85,7 +39,7 @@ module _ (given : OneOfText) (sizes : HasSizes) (IsText : (texts : List (List �
       have_units = values;
       comes = comes;
       is_text = is;
-      says = says_last c.before c.after c.names s (λ e. subst (λ t. MapComes c texts us t) e comes) closed;
+      says = says_last c s (λ e. subst (λ t. MapComes c texts us t) e comes) closed;
       writes = writes;
       untouched = untouched;
       stays = stay;
@@ -93,24 +47,22 @@ module _ (given : OneOfText) (sizes : HasSizes) (IsText : (texts : List (List �
           map_comes (λ t. WritesOut c text t → IsDone t) c texts us (λ x w. tt) (λ x w. absurd (quiet.out w.3))
           (λ fault x w.
           let tell_all = tell ∙ tells told in
-          let same : ws ≡ us = same_units given c (map Some told) tell_all ws us (all_taken given c (map Some told) tell_all ws taken) (all_run given c (map Some told) tell_all texts us have values x.0) in
+          let same : ws ≡ us = same_units given (map Some told) ws us (all_taken (units given) c (map Some told) tell_all ws taken) (all_run (units given) c (map Some told) tell_all texts us have values x.0) in
           absurd (links_not_faulty (contents_of_units us) c.limits fault (subst (λ vs. Links vs c.limits) same links) x.1))
-          (λ t x w. stop_done given c (map Some told) (tell ∙ tells told) texts us have values quiet ws taken t x) s comes writes;
+          (λ t x w. stop_done (units given) c (map Some told) (tell ∙ tells told) texts us have values quiet ws taken t x) s comes writes;
     }
 
     pub stopped : IsUnwritten c.before c.after → Stopped text_limit HasUnit (λ texts taken. StopsTexts (told_files c) texts taken (counts_before c) (counts_after c) s) (told_files c) → TellsOfUnits IsText c s
     stopped none x =
         make x.texts x.values [] x.have_bytes x.have_values
-        (stops_texts (λ t. MapComes c x.texts x.values t) (told_files c) x.texts (length x.values) (counts_before c) (counts_after c) (λ number fault y. y) (λ number y. y) (λ y. y) (λ number y. y) tt s x.stops)
-        (stops_texts (λ t. IsWritten (IsText x.texts x.values c.limits) [] t) (told_files c) x.texts (length x.values) (counts_before c) (counts_after c) (λ number fault y. tt) (λ number y. tt) (λ y. tt) (λ number y. tt) tt s x.stops)
-        (stops_texts (λ t. WritesOut c [] t) (told_files c) x.texts (length x.values) (counts_before c) (counts_after c) (λ number fault y. none) (λ number y. none) (λ y. none) (λ number y. none) none s x.stops)
+        (map_stops c x.texts x.values s x.stops) (none_written c x.texts x.values (IsText x.texts x.values c.limits) s x.stops) (none_out c x.texts x.values none s x.stops)
 
-    pub written : (us : List SourceUnit) → (taken : AllTaken text_limit HasUnit (told_files c) us) → SameCounts (counts_before c) (counts_after c)
+    pub written : HasSizes → (us : List SourceUnit) → (taken : AllTaken text_limit HasUnit (told_files c) us) → SameCounts (counts_before c) (counts_after c)
         → TellsUnits (IsText taken.texts) us c.limits (out_at c.before.out c.before.out_faults) (out_at c.after.out c.after.out_faults) s → TellsOfUnits IsText c s
-    written us x same told =
+    written sizes us x same told =
         tells_units (λ t. t ≡ s → TellsOfUnits IsText c s) (IsText x.texts) us c.limits old new
         (λ fault y e. make x.texts us [] x.have_bytes x.have_values
-        (subst (λ u. MapComes c x.texts us u) e (all, y.0, cause c.limits x.texts us x.have_values (same_length (told_files c) x.texts us x.have_bytes x.have_values x.all) fault y.0))
+        (subst (λ u. MapComes c x.texts us u) e (all, y.0, cause given sizes c.limits x.texts us x.have_values (same_length (told_files c) x.texts us x.have_bytes x.have_values x.all) fault y.0))
         (subst (λ u. IsWritten (IsText x.texts us c.limits) [] u) e tt) (subst (λ u. WritesOut c [] u) e (unwritten c y.1)))
         (λ y e. make x.texts us [] x.have_bytes x.have_values (subst (λ u. MapComes c x.texts us u) e tt) (subst (λ u. IsWritten (IsText x.texts us c.limits) [] u) e tt) (subst (λ u. WritesOut c [] u) e (unwritten c y)))
         (λ t text links is gives e. make x.texts us text x.have_bytes x.have_values
@@ -140,19 +92,14 @@ module _ (given : OneOfText) (IsText : (texts : List (List ℕ)) → List Source
   one_after us vs s t same (inr (g, x, e)) (inl (f, links)) = absurd (links_not_faulty (contents_of_units vs) c.limits g links (subst (λ ws. IsLinkFault ws c.limits g) same x))
   one_after us vs s t same (inr (g, x, e)) (inr (h, y, f)) = e ∙ ap Unlinked (one_fault (contents_of_units vs) c.limits g h (subst (λ ws. IsLinkFault ws c.limits g) same x) y) ∙ sym f
 
-  pub fate : (s : Status) → TellsOfUnits IsText c s → (found : List Found) → told_files c ≡ all_told found → NoFault c.before c.after
-      → (s ≡ NoMemory) ⊎ ((us : List SourceUnit) × UnitRuns found us (Some s)) ⊎ ((us : List SourceUnit) × UnitRuns found us None × After us s)
+  pub fate : (s : Status) → TellsOfUnits IsText c s → (found : List Found) → told_files c ≡ all_told found → NoFault c.before c.after → Fate (units given) After found s
   fate s x found told quiet =
-      map_comes (λ t. WritesOut c x.text t → (t ≡ NoMemory) ⊎ ((us : List SourceUnit) × UnitRuns found us (Some t)) ⊎ ((us : List SourceUnit) × UnitRuns found us None × After us t)) c x.texts x.units
+      map_comes (λ t. WritesOut c x.text t → Fate (units given) After found t) c x.texts x.units
       (λ y w. inr (inr (x.units, run y.0, inl (refl, y.1))))
       (λ y w. absurd (quiet.out w.3))
       (λ fault y w. inr (inr (x.units, run y.0, inr (fault, y.1, refl))))
-      (λ t stops w. more t (stop_runs given c found told x.texts x.units x.have_texts x.have_units quiet t stops))
+      (λ t stops w. stopped_fate (units given) After found x.units t (stop_runs (units given) c found told x.texts x.units x.have_texts x.have_units quiet t stops))
       s x.comes x.writes
     where
-      run : AllAccepted c x.units → UnitRuns found x.units None
-      run all = all_run given c found told x.texts x.units x.have_texts x.have_units all
-
-      more : (t : Status) → (t ≡ NoMemory) ⊎ UnitRuns found x.units (Some t) → (t ≡ NoMemory) ⊎ ((us : List SourceUnit) × UnitRuns found us (Some t)) ⊎ ((us : List SourceUnit) × UnitRuns found us None × After us t)
-      more t (inl e) = inl e
-      more t (inr run) = inr (inl (x.units, run))
+      run : AllAccepted c x.units → FileRuns (units given) found x.units None
+      run all = all_run (units given) c found told x.texts x.units x.have_texts x.have_units all

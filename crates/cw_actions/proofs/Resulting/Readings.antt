@@ -1,7 +1,8 @@
 -- What comes of files that are taken in order, where the store tells each: they have one fate.
-use Rattle.std.proofs.Common.{◌≡◌, ℕ, zero, suc, ◌+◌, ◌<◌, ◌≤◌, List, [], ◌∷◌, length, map, Option, Some, None, refl, sym, ap, ap₂, ◌∙◌, subst, ◌⊎◌, inl, inr, arith, slice_get}
-use Rattle.cw_io.specs.File.{Told, as_file, Is, IsLonger}
-use Rattle.cw_files.specs.Reading.{HaveBytes, HaveValues, AllTaken, IsLongerAt}
+use Rattle.std.proofs.Common.{◌≡◌, ℕ, suc, ◌+◌, ◌<◌, ◌≤◌, List, [], ◌∷◌, length, map, Option, Some, None, refl, sym, ap, ap₂, ◌∙◌, subst, ◌⊎◌, inl, inr, arith, slice_get}
+use Rattle.cw_io.specs.File.{Told, Is}
+use Rattle.cw_files.specs.Reading.{HaveBytes, HaveValues, AllTaken, IsLongerAt, IsBadAt}
+use Rattle.cw_say.specs.declared.status.Bad.{Bad}
 use Rattle.cw_say.specs.declared.status.Status.{Status}
 use Rattle.cw_say.specs.declared.status.Status.TheVariants.{TooLong}
 use Rattle.cw_say.specs.declared.status.Long.TheVariants.{File}
@@ -25,6 +26,11 @@ bytes_are bytes text is = cc
 abbrev pub RefusesAt : {W : Type 0} → (Refuses : List ℕ → W → Type 0) → Option (List ℕ) → W → Type 0
 RefusesAt Refuses None w = ⊥
 RefusesAt Refuses (Some text) w = Refuses text w
+
+-- bytes that are bad as one of a kind are refused for it
+pub bad_at : {W : Type 0} (Refuses : List ℕ → Bad → Type 0) (of : W → Bad) (o : Option (List ℕ)) (w : W) → IsBadAt Refuses o (of w) → RefusesAt (λ bytes v. Refuses bytes (of v)) o w
+bad_at Refuses of None w x = x
+bad_at Refuses of (Some bytes) w x = x
 
 -- all bytes fit
 abbrev pub AllFit : (Fits : List ℕ → Type 0) → List Found → Type 0
@@ -144,10 +150,13 @@ module _ {X W : Type 0} (limit : ℕ) (Accepts : List ℕ → X → Type 0) (Ref
     same_values n (Some bytes ∷ found) xs ys (inr (inr (a, (x, zs, r, e, rest)))) (inr (inr (b, (y, ws, q, g, more)))) =
         e ∙ ap₂ (λ z zz. z ∷ zz) (one_value bytes x y r q) (same_values (suc n) found zs ws rest more) ∙ sym g
 
+pub map_twice : {A B C : Type 0} (g : B → C) (f : A → B) (xs : List A) → map (λ x. g (f x)) xs ≡ map g (map f xs)
+map_twice g f [] = refl
+map_twice g f (x ∷ xs) = ap (λ ys. g (f x) ∷ ys) (map_twice g f xs)
+
 -- what is told of files that are there
 pub tells : (texts : List (List ℕ)) → map (λ text. Some (Some text)) texts ≡ all_told (map Some texts)
-tells [] = refl
-tells (text ∷ texts) = ap (λ more. Some (Some text) ∷ more) (tells texts)
+tells texts = map_twice Some Some texts
 
 -- from number 0 on
 pub from_zero : (k : ℕ) → k ≡ 0 + k

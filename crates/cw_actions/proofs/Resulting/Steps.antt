@@ -6,19 +6,19 @@ use Rattle.cw_unit.specs.declared.unit.Unit.{Unit as SourceUnit}
 use Rattle.cw_unit.specs.declared.layout.Limits.{Limits}
 use Rattle.cw_unit.specs.declared.layout.Map.{Map}
 use Rattle.cw_unit.specs.Allocation.{storage_map}
-use Rattle.cw_unit.specs.Program.{program_at, program_of}
+use Rattle.cw_unit.specs.Program.{program_at}
 use Rattle.cw_list.specs.Rows.{program_listing}
 use Rattle.cw_compile.specs.declared.fault.UnitFault.{UnitFault}
 use Rattle.cw_compile.specs.declared.fault.UnitFault.TheVariants as units
 use Rattle.cw_compile.specs.Texts.{text_limit, IsCanonicalOf, IsFaultOf}
 use Rattle.cw_link.specs.declared.fault.LinkFault.{LinkFault}
-use Rattle.cw_link.specs.declared.fault.LinkFault.TheVariants.{SegmentTwice, Differs, DefinedTwice, Undefined, AbsoluteOutside, DataTooBig, ControlTooBig, PresetClash, CodeTooBig, NoMemory as NoMemoryToLink}
+use Rattle.cw_link.specs.declared.fault.LinkFault.TheVariants.{NoMemory as NoMemoryToLink}
 use Rattle.cw_obj.specs.Migration.{IsMigrated}
 use Rattle.cw_build.specs.Linking.{Links, map_text}
 use Rattle.cw_build.specs.Building.{FailsToLink}
 use Rattle.cw_files.specs.Reading.{Counts, HaveBytes, IsUnread}
 use Rattle.cw_correct.specs.Results.{IsMap}
-use Rattle.cw_actions.specs.Resulting.Closed.{Files, Out}
+use Rattle.cw_actions.specs.Resulting.Outside.{Files, Out}
 use Rattle.cw_actions.specs.Resulting.Written.{GivesOut, GivesFile}
 use Rattle.cw_actions.specs.Resulting.Results.{unlinked_status, faulty_status, TellsUnits, MapsUnits, ShowsText, MigratesObject}
 use Rattle.cw_say.specs.declared.status.Status.{Status}
@@ -30,15 +30,7 @@ use Rattle.cw_actions.proofs.Resulting.Told.{told_one}
 
 pub unlinked_is : (fault : LinkFault) → fault ≢ NoMemoryToLink → Unlinked fault ≡ unlinked_status fault
 unlinked_is NoMemoryToLink other = absurd (other refl)
-unlinked_is (SegmentTwice name) other = refl
-unlinked_is (Differs name first second) other = refl
-unlinked_is (DefinedTwice name first second) other = refl
-unlinked_is (Undefined name) other = refl
-unlinked_is (AbsoluteOutside segment address) other = refl
-unlinked_is (DataTooBig need) other = refl
-unlinked_is (ControlTooBig need) other = refl
-unlinked_is (PresetClash address first second) other = refl
-unlinked_is (CodeTooBig bytes) other = refl
+unlinked_is _ other = refl
 
 pub map_is : (us : List SourceUnit) (m : Map) (limits : Limits) (text : List ℕ) → m ≡ storage_map us → text ≡ program_listing (program_at us m limits) → text ≡ map_text us limits
 unfolding map_text
@@ -54,15 +46,7 @@ module _ (IsText : List SourceUnit → Limits → List ℕ → Type 0) (us : Lis
 
   unlinked_tells_as : (out : Out) (fault : LinkFault) → FailsToLink us limits fault → TellsUnits IsText us limits out out (unlinked_status fault)
   unlinked_tells_as out NoMemoryToLink x = refl
-  unlinked_tells_as out (SegmentTwice name) x = (x, refl)
-  unlinked_tells_as out (Differs name first second) x = (x, refl)
-  unlinked_tells_as out (DefinedTwice name first second) x = (x, refl)
-  unlinked_tells_as out (Undefined name) x = (x, refl)
-  unlinked_tells_as out (AbsoluteOutside segment address) x = (x, refl)
-  unlinked_tells_as out (DataTooBig need) x = (x, refl)
-  unlinked_tells_as out (ControlTooBig need) x = (x, refl)
-  unlinked_tells_as out (PresetClash address first second) x = (x, refl)
-  unlinked_tells_as out (CodeTooBig bytes) x = (x, refl)
+  unlinked_tells_as out _ x = (x, refl)
 
   pub unlinked_tells : (out : Out) (fault : LinkFault) (s : Status) → s ≡ unlinked_status fault → FailsToLink us limits fault → TellsUnits IsText us limits out out s
   unlinked_tells out fault s e x = subst (λ t. TellsUnits IsText us limits out out t) (sym e) (unlinked_tells_as out fault x)
@@ -100,6 +84,3 @@ module _ (file : List ℕ → Told) (names : List (List ℕ)) (few : length name
 pub migrates_of : (name object result : List ℕ) (files files' : Files) (s : Status) → IsMigrated object result → GivesFile (name ++ codes ".SG2") result files files' s → MigratesObject name object files files' s
 migrates_of name object result files files' s is gives =
     gives_file (λ t. MigratesObject name object files files' t) (name ++ codes ".SG2") result files files' (λ x. (result, is, x)) (λ x. (result, is, x)) (λ x. x) s gives
-
-pub same_migration : (name other object also : List ℕ) (files files' : Files) (s : Status) → name ≡ other → object ≡ also → MigratesObject name object files files' s → MigratesObject other also files files' s
-same_migration name other object also files files' s e f x = subst (λ o. MigratesObject other o files files' s) f (subst (λ n. MigratesObject n object files files' s) e x)

@@ -1,5 +1,5 @@
 -- What is told of the files of a call, by their names.
-use Rattle.std.proofs.Common.{◌≡◌, ℕ, ◌≤◌, List, [], ◌∷◌, map, length, refl, ap, subst, arith}
+use Rattle.std.proofs.Common.{◌≡◌, ℕ, ◌≤◌, List, [], ◌∷◌, map, length, refl, subst, arith}
 use Rattle.std.specs.Prelude.{slice_index_or}
 use Rattle.std.specs.Borrow.{Bor}
 use Rattle.cw_io.specs.File.{Told}
@@ -8,11 +8,11 @@ use Rattle.cw_compile.specs.Texts.{text_limit}
 use Rattle.cw_say.specs.declared.status.Status.{Status}
 use Rattle.cw_files.specs.Texts.{HasUnit, HasObject, object_limit}
 use Rattle.cw_files.specs.Reading.{Counts, AllTaken, Stopped, StopsTexts, StopsObjects}
+use Rattle.cw_actions.proofs.Resulting.Readings.{map_twice}
 
 module _ (file : List ℕ → Told) where
   pub same_told : (names : List (Bor (List ℕ))) → map (λ name. file name.now) names ≡ map file (map (λ name. name.now) names)
-  same_told [] = refl
-  same_told (name ∷ names) = ap (λ more. file name.now ∷ more) (same_told names)
+  same_told names = map_twice file (λ (name : Bor (List ℕ)). name.now) names
 
   module _ (names : List (Bor (List ℕ))) where
     pub units_taken : (us : List SourceUnit) → AllTaken text_limit HasUnit (map (λ name. file name.now) names) us → AllTaken text_limit HasUnit (map file (map (λ name. name.now) names)) us

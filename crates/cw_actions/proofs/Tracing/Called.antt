@@ -16,19 +16,19 @@ use Rattle.cw_stop.specs.declared.stopping.Stop.{Stop}
 use Rattle.cw_trace.specs.declared.watch.Watch.{Watch}
 use Rattle.cw_watch.specs.Watching.{AnswersWatch}
 use Rattle.cw_watch.specs.declared.fault.WatchFault.{WatchFault}
-use Rattle.cw_watch.specs.declared.fault.WatchFault.TheVariants as faults
+use Rattle.cw_watch.specs.declared.fault.WatchFault.TheVariants as watch_faults
 use Rattle.cw_traced.specs.Places.Reported.{MeansInUnits}
 use Rattle.cw_write.specs.Said.{Says}
 use Rattle.cw_say.specs.Closing.{closing_line}
 use Rattle.cw_say.specs.declared.status.Status.{Status}
 use Rattle.cw_say.specs.declared.status.Status.TheVariants.{Ended, NoItem}
 use Rattle.cw_words.specs.declared.action.Action.TheVariants.{Trace}
-use Rattle.cw_correct.specs.Calls.{Surroundings, call_as}
+use Rattle.cw_correct.specs.Calls.{Surroundings, Call, call_as}
 use Rattle.cw_correct.specs.Going.{names_of}
 use Rattle.cw_correct.specs.Tracing.{named_by}
 use Rattle.cw_actions.specs.Going.Runs.{Streams}
 use Rattle.cw_actions.specs.Going.Goes.{streams_of, StopsReading, StopsLinking, Takes}
-use Rattle.cw_actions.proofs.Going.Called.{after_line, named, closes_by}
+use Rattle.cw_actions.proofs.Going.Called.{before_line, named, closes_by}
 use Rattle.cw_actions.specs.Tracing.Tracing.{fault_status, WatchesRun}
 use Rattle.cw_actions.specs.Tracing.Laws.{IsTraced, KeepsStopped, KeepsFault, KeepsRun}
 
@@ -53,7 +53,17 @@ means_fault us limits stop objects m answer fault same is e answers = subst (λ 
 
 -- ---- the call, once it is closed
 
-module _ (stop : Stop) (limits : Limits) (steps : ℕ) (names : List (Bor (List ℕ))) (before between : Surroundings) (say : Option (List ℕ)) (say_faults : ℕ) (within : IsLimits limits) (some : 1 ≤ length names) (few : length names ≤ 200) (stays : AllStay before.files between.files) where
+module _ (stop : Stop) (limits : Limits) (steps : ℕ) (names : List (Bor (List ℕ))) (before after : Surroundings) (said : Option (List ℕ)) (faults : ℕ) (within : IsLimits limits) (some : 1 ≤ length names) (few : length names ≤ 200) (stays : AllStay before.files after.files) where
+  abbrev between : Surroundings
+  between = before_line after said faults
+
+  -- up to the closing line
+  abbrev call : Call
+  call = call_as Trace limits steps (named names) before between
+
+  abbrev IsTracedSo : Status → Type 0
+  IsTracedSo status = IsTraced stop (call_as Trace limits steps (named names) before after) status
+
   some_names : 1 ≤ length (named names)
   some_names = omega (arith, length-map names (λ (name : Bor (List ℕ)). name.now), some)
 
@@ -61,32 +71,32 @@ module _ (stop : Stop) (limits : Limits) (steps : ℕ) (names : List (Bor (List 
   few_names = omega (arith, length-map names (λ (name : Bor (List ℕ)). name.now), few)
 
   pub closed_stopped : KeepsStopped → (status result : Status) → result ≡ status
-      → StopsReading (call_as Trace limits steps (named names) before between) status ⊎ ((us : List SourceUnit) × Takes (call_as Trace limits steps (named names) before between) us × StopsLinking (call_as Trace limits steps (named names) before between) us status)
-      → Says between.say say between.say_faults say_faults (closing_line (named names) [] status) → (status ≡ Ended → say_faults ≡ between.say_faults) → IsTraced stop (call_as Trace limits steps (named names) before (after_line between say say_faults)) result
-  closed_stopped keeps status result same stops says ended =
-      subst (IsTraced stop (call_as Trace limits steps (named names) before (after_line between say say_faults))) (sym same)
-      (keeps stop Trace limits steps (named names) before between (after_line between say say_faults) status within some_names few_names stays stops (closes_by between say say_faults (named names) [] status says ended))
+      → Says said after.say faults after.say_faults (closing_line (named names) [] status) → (status ≡ Ended → after.say_faults ≡ faults)
+      → StopsReading call status ⊎ ((us : List SourceUnit) × Takes call us × StopsLinking call us status) → IsTracedSo result
+  closed_stopped keeps status result same says ended stops =
+      subst IsTracedSo (sym same)
+      (keeps stop Trace limits steps (named names) before between after status within some_names few_names stays stops (closes_by between after.say after.say_faults (named names) [] status says ended))
 
-  pub closed_fault : KeepsFault → (us : List SourceUnit) (fault : WatchFault) (result : Status) → result ≡ fault_status fault → Takes (call_as Trace limits steps (named names) before between) us → Links us limits → MeansInUnits us limits stop (Err fault)
-      → streams_of between ≡ streams_of before → Says between.say say between.say_faults say_faults (closing_line (named_by stop (named names) (fault_status fault)) [] (fault_status fault)) → (fault_status fault ≡ Ended → say_faults ≡ between.say_faults)
-      → IsTraced stop (call_as Trace limits steps (named names) before (after_line between say say_faults)) result
+  pub closed_fault : KeepsFault → (us : List SourceUnit) (fault : WatchFault) (result : Status) → result ≡ fault_status fault → Takes call us → Links us limits → MeansInUnits us limits stop (Err fault)
+      → streams_of between ≡ streams_of before → Says said after.say faults after.say_faults (closing_line (named_by stop (named names) (fault_status fault)) [] (fault_status fault)) → (fault_status fault ≡ Ended → after.say_faults ≡ faults)
+      → IsTracedSo result
   closed_fault keeps us fault result same takes links means untouched says ended =
-      subst (IsTraced stop (call_as Trace limits steps (named names) before (after_line between say say_faults))) (sym same)
-      (keeps stop Trace limits steps (named names) before between (after_line between say say_faults) us fault within some_names few_names stays takes links means untouched
-      (closes_by between say say_faults (named_by stop (named names) (fault_status fault)) [] (fault_status fault) says ended))
+      subst IsTracedSo (sym same)
+      (keeps stop Trace limits steps (named names) before between after us fault within some_names few_names stays takes links means untouched
+      (closes_by between after.say after.say_faults (named_by stop (named names) (fault_status fault)) [] (fault_status fault) says ended))
 
-  pub closed_item : KeepsFault → (us : List SourceUnit) (index number : ℕ) (result : Status) → index ≡ number → result ≡ NoItem number → Takes (call_as Trace limits steps (named names) before between) us → Links us limits
-      → MeansInUnits us limits stop (Err (faults.NoItem index)) → streams_of between ≡ streams_of before → Says between.say say between.say_faults say_faults (closing_line (named_by stop (named names) (NoItem number)) [] (NoItem number))
-      → IsTraced stop (call_as Trace limits steps (named names) before (after_line between say say_faults)) result
+  pub closed_item : KeepsFault → (us : List SourceUnit) (index number : ℕ) (result : Status) → index ≡ number → result ≡ NoItem number → Takes call us → Links us limits
+      → MeansInUnits us limits stop (Err (watch_faults.NoItem index)) → streams_of between ≡ streams_of before → Says said after.say faults after.say_faults (closing_line (named_by stop (named names) (NoItem number)) [] (NoItem number))
+      → IsTracedSo result
   closed_item keeps us index number result is same takes links means untouched says =
-      closed_fault keeps us (faults.NoItem number) result same takes links (subst (λ n. MeansInUnits us limits stop (Err (faults.NoItem n))) is means) untouched says (λ e. absurd (cc))
+      closed_fault keeps us (watch_faults.NoItem number) result same takes links (subst (λ n. MeansInUnits us limits stop (Err (watch_faults.NoItem n))) is means) untouched says (λ e. absurd (cc))
 
-  pub closed_run : KeepsRun → (us : List SourceUnit) (watch : Watch) (segments : List (List ℕ)) (status result : Status) → result ≡ status → segments ≡ names_of us → Takes (call_as Trace limits steps (named names) before between) us → Links us limits
+  pub closed_run : KeepsRun → (us : List SourceUnit) (watch : Watch) (segments : List (List ℕ)) (status result : Status) → result ≡ status → segments ≡ names_of us → Takes call us → Links us limits
       → MeansInUnits us limits stop (Ok watch) → IsDistinct nat_eq watch.places → All (λ word. word.address < limits.area) watch.words → WatchesRun (map_text us limits) (image_of us limits) watch steps (streams_of before) (streams_of between) status
-      → Says between.say say between.say_faults say_faults (closing_line (named names) segments status) → (status ≡ Ended → say_faults ≡ between.say_faults)
-      → IsTraced stop (call_as Trace limits steps (named names) before (after_line between say say_faults)) result
+      → Says said after.say faults after.say_faults (closing_line (named names) segments status) → (status ≡ Ended → after.say_faults ≡ faults)
+      → IsTracedSo result
   closed_run keeps us watch segments status result same are takes links means once inside runs says ended =
-      let P : List (List ℕ) → Type 0 = λ all. Says between.say say between.say_faults say_faults (closing_line (named names) all status) in
-      subst (IsTraced stop (call_as Trace limits steps (named names) before (after_line between say say_faults))) (sym same)
-      (keeps stop watch Trace limits steps (named names) before between (after_line between say say_faults) us status within some_names few_names stays takes links means once inside runs
-      (closes_by between say say_faults (named names) (names_of us) status (subst P are says) ended))
+      let P : List (List ℕ) → Type 0 = λ all. Says said after.say faults after.say_faults (closing_line (named names) all status) in
+      subst IsTracedSo (sym same)
+      (keeps stop watch Trace limits steps (named names) before between after us status within some_names few_names stays takes links means once inside runs
+      (closes_by between after.say after.say_faults (named names) (names_of us) status (subst P are says) ended))

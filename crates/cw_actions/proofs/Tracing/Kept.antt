@@ -10,7 +10,6 @@ use Rattle.cw_io.specs.File.{Told, AllStay}
 use Rattle.cw_i86.specs.State.{State}
 use Rattle.cw_i86.specs.MachineRun.{Event, Observed, IsStart, FitsInput, Shows}
 use Rattle.cw_ports.specs.Running as ports
-use Rattle.cw_ports.specs.Running.{IsInput, Outside, RunShows}
 use Rattle.cw_ports.specs.declared.running.ImageEnd.{ImageEnd}
 use Rattle.cw_ports.specs.declared.running.ImageEnd.TheVariants as ends
 use Rattle.cw_unit.specs.declared.unit.Unit.{Unit as SourceUnit}
@@ -38,21 +37,22 @@ use Rattle.cw_write.specs.Said.{Says}
 use Rattle.cw_write.proofs.Said.{after_told-append}
 use Rattle.cw_say.specs.Closing.{closing_line}
 use Rattle.cw_say.specs.declared.status.Status.{Status}
-use Rattle.cw_say.specs.declared.status.Status.TheVariants.{Ended, Usage, Refused, Unlinked, Stopped, Unfinished, NoFile, NoMemory, BadFile, TooLong, BadCode, Divided, TooMany, NoPlace, NoItem}
+use Rattle.cw_say.specs.declared.status.Status.TheVariants.{Refused, Unlinked, NoFile, NoMemory, TooLong, NoPlace, NoItem}
 use Rattle.cw_say.specs.declared.status.Status.TheVariants as statuses
 use Rattle.cw_say.specs.declared.status.Which.TheVariants.{Store, Input, Out, Say}
 use Rattle.cw_say.specs.declared.status.Long.TheVariants.{File}
 use Rattle.cw_say.specs.declared.status.Long.TheVariants as long
 use Rattle.cw_words.specs.declared.action.Action.{Action}
-use Rattle.cw_correct.specs.Calls.{Surroundings, Call, call_as, told_files, IsUntouched, IsUnwritten}
+use Rattle.cw_correct.specs.Calls.{Surroundings, Call, call_as, told_files}
 use Rattle.cw_correct.specs.Closing.{Closes}
+use Rattle.cw_correct.specs.Saying.{IsFirstPart}
 use Rattle.cw_correct.specs.Going.{Telling, names_of, RunsTexts}
 use Rattle.cw_correct.specs.Tracing.{named_by, FindsNone, Watches, ReportsAt, ReportsNext, ReportsRun, FailsToReport, TracesRight}
 use Rattle.cw_actions.specs.Going.Runs.{Streams, status_of, Lists, ListsPart}
 use Rattle.cw_actions.specs.Going.Goes.{streams_of, IsUnlinked, StopsReading, StopsLinking, Takes}
 use Rattle.cw_actions.specs.Going.Laws as going
 use Rattle.cw_actions.specs.Going.Laws.{IsRight, RunsAs}
-use Rattle.cw_actions.proofs.Going.Promised.{after_nothing, some_input}
+use Rattle.cw_actions.proofs.Executing.Running.{after_nothing, some_input}
 use Rattle.cw_actions.specs.Tracing.Tracing.{watched_status, fault_status, WatchesRun}
 use Rattle.cw_actions.specs.Tracing.Laws.{IsTraced}
 
@@ -91,39 +91,12 @@ early_read files texts taken before after (NoFile number) x = tt
 early_read files texts taken before after (statuses.Outside Store) x = tt
 early_read files texts taken before after (TooLong (File number)) x = tt
 early_read files texts taken before after NoMemory x = tt
-early_read files texts taken before after Ended x = absurd x
-early_read files texts taken before after Usage x = absurd x
-early_read files texts taken before after (Unlinked fault) x = absurd x
-early_read files texts taken before after (Stopped kind segment line) x = absurd x
-early_read files texts taken before after (Unfinished steps) x = absurd x
-early_read files texts taken before after (statuses.Outside Input) x = absurd x
-early_read files texts taken before after (statuses.Outside Out) x = absurd x
-early_read files texts taken before after (statuses.Outside Say) x = absurd x
-early_read files texts taken before after (BadFile number fault) x = absurd x
-early_read files texts taken before after (TooLong long.Input) x = absurd x
-early_read files texts taken before after (BadCode offset) x = absurd x
-early_read files texts taken before after (Divided offset) x = absurd x
-early_read files texts taken before after (TooMany count) x = absurd x
-early_read files texts taken before after NoPlace x = absurd x
-early_read files texts taken before after (NoItem index) x = absurd x
+early_read files texts taken before after _ x = absurd x
 
 early_linked : (us : List SourceUnit) (limits : Limits) (status : Status) → IsUnlinked us limits status → IsEarly status
 early_linked us limits NoMemory x = tt
 early_linked us limits (Unlinked fault) x = tt
-early_linked us limits Ended x = absurd x
-early_linked us limits Usage x = absurd x
-early_linked us limits (Refused number fault) x = absurd x
-early_linked us limits (Stopped kind segment line) x = absurd x
-early_linked us limits (Unfinished steps) x = absurd x
-early_linked us limits (NoFile number) x = absurd x
-early_linked us limits (statuses.Outside which) x = absurd x
-early_linked us limits (BadFile number fault) x = absurd x
-early_linked us limits (TooLong kind) x = absurd x
-early_linked us limits (BadCode offset) x = absurd x
-early_linked us limits (Divided offset) x = absurd x
-early_linked us limits (TooMany count) x = absurd x
-early_linked us limits NoPlace x = absurd x
-early_linked us limits (NoItem index) x = absurd x
+early_linked us limits _ x = absurd x
 
 -- ---- a call that is closed
 
@@ -151,20 +124,7 @@ module _ (given : Given) (stop : Stop) (action : Action) (limits : Limits) (step
   early input (statuses.Outside Store) x runs = record { reports = []; runs = runs; right = refl }
   early input (TooLong (File number)) x runs = record { reports = []; runs = runs; right = refl }
   early input NoMemory x runs = record { reports = []; runs = runs; right = refl }
-  early input Ended x runs = absurd x
-  early input Usage x runs = absurd x
-  early input (Stopped kind segment line) x runs = absurd x
-  early input (Unfinished count) x runs = absurd x
-  early input (statuses.Outside Input) x runs = absurd x
-  early input (statuses.Outside Out) x runs = absurd x
-  early input (statuses.Outside Say) x runs = absurd x
-  early input (BadFile number fault) x runs = absurd x
-  early input (TooLong long.Input) x runs = absurd x
-  early input (BadCode offset) x runs = absurd x
-  early input (Divided offset) x runs = absurd x
-  early input (TooMany count) x runs = absurd x
-  early input NoPlace x runs = absurd x
-  early input (NoItem index) x runs = absurd x
+  early input _ x runs = absurd x
 
   traced : (status : Status) → IsEarly status → IsRight bare c status → IsTraced stop c status
   traced status x (input, is_input, runs) = (input, is_input, early input status x runs)
@@ -212,14 +172,9 @@ module _ (given : Given) (stop : Stop) (action : Action) (limits : Limits) (step
           let held : between.say ≡ before.say = ap (λ x. x.say) same in
           subst P (held ∙ sym (after_nothing before.say)) says
 
-      untouched : (all : List (List ℕ)) (status : Status) → b ≡ a → Closes between after all [] status → IsUntouched before after
-      untouched all status same closes = record { input = closes.left ∙ ap (λ x. x.outside.left) same; faults = closes.input_faults ∙ ap (λ x. x.outside.input_faults) same }
-
-      unwritten : (all : List (List ℕ)) (status : Status) → b ≡ a → Closes between after all [] status → IsUnwritten before after
-      unwritten all status same closes = record { out = closes.out ∙ ap (λ x. x.outside.held) same; faults = closes.out_faults ∙ ap (λ x. x.outside.out_faults) same }
-
-      no_place : MeansInUnits us limits stop (Err faults.NoPlace) → b ≡ a → Closes between after (named_by stop names NoPlace) [] NoPlace → FindsNone faults.NoPlace stop c NoPlace
-      no_place means same closes = record {
+      finds_none : (fault : WatchFault) (status : Status) → IsFirstPart [] before.say_faults between.say_faults status [] → MeansInUnits us limits stop (Err fault) → b ≡ a → Closes between after (named_by stop names status) [] status
+          → FindsNone fault stop c status
+      finds_none fault status is_first means same closes = record {
         texts = takes.all.texts;
         units = us;
         have_texts = takes.all.have_bytes;
@@ -230,43 +185,22 @@ module _ (given : Given) (stop : Stop) (action : Action) (limits : Limits) (step
         says = record {
           first = [];
           middle = between.say_faults;
-          is_first = refl;
+          is_first = is_first;
           later = omega (arith, ap (λ x. x.say_faults) same);
-          closing = says_last (named_by stop names NoPlace) NoPlace same closes.says;
+          closing = says_last (named_by stop names status) status same closes.says;
         };
-        untouched = untouched (named_by stop names NoPlace) NoPlace same closes;
-        unwritten = unwritten (named_by stop names NoPlace) NoPlace same closes;
-        stays = λ name. ap (λ f. f name) closes.files ∙ stays name;
-      }
-
-      no_item : (index : ℕ) → MeansInUnits us limits stop (Err (faults.NoItem index)) → b ≡ a → Closes between after (named_by stop names (NoItem index)) [] (NoItem index) → FindsNone (faults.NoItem index) stop c (NoItem index)
-      no_item index means same closes = record {
-        texts = takes.all.texts;
-        units = us;
-        have_texts = takes.all.have_bytes;
-        have_units = takes.all.have_values;
-        all = all_of;
-        links = links;
-        means = means;
-        says = record {
-          first = [];
-          middle = between.say_faults;
-          is_first = refl;
-          later = omega (arith, ap (λ x. x.say_faults) same);
-          closing = says_last (named_by stop names (NoItem index)) (NoItem index) same closes.says;
-        };
-        untouched = untouched (named_by stop names (NoItem index)) (NoItem index) same closes;
-        unwritten = unwritten (named_by stop names (NoItem index)) (NoItem index) same closes;
+        untouched = record { input = closes.left ∙ ap (λ x. x.outside.left) same; faults = closes.input_faults ∙ ap (λ x. x.outside.input_faults) same };
+        unwritten = record { out = closes.out ∙ ap (λ x. x.outside.held) same; faults = closes.out_faults ∙ ap (λ x. x.outside.out_faults) same };
         stays = λ name. ap (λ f. f name) closes.files ∙ stays name;
       }
 
       pub means_nothing : (fault : WatchFault) → MeansInUnits us limits stop (Err fault) → b ≡ a → Closes between after (named_by stop names (fault_status fault)) [] (fault_status fault) → IsTraced stop c (fault_status fault)
       means_nothing faults.NoPlace means same closes =
           let (input, is_input) = some_input before.left in
-          (input, is_input, no_place means same closes)
+          (input, is_input, finds_none faults.NoPlace NoPlace refl means same closes)
       means_nothing (faults.NoItem index) means same closes =
           let (input, is_input) = some_input before.left in
-          (input, is_input, no_item index means same closes)
+          (input, is_input, finds_none (faults.NoItem index) (NoItem index) refl means same closes)
       means_nothing faults.NoMemory means same closes =
           no_memory same (record {
             says = closes.says;
@@ -326,26 +260,6 @@ module _ (given : Given) (stop : Stop) (action : Action) (limits : Limits) (step
               given.run (telling t.text) action limits steps names before between after us input s end within some most stays takes links lists start t.shows closes
 
           image_ran : (end : ImageEnd) → WasTold end → Closes between after names (names_of us) (status_of steps end) → TracesRight stop c input (status_of steps end)
-          image_ran ends.Ended t closes =
-              let r = run_as ends.Ended t closes in
-              let o = t.shows.0 in
-              record { reports = t.text; runs = r.runs; right = told_of (telling t.text) Ended steps o t.text r (watches, reports_at steps o t.text t.shows.1.shows t.tells) }
-          image_ran (ends.Stopped kind segment line) t closes =
-              let r = run_as (ends.Stopped kind segment line) t closes in
-              let o = t.shows.0 in
-              record { reports = t.text; runs = r.runs; right = told_of (telling t.text) (Stopped kind segment line) steps o t.text r (watches, reports_at steps o t.text t.shows.1.shows t.tells) }
-          image_ran ends.Unfinished t closes =
-              let r = run_as ends.Unfinished t closes in
-              let o = t.shows.0 in
-              record { reports = t.text; runs = r.runs; right = told_of (telling t.text) (Unfinished steps) steps o t.text r (watches, reports_at steps o t.text t.shows.1.shows t.tells) }
-          image_ran (ends.BadCode offset) t closes =
-              let r = run_as (ends.BadCode offset) t closes in
-              let o = t.shows.0 in
-              record { reports = t.text; runs = r.runs; right = told_of (telling t.text) (BadCode offset) steps o t.text r (watches, reports_at steps o t.text t.shows.1.shows t.tells) }
-          image_ran (ends.Divided offset) t closes =
-              let r = run_as (ends.Divided offset) t closes in
-              let o = t.shows.0 in
-              record { reports = t.text; runs = r.runs; right = told_of (telling t.text) (Divided offset) steps o t.text r (watches, reports_at steps o t.text t.shows.1.shows t.tells) }
           image_ran ends.InputFault t closes =
               let r = run_as ends.InputFault t closes in
               let cut = t.shows.0.0 in
@@ -363,6 +277,10 @@ module _ (given : Given) (stop : Stop) (action : Action) (limits : Limits) (step
               some_of : (n : ℕ) (o : Observed) (text : List ℕ) → Shows s input n o → TellsOf watch s input n text ⊎ TellsOf watch s input (n + 1) text → ReportsAt stop limits input us n o text ⊎ ReportsNext stop limits input us n text
               some_of n o text shows (inl tells) = inl (reports_at n o text shows tells)
               some_of n o text shows (inr tells) = inr (reports_next n text tells)
+          image_ran end t closes =
+              let r = run_as end t closes in
+              let o = t.shows.0 in
+              record { reports = t.text; runs = r.runs; right = told_of (telling t.text) (status_of steps end) steps o t.text r (watches, reports_at steps o t.text t.shows.1.shows t.tells) }
 
           abbrev Short : Type 0
           Short = CutShort watch s input steps a.outside b.outside (said_at (after_told a.say listing) a.say_faults) (said_at b.say b.say_faults)

@@ -15,10 +15,9 @@ use Rattle.cw_watch.specs.declared.fault.WatchFault.{WatchFault}
 use Rattle.cw_watch.specs.declared.fault.WatchFault.TheVariants as faults
 use Rattle.cw_traced.specs.Places.Reported.{MeansInUnits}
 use Rattle.cw_say.specs.declared.status.Status.{Status}
-use Rattle.cw_say.specs.declared.status.Status.TheVariants.{Ended, Usage, Refused, Unlinked, Stopped, Unfinished, NoFile, NoMemory, BadFile, TooLong, BadCode, Divided, TooMany, NoPlace, NoItem}
+use Rattle.cw_say.specs.declared.status.Status.TheVariants.{Ended, Stopped, Unfinished, TooLong, BadCode, Divided, NoPlace, NoItem}
 use Rattle.cw_say.specs.declared.status.Status.TheVariants as statuses
-use Rattle.cw_say.specs.declared.status.Which.TheVariants.{Store, Input, Out, Say}
-use Rattle.cw_say.specs.declared.status.Long.TheVariants.{File}
+use Rattle.cw_say.specs.declared.status.Which.TheVariants.{Say}
 use Rattle.cw_say.specs.declared.status.Long.TheVariants as long
 use Rattle.cw_build.specs.Linking.{map_text}
 use Rattle.cw_correct.specs.Calls.{Call, NoFault}
@@ -139,17 +138,7 @@ module _ (stop : Stop) (c : Call) (input : List ℕ) (quiet : NoFault c.before c
   comes (BadCode offset) x = inl (telling x.reports, x.runs, x.right.0)
   comes (Divided offset) x = inl (telling x.reports, x.runs, x.right.0)
   comes (TooLong long.Input) x = inl (telling x.reports, x.runs, x.right.0)
-  comes (TooLong (File number)) x = inl (telling x.reports, x.runs, tt)
-  comes Usage x = inl (telling x.reports, x.runs, tt)
-  comes (Refused number fault) x = inl (telling x.reports, x.runs, tt)
-  comes (Unlinked fault) x = inl (telling x.reports, x.runs, tt)
-  comes (NoFile number) x = inl (telling x.reports, x.runs, tt)
-  comes (statuses.Outside Store) x = inl (telling x.reports, x.runs, tt)
-  comes (statuses.Outside Input) x = inl (telling x.reports, x.runs, tt)
-  comes (statuses.Outside Out) x = inl (telling x.reports, x.runs, tt)
-  comes NoMemory x = inl (telling x.reports, x.runs, tt)
-  comes (BadFile number fault) x = inl (telling x.reports, x.runs, tt)
-  comes (TooMany count) x = inl (telling x.reports, x.runs, tt)
+  comes _ x = inl (telling x.reports, x.runs, tt)
 
 pub one_status : HasOneStatusOf → HasOneStatus
 one_status given stop c input s t found told quiet other also tells x y =

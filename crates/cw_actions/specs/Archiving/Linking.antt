@@ -5,7 +5,7 @@ use Rattle.cw_unit.specs.declared.layout.Limits.{Limits}
 use Rattle.cw_link_files.specs.Parts.{IsListOf}
 use Rattle.cw_build.specs.Linking.{AreLinked, IsFault}
 use Rattle.cw_correct.specs.Results.{AreFew, all_contents, image_file}
-use Rattle.cw_actions.specs.Resulting.Closed.{Files}
+use Rattle.cw_actions.specs.Resulting.Outside.{Files}
 use Rattle.cw_actions.specs.Resulting.Written.{GivesFile}
 use Rattle.cw_say.specs.declared.status.Status.{Status}
 use Rattle.cw_say.specs.declared.status.Status.TheVariants.{Unlinked, NoMemory, TooMany}

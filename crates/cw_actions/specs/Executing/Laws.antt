@@ -1,5 +1,5 @@
 -- Laws of the promise of `exec`.
-use Rattle.std.specs.Prelude.{◌≡◌, ◌≢◌, ◌⊎◌, ℕ, List, [], map, All, Option, Some}
+use Rattle.std.specs.Prelude.{◌≡◌, ◌≢◌, ◌⊎◌, ℕ, List, [], map, Option, Some}
 use Rattle.cw_correct.specs.Calls.{Call, told_files, NoFault}
 use Rattle.cw_correct.specs.Closing.{Closes}
 use Rattle.cw_correct.specs.Executing.{ExecutesRight}

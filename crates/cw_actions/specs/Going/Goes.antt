@@ -4,8 +4,6 @@ use Rattle.std.specs.Prelude.{◌≡◌, ◌⊎◌, ℕ, List, Result, Ok, Err}
 use Rattle.cw_unit.specs.declared.unit.Unit.{Unit as SourceUnit}
 use Rattle.cw_unit.specs.declared.layout.Limits.{Limits}
 use Rattle.cw_compile.specs.Texts.{text_limit}
-use Rattle.cw_link.specs.declared.fault.LinkFault.{LinkFault}
-use Rattle.cw_link.specs.declared.fault.LinkFault.TheVariants as faults
 use Rattle.cw_link.specs.declared.linking.Linked.{Linked}
 use Rattle.cw_build.specs.Linking.{Links, IsLinkFault, image_of}
 use Rattle.cw_build.specs.Building.{IsLinkedOf}
@@ -23,12 +21,7 @@ streams_of s = streams_at s.left s.input_faults s.out s.out_faults s.say s.say_f
 
 -- ---- linking
 
--- the status of units that have no image
-abbrev pub unlinked_status : LinkFault → Status
-unlinked_status faults.NoMemory = NoMemory
-unlinked_status fault = Unlinked fault
-
--- when it comes
+-- when a status comes of units that have no image
 abbrev pub IsUnlinked : List SourceUnit → Limits → Status → Type 0
 IsUnlinked us limits NoMemory = Unit {0}
 IsUnlinked us limits (Unlinked fault) = IsLinkFault us limits fault

@@ -1,5 +1,5 @@
 -- What comes of what was read, by the status: the result, where it is written to; or why there is none.
-use Rattle.std.specs.Prelude.{◌≡◌, ℕ, List, ◌++◌, map, codes}
+use Rattle.std.specs.Prelude.{◌≡◌, ℕ, List, ◌++◌, codes}
 use Rattle.cw_io.specs.File.{AllStay}
 use Rattle.cw_unit.specs.declared.unit.Unit.{Unit as SourceUnit}
 use Rattle.cw_unit.specs.declared.layout.Limits.{Limits}
@@ -11,7 +11,7 @@ use Rattle.cw_link.specs.declared.fault.LinkFault.TheVariants as linking
 use Rattle.cw_obj.specs.Migration.{IsMigrated}
 use Rattle.cw_build.specs.Linking.{Links, IsLinkFault}
 use Rattle.cw_correct.specs.Results.{IsMap}
-use Rattle.cw_actions.specs.Resulting.Closed.{Files, Out}
+use Rattle.cw_actions.specs.Resulting.Outside.{Files, Out}
 use Rattle.cw_actions.specs.Resulting.Written.{GivesOut, GivesFile}
 use Rattle.cw_say.specs.declared.status.Status.{Status}
 use Rattle.cw_say.specs.declared.status.Status.TheVariants.{Refused, Unlinked, NoMemory}

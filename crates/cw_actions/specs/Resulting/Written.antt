@@ -4,7 +4,7 @@ use Rattle.cw_io.specs.Bytes.{after_told}
 use Rattle.cw_io.specs.Count.{Rose}
 use Rattle.cw_io.specs.File.{as_file, KeptOrWhole, OthersStay, AllStay}
 use Rattle.cw_files.specs.Reading.{SameCounts}
-use Rattle.cw_actions.specs.Resulting.Closed.{Files, Out}
+use Rattle.cw_actions.specs.Resulting.Outside.{Files, Out}
 use Rattle.cw_say.specs.declared.status.Status.{Status}
 use Rattle.cw_say.specs.declared.status.Status.TheVariants.{Ended, Outside, NoMemory}
 use Rattle.cw_say.specs.declared.status.Which.TheVariants as which

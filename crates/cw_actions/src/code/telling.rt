@@ -1,5 +1,5 @@
 //! The action `code`.
-ghost use Rattle.std.specs.Prelude.{◌≡◌, ◌≤◌, ℕ, List as Sequence, Option, length, map, All};
+ghost use Rattle.std.specs.Prelude.{◌≤◌, ℕ, List as Sequence, Option, length, map, All};
 ghost use Rattle.cw_unit.specs.declared.unit.Unit.{Unit as SourceUnit};
 ghost use Rattle.cw_unit.specs.declared.layout.Limits.{Limits as SourceLimits};
 ghost use Rattle.cw_place.specs.Placement.{IsLimits};
@@ -9,12 +9,13 @@ ghost use Rattle.cw_files.specs.Reading.{AreSegmentsOf};
 ghost use Rattle.cw_words.specs.declared.action.Action.TheVariants.{Code};
 ghost use Rattle.cw_correct.specs.Calls.{surroundings_of, call_as};
 ghost use Rattle.cw_correct.specs.Results.{IsCode, CodesRight};
-ghost use Rattle.cw_actions.specs.Resulting.Closed.{files_at, out_at, KeepsClosed};
+ghost use Rattle.cw_actions.specs.Resulting.Outside.{out_at};
 ghost use Rattle.cw_actions.specs.Resulting.Results.{TellsUnits};
 
 use crate::code::coding::unit_codes;
 use crate::code::reading::{Sources, read_sources};
-use crate::results::{close, compiled_units, unlinked, write_text};
+use crate::go::close;
+use crate::results::{compiled_units, unlinked, write_text};
 use cw_build::laws::linked_units;
 use cw_build::link_units;
 use cw_compile::laws::one_outcome;
@@ -64,30 +65,6 @@ fn code_units<O: Sink>(alloc: Global, sources: &Sources, limits: &Limits, out: &
     }
 }
 
-// All but the closing line.
-fn code_all<F: Store, O: Sink>(
-    alloc: Global,
-    names: &[&str],
-    limits: &Limits,
-    files: &mut F,
-    out: &mut O,
-) -> Status
-    requires few { length names.now ≤ 200 }
-    requires limits { IsLimits limits.now }
-    ensures { KeepsClosed CodesRight Code limits.now (map (λ name. name.now) names.now)
-        (files_at (F.file files.old) (F.faults files.old) (F.absences files.old))
-        (files_at (F.file files.new) (F.faults files.new) (F.absences files.new))
-        (out_at (O.held out.old) (O.faults out.old)) (out_at (O.held out.new) (O.faults out.new)) result }
-{
-    one_outcome();
-    compiled_units();
-    linked_units();
-    match read_sources(alloc, files, names) {
-        Ok(sources) => code_units(alloc, &sources, limits, out),
-        Err(status) => status,
-    }
-}
-
 /// Reads and compiles the files in order, links their objects, and writes the listing of the linked code to `out`.
 pub fn code_files<F: Store, O: Sink, S: Sink>(
     alloc: Global,
@@ -108,7 +85,11 @@ pub fn code_files<F: Store, O: Sink, S: Sink>(
         (surroundings_of (F.file files.new) (F.faults files.new) (F.absences files.new) left input_faults
         (O.held out.new) (O.faults out.new) (S.held say.new) (S.faults say.new))) result }
 {
-    let status = code_all(alloc, names, limits, files, out);
-    close(say, names, &status);
-    status
+    one_outcome();
+    compiled_units();
+    linked_units();
+    match read_sources(alloc, files, names) {
+        Ok(sources) => close(say, names, &[], code_units(alloc, &sources, limits, out)),
+        Err(status) => close(say, names, &[], status),
+    }
 }

@@ -13,12 +13,13 @@ ghost use Rattle.cw_files.specs.Reading.{AreSegmentsOf};
 ghost use Rattle.cw_words.specs.declared.action.Action.TheVariants.{Depth};
 ghost use Rattle.cw_correct.specs.Calls.{surroundings_of, call_as};
 ghost use Rattle.cw_correct.specs.Results.{BoundsRuns, IsDepth, DepthsRight};
-ghost use Rattle.cw_actions.specs.Resulting.Closed.{files_at, out_at, KeepsClosed};
+ghost use Rattle.cw_actions.specs.Resulting.Outside.{out_at};
 ghost use Rattle.cw_actions.specs.Resulting.Results.{TellsUnits};
 
 use crate::depth::laws::{few_procedures, report_bounds_runs};
 use crate::depth::text::report_text;
-use crate::results::{close, compiled_units, read_units, unlinked, write_text};
+use crate::go::close;
+use crate::results::{compiled_units, read_units, unlinked, write_text};
 use cw_build::laws::linked_units;
 use cw_build::link_units;
 use cw_compile::laws::one_outcome;
@@ -80,33 +81,6 @@ fn depth_units<O: Sink>(alloc: Global, segments: &Segments, limits: &Limits, out
     }
 }
 
-// All but the closing line.
-fn depth_all<F: Store, O: Sink>(
-    alloc: Global,
-    names: &[&str],
-    limits: &Limits,
-    files: &mut F,
-    out: &mut O,
-) -> Status
-    requires few { length names.now ≤ 200 }
-    requires some { 1 ≤ length names.now }
-    requires limits { IsLimits limits.now }
-    ensures { KeepsClosed DepthsRight Depth limits.now (map (λ name. name.now) names.now)
-        (files_at (F.file files.old) (F.faults files.old) (F.absences files.old))
-        (files_at (F.file files.new) (F.faults files.new) (F.absences files.new))
-        (out_at (O.held out.old) (O.faults out.old)) (out_at (O.held out.new) (O.faults out.new)) result }
-{
-    one_outcome();
-    compiled_units();
-    linked_units();
-    few_procedures();
-    report_bounds_runs();
-    match read_units(alloc, files, names) {
-        Ok(segments) => depth_units(alloc, &segments, limits, out),
-        Err(status) => status,
-    }
-}
-
 /// Reads and compiles the files in order, links their objects, and writes the depth report of their units to `out`.
 pub fn depth_files<F: Store, O: Sink, S: Sink>(
     alloc: Global,
@@ -127,7 +101,13 @@ pub fn depth_files<F: Store, O: Sink, S: Sink>(
         (surroundings_of (F.file files.new) (F.faults files.new) (F.absences files.new) left input_faults
         (O.held out.new) (O.faults out.new) (S.held say.new) (S.faults say.new))) result }
 {
-    let status = depth_all(alloc, names, limits, files, out);
-    close(say, names, &status);
-    status
+    one_outcome();
+    compiled_units();
+    linked_units();
+    few_procedures();
+    report_bounds_runs();
+    match read_units(alloc, files, names) {
+        Ok(segments) => close(say, names, &[], depth_units(alloc, &segments, limits, out)),
+        Err(status) => close(say, names, &[], status),
+    }
 }

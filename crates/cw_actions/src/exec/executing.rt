@@ -5,39 +5,16 @@ ghost use Rattle.cw_place.specs.Placement.{IsLimits};
 ghost use Rattle.cw_words.specs.declared.action.Action.TheVariants.{Exec};
 ghost use Rattle.cw_correct.specs.Calls.{surroundings_of, call_as};
 ghost use Rattle.cw_correct.specs.Correct.{IsCorrectCall};
-ghost use Rattle.cw_actions.specs.Executing.Runs.{status_of, Runs};
+ghost use Rattle.cw_actions.specs.Executing.Runs.{Runs};
 
+use crate::go::status_of;
 use cw_cpu86::Cpu;
 use cw_files::read_runnable;
 use cw_io::{Sink, Source, Store};
-use cw_ports::{ImageEnd, run_image};
-use cw_say::{Long, Status, Which, write_last};
+use cw_ports::run_image;
+use cw_say::{Status, write_last};
 use cw_unit::layout::Limits;
 use std::alloc::Global;
-
-// The status of a run of so many instructions that ended so.
-fn status_of(end: ImageEnd, steps: u64) -> Status
-    ensures { result ≡ status_of steps end }
-{
-    match end {
-        ImageEnd::Ended => Status::Ended,
-        ImageEnd::Stopped {
-            kind,
-            segment,
-            line,
-        } => Status::Stopped {
-            kind,
-            segment,
-            line,
-        },
-        ImageEnd::Unfinished => Status::Unfinished { steps },
-        ImageEnd::BadCode { offset } => Status::BadCode { offset },
-        ImageEnd::Divided { offset } => Status::Divided { offset },
-        ImageEnd::InputFault => Status::Outside(Which::Input),
-        ImageEnd::OutFault => Status::Outside(Which::Out),
-        ImageEnd::TooLong => Status::TooLong(Long::Input),
-    }
-}
 
 // Runs from where the processor begins.
 fn run<I: Source, O: Sink>(cpu: Cpu, steps: u64, input: &mut I, out: &mut O) -> Status

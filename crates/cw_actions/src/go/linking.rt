@@ -1,12 +1,12 @@
 // From the units of the files to their image.
-ghost use Rattle.std.specs.Prelude.{◌≡◌, ◌≤◌, length, All, List as Sequence};
+ghost use Rattle.std.specs.Prelude.{◌≤◌, length, All, List as Sequence};
 ghost use Rattle.cw_unit.specs.declared.unit.Unit.{Unit as SourceUnit};
 ghost use Rattle.cw_place.specs.Placement.{IsLimits};
 ghost use Rattle.cw_build.specs.Compiled.{IsCompilable};
 ghost use Rattle.cw_files.specs.Reading.{AreSegmentsOf};
 ghost use Rattle.cw_actions.specs.Going.Goes.{AnswersLinked};
 
-use crate::go::statuses::unlinked_status;
+use crate::results::unlinked;
 use cw_build::link_units;
 use cw_files::Segments;
 use cw_link::Linked;
@@ -25,6 +25,6 @@ pub fn link_segments(alloc: Global, segments: &Segments, limits: &Limits) -> Res
 {
     match link_units(alloc, segments.objects.as_slice(), limits) {
         Ok(linked) => Ok(linked),
-        Err(fault) => Err(unlinked_status(fault)),
+        Err(fault) => Err(unlinked(fault)),
     }
 }

@@ -1,7 +1,6 @@
 // The storage map is listed, the image loaded and run.
-ghost use Rattle.std.specs.Prelude.{◌<◌, ◌≤◌, length, List as Sequence};
+ghost use Rattle.std.specs.Prelude.{◌<◌, ◌≤◌, length};
 ghost use Rattle.cw_i86.specs.MachineRun.{IsStart};
-ghost use Rattle.cw_unit.specs.declared.unit.Unit.{Unit as SourceUnit};
 ghost use Rattle.cw_image.specs.declared.image.Image.{Image as RunImage};
 ghost use Rattle.cw_place.specs.Placement.{IsLimits};
 ghost use Rattle.cw_build.specs.Linking.{map_text, image_of};

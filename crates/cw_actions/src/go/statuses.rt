@@ -1,9 +1,7 @@
-// The statuses of what ended.
+// The status of what ended.
 ghost use Rattle.std.specs.Prelude.{◌≡◌};
 ghost use Rattle.cw_actions.specs.Going.Runs.{status_of};
-ghost use Rattle.cw_actions.specs.Going.Goes.{unlinked_status};
 
-use cw_link::LinkFault;
 use cw_ports::ImageEnd;
 use cw_say::{Long, Status, Which};
 
@@ -28,15 +26,5 @@ pub fn status_of(end: ImageEnd, steps: u64) -> Status
         ImageEnd::InputFault => Status::Outside(Which::Input),
         ImageEnd::OutFault => Status::Outside(Which::Out),
         ImageEnd::TooLong => Status::TooLong(Long::Input),
-    }
-}
-
-/// That of units that do not link.
-pub(crate) fn unlinked_status(fault: LinkFault) -> Status
-    ensures { result ≡ unlinked_status fault }
-{
-    match fault {
-        LinkFault::NoMemory => Status::NoMemory,
-        fault => Status::Unlinked(fault),
     }
 }

@@ -7,10 +7,11 @@ ghost use Rattle.cw_place.specs.Placement.{IsLimits};
 ghost use Rattle.cw_words.specs.declared.action.Action.TheVariants.{Lib};
 ghost use Rattle.cw_correct.specs.Calls.{surroundings_of, call_as};
 ghost use Rattle.cw_correct.specs.Results.{MakesLibrary, LibsRight};
-ghost use Rattle.cw_actions.specs.Resulting.Closed.{Out, files_at, KeepsClosed};
+ghost use Rattle.cw_actions.specs.Resulting.Outside.{files_at};
 ghost use Rattle.cw_actions.specs.Resulting.Written.{GivesFile};
 
-use crate::results::{close, save};
+use crate::go::close;
+use crate::results::save;
 use cw_files::read_objects;
 use cw_io::{Sink, Store};
 use cw_lib::write_lib;
@@ -34,23 +35,31 @@ fn save_library<F: Store>(alloc: Global, files: &mut F, name: &str, objects: &[L
     }
 }
 
-// All but the closing line, for the names of the objects.
-fn lib_files<F: Store>(
+// The same for the name of the library, and for those of the objects alone.
+fn lib_files<F: Store, S: Sink>(
     alloc: Global,
     name: &str,
     names: &[&str],
     limits: &Limits,
+    steps: u64,
     files: &mut F,
+    say: &mut S,
 ) -> Status
     requires few { length names.now ≤ 200 }
     requires some { 1 ≤ length names.now }
-    ensures { (out : Out) → KeepsClosed (MakesLibrary name.now) Lib limits.now (map (λ object. object.now) names.now)
-        (files_at (F.file files.old) (F.faults files.old) (F.absences files.old))
-        (files_at (F.file files.new) (F.faults files.new) (F.absences files.new)) out out result }
+    ensures { (left : Option (Sequence ℕ)) (input_faults : ℕ) (held : Option (Sequence ℕ)) (out_faults : ℕ)
+        → MakesLibrary name.now (call_as Lib limits.now steps (map (λ object. object.now) names.now)
+        (surroundings_of (F.file files.old) (F.faults files.old) (F.absences files.old) left input_faults held
+        out_faults (S.held say.old) (S.faults say.old))
+        (surroundings_of (F.file files.new) (F.faults files.new) (F.absences files.new) left input_faults held
+        out_faults (S.held say.new) (S.faults say.new))) result }
 {
     match read_objects(alloc, files, names) {
-        Ok(objects) => save_library(alloc, files, name, objects.as_slice()),
-        Err(status) => status,
+        Ok(objects) => {
+            let status = save_library(alloc, files, name, objects.as_slice());
+            close(say, names, &[], status)
+        }
+        Err(status) => close(say, names, &[], status),
     }
 }
 
@@ -75,7 +84,5 @@ pub fn make_library<F: Store, S: Sink>(
         out_faults (S.held say.new) (S.faults say.new))) result }
 {
     let objects = &names[1..];
-    let status = lib_files(alloc, names[0], objects, limits, files);
-    close(say, objects, &status);
-    status
+    lib_files(alloc, names[0], objects, limits, steps, files, say)
 }

@@ -7,11 +7,12 @@ ghost use Rattle.cw_words.specs.declared.action.Action.TheVariants.{Link};
 ghost use Rattle.cw_link_files.specs.Taken.{AreObjects};
 ghost use Rattle.cw_correct.specs.Calls.{surroundings_of, call_as};
 ghost use Rattle.cw_correct.specs.Results.{LinksRight};
-ghost use Rattle.cw_actions.specs.Resulting.Closed.{Out, files_at, KeepsClosed};
+ghost use Rattle.cw_actions.specs.Resulting.Outside.{files_at};
 ghost use Rattle.cw_actions.specs.Resulting.Written.{GivesFile};
 ghost use Rattle.cw_actions.specs.Archiving.Linking.{LinksObjects, LinksList, LinksTaken};
 
-use crate::results::{close, save, unlinked};
+use crate::go::close;
+use crate::results::{save, unlinked};
 use cw_image::{Image, write_image};
 use cw_io::{Sink, Store};
 use cw_lib::laws::library_format;
@@ -83,22 +84,6 @@ fn link_taken<F: Store>(alloc: Global, taken: LinkFiles, limits: &Limits, files:
     }
 }
 
-// All but the closing line.
-fn link_files<F: Store>(alloc: Global, names: &[&str], limits: &Limits, files: &mut F) -> Status
-    requires few { length names.now ≤ 200 }
-    requires limits { IsLimits limits.now }
-    ensures { (out : Out) → KeepsClosed LinksRight Link limits.now (map (λ name. name.now) names.now)
-        (files_at (F.file files.old) (F.faults files.old) (F.absences files.old))
-        (files_at (F.file files.new) (F.faults files.new) (F.absences files.new)) out out result }
-{
-    library_format();
-    one_link_list();
-    match read_link_files(alloc, files, names) {
-        Ok(taken) => link_taken(alloc, taken, limits, files),
-        Err(status) => status,
-    }
-}
-
 /// Reads files in order and opens each as an object, or as a library where it begins with the mark of one; links the list that they
 /// come to, and writes the image to the file `A.IMG`.
 pub fn link<F: Store, S: Sink>(
@@ -119,7 +104,10 @@ pub fn link<F: Store, S: Sink>(
         (surroundings_of (F.file files.new) (F.faults files.new) (F.absences files.new) left input_faults held
         out_faults (S.held say.new) (S.faults say.new))) result }
 {
-    let status = link_files(alloc, names, limits, files);
-    close(say, names, &status);
-    status
+    library_format();
+    one_link_list();
+    match read_link_files(alloc, files, names) {
+        Ok(taken) => close(say, names, &[], link_taken(alloc, taken, limits, files)),
+        Err(status) => close(say, names, &[], status),
+    }
 }

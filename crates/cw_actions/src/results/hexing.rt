@@ -6,10 +6,10 @@ ghost use Rattle.cw_place.specs.Placement.{IsLimits};
 ghost use Rattle.cw_words.specs.declared.action.Action.TheVariants.{Hex};
 ghost use Rattle.cw_correct.specs.Calls.{surroundings_of, call_as};
 ghost use Rattle.cw_correct.specs.Results.{HexesRight};
-ghost use Rattle.cw_actions.specs.Resulting.Closed.{Out, files_at, KeepsClosed};
+ghost use Rattle.cw_actions.specs.Resulting.Outside.{files_at};
 ghost use Rattle.cw_actions.specs.Resulting.Written.{GivesFile};
 
-use crate::results::closing::close;
+use crate::go::close;
 use crate::results::first::first_name;
 use crate::results::saving::save_beside;
 use cw_files::read_image_file;
@@ -33,21 +33,6 @@ fn hex_image<F: Store>(alloc: Global, files: &mut F, name: &str, image: &Image) 
     }
 }
 
-// All but the closing line.
-fn hex_file<F: Store>(alloc: Global, names: &[&str], limits: &Limits, files: &mut F) -> Status
-    requires few { length names.now ≤ 1 }
-    requires some { 1 ≤ length names.now }
-    ensures { (out : Out) → KeepsClosed HexesRight Hex limits.now (map (λ name. name.now) names.now)
-        (files_at (F.file files.old) (F.faults files.old) (F.absences files.old))
-        (files_at (F.file files.new) (F.faults files.new) (F.absences files.new)) out out result }
-{
-    let name = first_name(names);
-    match read_image_file(alloc, files, name) {
-        Ok(image) => hex_image(alloc, files, name, &image),
-        Err(status) => status,
-    }
-}
-
 /// Reads the image and writes its HEX text to the file of its name with `.HEX` added.
 pub fn hex<F: Store, S: Sink>(
     alloc: Global,
@@ -67,7 +52,9 @@ pub fn hex<F: Store, S: Sink>(
         (surroundings_of (F.file files.new) (F.faults files.new) (F.absences files.new) left input_faults held
         out_faults (S.held say.new) (S.faults say.new))) result }
 {
-    let status = hex_file(alloc, names, limits, files);
-    close(say, names, &status);
-    status
+    let name = first_name(names);
+    match read_image_file(alloc, files, name) {
+        Ok(image) => close(say, names, &[], hex_image(alloc, files, name, &image)),
+        Err(status) => close(say, names, &[], status),
+    }
 }

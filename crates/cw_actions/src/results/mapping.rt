@@ -10,11 +10,11 @@ ghost use Rattle.cw_files.specs.Reading.{AreSegmentsOf};
 ghost use Rattle.cw_words.specs.declared.action.Action.TheVariants.{Map};
 ghost use Rattle.cw_correct.specs.Calls.{surroundings_of, call_as};
 ghost use Rattle.cw_correct.specs.Results.{MapsRight};
-ghost use Rattle.cw_actions.specs.Resulting.Closed.{files_at, out_at, KeepsClosed};
+ghost use Rattle.cw_actions.specs.Resulting.Outside.{out_at};
 ghost use Rattle.cw_actions.specs.Resulting.Written.{GivesOut};
 ghost use Rattle.cw_actions.specs.Resulting.Results.{MapsUnits};
 
-use crate::results::closing::close;
+use crate::go::close;
 use crate::results::output::write_text;
 use crate::results::unlinking::unlinked;
 use cw_build::laws::linked_units;
@@ -67,30 +67,6 @@ fn map_units<O: Sink>(alloc: Global, segments: &Segments, limits: &Limits, out: 
     }
 }
 
-// All but the closing line.
-fn map_all<F: Store, O: Sink>(
-    alloc: Global,
-    names: &[&str],
-    limits: &Limits,
-    files: &mut F,
-    out: &mut O,
-) -> Status
-    requires few { length names.now ≤ 200 }
-    requires limits { IsLimits limits.now }
-    ensures { KeepsClosed MapsRight Map limits.now (map (λ name. name.now) names.now)
-        (files_at (F.file files.old) (F.faults files.old) (F.absences files.old))
-        (files_at (F.file files.new) (F.faults files.new) (F.absences files.new))
-        (out_at (O.held out.old) (O.faults out.old)) (out_at (O.held out.new) (O.faults out.new)) result }
-{
-    one_outcome();
-    compiled_units();
-    linked_units();
-    match read_units(alloc, files, names) {
-        Ok(segments) => map_units(alloc, &segments, limits, out),
-        Err(status) => status,
-    }
-}
-
 /// Reads and compiles the files in order, links their objects, and writes the storage map to `out`.
 pub fn map_files<F: Store, O: Sink, S: Sink>(
     alloc: Global,
@@ -111,7 +87,11 @@ pub fn map_files<F: Store, O: Sink, S: Sink>(
         (surroundings_of (F.file files.new) (F.faults files.new) (F.absences files.new) left input_faults
         (O.held out.new) (O.faults out.new) (S.held say.new) (S.faults say.new))) result }
 {
-    let status = map_all(alloc, names, limits, files, out);
-    close(say, names, &status);
-    status
+    one_outcome();
+    compiled_units();
+    linked_units();
+    match read_units(alloc, files, names) {
+        Ok(segments) => close(say, names, &[], map_units(alloc, &segments, limits, out)),
+        Err(status) => close(say, names, &[], status),
+    }
 }

@@ -5,10 +5,10 @@ ghost use Rattle.cw_place.specs.Placement.{IsLimits};
 ghost use Rattle.cw_words.specs.declared.action.Action.TheVariants.{Migrate};
 ghost use Rattle.cw_correct.specs.Calls.{surroundings_of, call_as};
 ghost use Rattle.cw_correct.specs.Results.{MigratesRight};
-ghost use Rattle.cw_actions.specs.Resulting.Closed.{Out, files_at, KeepsClosed};
+ghost use Rattle.cw_actions.specs.Resulting.Outside.{files_at};
 ghost use Rattle.cw_actions.specs.Resulting.Results.{MigratesObject};
 
-use crate::results::closing::close;
+use crate::go::close;
 use crate::results::first::{first_name, first_object};
 use crate::results::saving::save_beside;
 use cw_files::read_objects;
@@ -33,23 +33,6 @@ fn migrate_object<F: Store>(alloc: Global, files: &mut F, name: &str, object: &[
     }
 }
 
-// All but the closing line.
-fn migrate_file<F: Store>(alloc: Global, names: &[&str], limits: &Limits, files: &mut F) -> Status
-    requires few { length names.now ≤ 1 }
-    requires some { 1 ≤ length names.now }
-    ensures { (out : Out) → KeepsClosed MigratesRight Migrate limits.now (map (λ name. name.now) names.now)
-        (files_at (F.file files.old) (F.faults files.old) (F.absences files.old))
-        (files_at (F.file files.new) (F.faults files.new) (F.absences files.new)) out out result }
-{
-    match read_objects(alloc, files, names) {
-        Ok(objects) => {
-            let object = first_object(objects.as_slice());
-            migrate_object(alloc, files, first_name(names), object)
-        }
-        Err(status) => status,
-    }
-}
-
 /// Reads the object and writes it in version 2 to the file of its name with `.SG2` added.
 pub fn migrate<F: Store, S: Sink>(
     alloc: Global,
@@ -69,7 +52,12 @@ pub fn migrate<F: Store, S: Sink>(
         (surroundings_of (F.file files.new) (F.faults files.new) (F.absences files.new) left input_faults held
         out_faults (S.held say.new) (S.faults say.new))) result }
 {
-    let status = migrate_file(alloc, names, limits, files);
-    close(say, names, &status);
-    status
+    match read_objects(alloc, files, names) {
+        Ok(objects) => {
+            let object = first_object(objects.as_slice());
+            let status = migrate_object(alloc, files, first_name(names), object);
+            close(say, names, &[], status)
+        }
+        Err(status) => close(say, names, &[], status),
+    }
 }

@@ -1,5 +1,5 @@
 // Results that are written to `out`.
-ghost use Rattle.cw_actions.specs.Resulting.Closed.{out_at};
+ghost use Rattle.cw_actions.specs.Resulting.Outside.{out_at};
 ghost use Rattle.cw_actions.specs.Resulting.Written.{GivesOut};
 
 use cw_io::Sink;

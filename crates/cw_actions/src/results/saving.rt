@@ -1,6 +1,6 @@
 // Results that are written to a file.
 ghost use Rattle.std.specs.Prelude.{◌≡◌, ◌++◌, IfOk, string_bytes};
-ghost use Rattle.cw_actions.specs.Resulting.Closed.{files_at};
+ghost use Rattle.cw_actions.specs.Resulting.Outside.{files_at};
 ghost use Rattle.cw_actions.specs.Resulting.Written.{GivesFile};
 
 use cw_io::Store;

@@ -5,10 +5,10 @@ ghost use Rattle.cw_compile.specs.Texts.{text_limit};
 ghost use Rattle.cw_words.specs.declared.action.Action.TheVariants.{List as Show};
 ghost use Rattle.cw_correct.specs.Calls.{surroundings_of, call_as};
 ghost use Rattle.cw_correct.specs.Results.{ShowsRight};
-ghost use Rattle.cw_actions.specs.Resulting.Closed.{files_at, out_at, KeepsClosed};
+ghost use Rattle.cw_actions.specs.Resulting.Outside.{out_at};
 ghost use Rattle.cw_actions.specs.Resulting.Results.{faulty_status, ShowsText};
 
-use crate::results::closing::close;
+use crate::go::close;
 use crate::results::first::first_name;
 use crate::results::output::write_text;
 use cw_compile::laws::one_outcome;
@@ -40,28 +40,6 @@ fn show_text<O: Sink>(alloc: Global, text: &[u8], out: &mut O) -> Status
     }
 }
 
-// All but the closing line.
-fn show_file<F: Store, O: Sink>(
-    alloc: Global,
-    names: &[&str],
-    limits: &Limits,
-    files: &mut F,
-    out: &mut O,
-) -> Status
-    requires few { length names.now ≤ 1 }
-    requires some { 1 ≤ length names.now }
-    ensures { KeepsClosed ShowsRight Show limits.now (map (λ name. name.now) names.now)
-        (files_at (F.file files.old) (F.faults files.old) (F.absences files.old))
-        (files_at (F.file files.new) (F.faults files.new) (F.absences files.new))
-        (out_at (O.held out.old) (O.faults out.old)) (out_at (O.held out.new) (O.faults out.new)) result }
-{
-    one_outcome();
-    match read_text(alloc, files, first_name(names)) {
-        Ok(text) => show_text(alloc, text.as_slice(), out),
-        Err(status) => status,
-    }
-}
-
 /// Compiles the file and writes the canonical text of its tree to `out`.
 pub fn show<F: Store, O: Sink, S: Sink>(
     alloc: Global,
@@ -82,7 +60,9 @@ pub fn show<F: Store, O: Sink, S: Sink>(
         (surroundings_of (F.file files.new) (F.faults files.new) (F.absences files.new) left input_faults
         (O.held out.new) (O.faults out.new) (S.held say.new) (S.faults say.new))) result }
 {
-    let status = show_file(alloc, names, limits, files, out);
-    close(say, names, &status);
-    status
+    one_outcome();
+    match read_text(alloc, files, first_name(names)) {
+        Ok(text) => close(say, names, &[], show_text(alloc, text.as_slice(), out)),
+        Err(status) => close(say, names, &[], status),
+    }
 }

@@ -1,6 +1,12 @@
 //! The action `trace`.
-ghost use Rattle.std.specs.Prelude.{◌≡◌, ◌≤◌, [], Some, length, map, slice_index_or};
+ghost use Rattle.std.specs.Prelude.{◌≡◌, ◌≤◌, ℕ, List as Sequence, [], Some, length, map, slice_index_or, All};
+ghost use Rattle.cw_io.specs.File.{Told, AllStay};
 ghost use Rattle.cw_place.specs.Placement.{IsLimits};
+ghost use Rattle.cw_compile.specs.Texts.{text_limit};
+ghost use Rattle.cw_build.specs.Building.{IsLinkedOf};
+ghost use Rattle.cw_build.specs.Compiled.{IsCompilable};
+ghost use Rattle.cw_files.specs.Texts.{HasUnit};
+ghost use Rattle.cw_files.specs.Reading.{counts_at, SameCounts, AllTaken, AreSegmentsOf};
 ghost use Rattle.cw_stop.specs.Stopping.{stop_in};
 ghost use Rattle.cw_words.specs.declared.action.Action.TheVariants.{Trace};
 ghost use Rattle.cw_correct.specs.Calls.{surroundings_of, call_as};
@@ -12,12 +18,63 @@ use crate::trace::closing::{close_no_item, close_no_place};
 use crate::trace::laws::traces;
 use crate::trace::running::watch_segments;
 use cw_build_laws::laws::images::separate_objects;
+use cw_files::Segments;
 use cw_io::{Sink, Source, Store};
+use cw_link::Linked;
 use cw_say::Status;
 use cw_stop::Stop;
 use cw_unit::layout::Limits;
 use cw_watch::{WatchFault, watch_for};
 use std::alloc::Global;
+
+// Finds what the stop means in units that were linked, runs their image, watched, and closes; whatever files they were read from.
+fn trace_linked<I: Source, O: Sink, S: Sink>(
+    alloc: Global,
+    names: &[&str],
+    segments: &Segments,
+    linked: &Linked,
+    limits: &Limits,
+    steps: u64,
+    stop: &Stop,
+    input: &mut I,
+    out: &mut O,
+    say: &mut S,
+) -> Status
+    requires few { length names.now ≤ 200 }
+    requires some { 1 ≤ length names.now }
+    requires limits { IsLimits limits.now }
+    requires segments { AreSegmentsOf segments.now.units segments.now }
+    requires compiled { All IsCompilable segments.now.units }
+    requires linked { IsLinkedOf segments.now.units limits.now linked.now }
+    ensures { (told told_after : Sequence ℕ → Told) (faults faults_after absences absences_after : ℕ)
+        → AllTaken text_limit HasUnit (map told (map (λ name. name.now) names.now)) segments.now.units
+        → SameCounts (counts_at faults absences) (counts_at faults_after absences_after) → AllStay told told_after
+        → IsTraced stop.now (call_as Trace limits.now steps (map (λ name. name.now) names.now)
+        (surroundings_of told faults absences (I.left input.old) (I.faults input.old) (O.held out.old)
+        (O.faults out.old) (S.held say.old) (S.faults say.old))
+        (surroundings_of told_after faults_after absences_after (I.left input.new) (I.faults input.new) (O.held out.new)
+        (O.faults out.new) (S.held say.new) (S.faults say.new))) result }
+{
+    traces();
+    separate_objects();
+    match watch_for(
+        alloc,
+        segments.objects.as_slice(),
+        &linked.map,
+        limits,
+        stop,
+    ) {
+        Ok(watch) => {
+            let status = watch_segments(
+                alloc, &watch, segments, linked, limits, steps, input, out, say,
+            );
+            close(say, names, linked.image.names.as_slice(), status)
+        }
+        Err(WatchFault::NoPlace) => close_no_place(say, stop),
+        Err(WatchFault::NoItem { index }) => close_no_item(say, stop, index),
+        Err(WatchFault::NoMemory) => close(say, names, &[], Status::NoMemory),
+    }
+}
 
 // The same for the names of the texts alone.
 fn trace_texts<F: Store, I: Source, O: Sink, S: Sink>(
@@ -43,31 +100,14 @@ fn trace_texts<F: Store, I: Source, O: Sink, S: Sink>(
 {
     traces();
     compiled_units();
-    separate_objects();
-    let segments = match read_units(alloc, files, names) {
-        Ok(segments) => segments,
-        Err(status) => return close(say, names, &[], status),
-    };
-    let linked = match link_segments(alloc, &segments, limits) {
-        Ok(linked) => linked,
-        Err(status) => return close(say, names, &[], status),
-    };
-    match watch_for(
-        alloc,
-        segments.objects.as_slice(),
-        &linked.map,
-        limits,
-        stop,
-    ) {
-        Ok(watch) => {
-            let status = watch_segments(
-                alloc, &watch, &segments, &linked, limits, steps, input, out, say,
-            );
-            close(say, names, linked.image.names.as_slice(), status)
-        }
-        Err(WatchFault::NoPlace) => close_no_place(say, stop),
-        Err(WatchFault::NoItem { index }) => close_no_item(say, stop, index),
-        Err(WatchFault::NoMemory) => close(say, names, &[], Status::NoMemory),
+    match read_units(alloc, files, names) {
+        Ok(segments) => match link_segments(alloc, &segments, limits) {
+            Ok(linked) => trace_linked(
+                alloc, names, &segments, &linked, limits, steps, stop, input, out, say,
+            ),
+            Err(status) => close(say, names, &[], status),
+        },
+        Err(status) => close(say, names, &[], status),
     }
 }
 

@@ -1,36 +1,36 @@
 use Rattle.std.proofs.Common.{◌≡◌, ℕ, List, [], map, slice_index_or, Some, Bor, sym, subst}
 use Rattle.cw_stop.specs.Stopping.{stop_in}
 use Rattle.cw_words.specs.Parts.{command_parts, copies_of, stop_of}
-use Rattle.cw_words.specs.declared.action.Action.TheVariants.{Big, Trace}
-use Rattle.cw_top.proofs.Asked.{asked, copies_told, stop_told, no_stop, asked_map, asked_depth, asked_code, asked_list, asked_compile, asked_lib, asked_link, asked_migrate, asked_hex}
+use Rattle.cw_words.specs.declared.action.Action.TheVariants.{Compile, Lib, Link, List as Show, Map, Depth, Code, Migrate, Big, Hex, Trace}
+use Rattle.cw_top.proofs.Asked.{asked, asked_so, copies_told, stop_told, no_stop}
 use Rattle.cw_top.proofs.command.perform.Goals as goal
 
 pub returns-in-Compile : goal.returns-in-Compile
-returns-in-Compile g c = asked_compile (command_parts c.args.command.now) _ _ _ c.in-Compile.is (rw c.as_slice-names.ensures.value at (c.compile.ensures (g.I.Source.left c.args.input.now) (g.I.Source.faults c.args.input.now) (g.O.Sink.held c.args.out.now) (g.O.Sink.faults c.args.out.now)))
+returns-in-Compile g c = asked_so Compile (command_parts c.args.command.now) _ _ _ c.in-Compile.is (λ input. rw c.as_slice-names.ensures.value at (c.compile.ensures (g.I.Source.left c.args.input.now) (g.I.Source.faults c.args.input.now) (g.O.Sink.held c.args.out.now) (g.O.Sink.faults c.args.out.now)))
 
 pub returns-in-Lib : goal.returns-in-Lib
-returns-in-Lib g c = asked_lib (command_parts c.args.command.now) _ _ _ c.in-Lib.is (rw c.as_slice-names.ensures.value at (c.make_library.ensures (g.I.Source.left c.args.input.now) (g.I.Source.faults c.args.input.now) (g.O.Sink.held c.args.out.now) (g.O.Sink.faults c.args.out.now)))
+returns-in-Lib g c = asked_so Lib (command_parts c.args.command.now) _ _ _ c.in-Lib.is (λ input. rw c.as_slice-names.ensures.value at (c.make_library.ensures (g.I.Source.left c.args.input.now) (g.I.Source.faults c.args.input.now) (g.O.Sink.held c.args.out.now) (g.O.Sink.faults c.args.out.now)))
 
 pub returns-in-Link : goal.returns-in-Link
-returns-in-Link g c = asked_link (command_parts c.args.command.now) _ _ _ c.in-Link.is (rw c.as_slice-names.ensures.value at (c.link.ensures (g.I.Source.left c.args.input.now) (g.I.Source.faults c.args.input.now) (g.O.Sink.held c.args.out.now) (g.O.Sink.faults c.args.out.now)))
+returns-in-Link g c = asked_so Link (command_parts c.args.command.now) _ _ _ c.in-Link.is (λ input. rw c.as_slice-names.ensures.value at (c.link.ensures (g.I.Source.left c.args.input.now) (g.I.Source.faults c.args.input.now) (g.O.Sink.held c.args.out.now) (g.O.Sink.faults c.args.out.now)))
 
 pub returns-in-List : goal.returns-in-List
-returns-in-List g c = asked_list (command_parts c.args.command.now) _ _ _ c.in-List.is (rw c.as_slice-names.ensures.value at (c.show.ensures (g.I.Source.left c.args.input.now) (g.I.Source.faults c.args.input.now)))
+returns-in-List g c = asked_so Show (command_parts c.args.command.now) _ _ _ c.in-List.is (λ input. rw c.as_slice-names.ensures.value at (c.show.ensures (g.I.Source.left c.args.input.now) (g.I.Source.faults c.args.input.now)))
 
 pub returns-in-Map : goal.returns-in-Map
-returns-in-Map g c = asked_map (command_parts c.args.command.now) _ _ _ c.in-Map.is (rw c.as_slice-names.ensures.value at (c.map_files.ensures (g.I.Source.left c.args.input.now) (g.I.Source.faults c.args.input.now)))
+returns-in-Map g c = asked_so Map (command_parts c.args.command.now) _ _ _ c.in-Map.is (λ input. rw c.as_slice-names.ensures.value at (c.map_files.ensures (g.I.Source.left c.args.input.now) (g.I.Source.faults c.args.input.now)))
 
 pub returns-in-Depth : goal.returns-in-Depth
-returns-in-Depth g c = asked_depth (command_parts c.args.command.now) _ _ _ c.in-Depth.is (rw c.as_slice-names.ensures.value at (c.depth_files.ensures (g.I.Source.left c.args.input.now) (g.I.Source.faults c.args.input.now)))
+returns-in-Depth g c = asked_so Depth (command_parts c.args.command.now) _ _ _ c.in-Depth.is (λ input. rw c.as_slice-names.ensures.value at (c.depth_files.ensures (g.I.Source.left c.args.input.now) (g.I.Source.faults c.args.input.now)))
 
 pub returns-in-Code : goal.returns-in-Code
-returns-in-Code g c = asked_code (command_parts c.args.command.now) _ _ _ c.in-Code.is (rw c.as_slice-names.ensures.value at (c.code_files.ensures (g.I.Source.left c.args.input.now) (g.I.Source.faults c.args.input.now)))
+returns-in-Code g c = asked_so Code (command_parts c.args.command.now) _ _ _ c.in-Code.is (λ input. rw c.as_slice-names.ensures.value at (c.code_files.ensures (g.I.Source.left c.args.input.now) (g.I.Source.faults c.args.input.now)))
 
 pub returns-in-Migrate : goal.returns-in-Migrate
-returns-in-Migrate g c = asked_migrate (command_parts c.args.command.now) _ _ _ c.in-Migrate.is (rw c.as_slice-names.ensures.value at (c.migrate.ensures (g.I.Source.left c.args.input.now) (g.I.Source.faults c.args.input.now) (g.O.Sink.held c.args.out.now) (g.O.Sink.faults c.args.out.now)))
+returns-in-Migrate g c = asked_so Migrate (command_parts c.args.command.now) _ _ _ c.in-Migrate.is (λ input. rw c.as_slice-names.ensures.value at (c.migrate.ensures (g.I.Source.left c.args.input.now) (g.I.Source.faults c.args.input.now) (g.O.Sink.held c.args.out.now) (g.O.Sink.faults c.args.out.now)))
 
 pub returns-in-Hex : goal.returns-in-Hex
-returns-in-Hex g c = asked_hex (command_parts c.args.command.now) _ _ _ c.in-Hex.is (rw c.as_slice-names.ensures.value at (c.hex.ensures (g.I.Source.left c.args.input.now) (g.I.Source.faults c.args.input.now) (g.O.Sink.held c.args.out.now) (g.O.Sink.faults c.args.out.now)))
+returns-in-Hex g c = asked_so Hex (command_parts c.args.command.now) _ _ _ c.in-Hex.is (λ input. rw c.as_slice-names.ensures.value at (c.hex.ensures (g.I.Source.left c.args.input.now) (g.I.Source.faults c.args.input.now) (g.O.Sink.held c.args.out.now) (g.O.Sink.faults c.args.out.now)))
 
 pub returns-in-Big : goal.returns-in-Big
 returns-in-Big g c =

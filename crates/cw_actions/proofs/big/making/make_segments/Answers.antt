@@ -1,4 +1,4 @@
-use Rattle.std.proofs.Common.{◌≡◌, ◌+◌, ◌==◌, ◌++◌, ◌∷◌, suc, Bool, false, length, [], Result, Ok, Err, sym, subst, ap, ◌∙◌, arith}
+use Rattle.std.proofs.Common.{◌≡◌, ◌+◌, ◌==◌, ◌++◌, ◌∷◌, suc, false, length, [], Result, Ok, Err, sym, subst, ap, ◌∙◌, arith}
 use Rattle.std.specs.Result.{OnOk, is_err}
 use Rattle.cw_big.specs.LargeProgram.{large_text, first_texts}
 use Rattle.cw_files.specs.Texts.{HasUnit}

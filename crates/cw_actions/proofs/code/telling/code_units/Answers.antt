@@ -6,7 +6,7 @@ use Rattle.cw_build.specs.Building.{IsLinkedOf}
 use Rattle.cw_build.specs.Compiled.{IsCompilable}
 use Rattle.cw_files.specs.Reading.{AreSegmentsOf}
 use Rattle.cw_correct.specs.Results.{IsCode}
-use Rattle.cw_actions.specs.Resulting.Closed.{out_at}
+use Rattle.cw_actions.specs.Resulting.Outside.{out_at}
 use Rattle.cw_actions.proofs.Resulting.Steps.{unlinked_tells}
 use Rattle.cw_actions.proofs.code.telling.code_units.Goals as goal
 

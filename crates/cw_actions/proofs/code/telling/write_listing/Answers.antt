@@ -3,7 +3,7 @@ use Rattle.std.specs.Prelude.{All}
 use Rattle.cw_list.specs.Rows.{layouts_of}
 use Rattle.cw_build.specs.Compiled.{IsCompilable}
 use Rattle.cw_correct.specs.Results.{IsCode}
-use Rattle.cw_actions.specs.Resulting.Closed.{out_at}
+use Rattle.cw_actions.specs.Resulting.Outside.{out_at}
 use Rattle.cw_actions.proofs.Resulting.Steps.{tells_of}
 use Rattle.cw_actions.proofs.Coding.{listing_is}
 use Rattle.cw_actions.proofs.code.telling.write_listing.Goals as goal

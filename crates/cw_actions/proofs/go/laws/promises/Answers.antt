@@ -2,7 +2,8 @@ use Rattle.std.proofs.Common.{[], refl}
 use Rattle.cw_say.specs.declared.status.Status.TheVariants.{NoMemory}
 use Rattle.cw_actions.proofs.Going.Given.{Given}
 use Rattle.cw_correct.specs.Going.{names_of}
-use Rattle.cw_actions.proofs.Going.Promised.{nothing, reading, run_goes, say_failed, keeps}
+use Rattle.cw_actions.proofs.Executing.Running.{nothing}
+use Rattle.cw_actions.proofs.Going.Promised.{reading, run_goes, say_failed, keeps}
 use Rattle.cw_actions.proofs.go.laws.promises.Goals as goal
 
 pub returns : goal.returns

@@ -6,4 +6,4 @@ pub link_units-requires : goal.link_units-requires
 link_units-requires g c = (c.as_slice.ensures ∙ c.requires.0.objects, c.requires.1)
 
 pub returns-in-Err : goal.returns-in-Err
-returns-in-Err g c = unlinked g.us c.args.limits.now c.in-Err.fault c.unlinked_status.result c.unlinked_status.ensures c.in-Err.ensures
+returns-in-Err g c = unlinked g.us c.args.limits.now c.in-Err.fault c.unlinked.result c.unlinked.ensures c.in-Err.ensures

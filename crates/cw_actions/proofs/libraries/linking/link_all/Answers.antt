@@ -1,4 +1,4 @@
-use Rattle.cw_actions.specs.Resulting.Closed.{files_at}
+use Rattle.cw_actions.specs.Resulting.Outside.{files_at}
 use Rattle.cw_actions.proofs.Archiving.Steps.{links_of, unlinked_links}
 use Rattle.cw_actions.proofs.libraries.linking.link_all.Goals as goal
 

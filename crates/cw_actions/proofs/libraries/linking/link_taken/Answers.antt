@@ -1,4 +1,4 @@
-use Rattle.cw_actions.specs.Resulting.Closed.{files_at}
+use Rattle.cw_actions.specs.Resulting.Outside.{files_at}
 use Rattle.cw_actions.proofs.Archiving.Steps.{taken_listed}
 use Rattle.cw_actions.proofs.libraries.linking.link_taken.Goals as goal
 

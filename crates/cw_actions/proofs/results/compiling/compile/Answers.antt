@@ -1,4 +1,25 @@
+use Rattle.std.proofs.Common.{[], ◌∙◌, List, ℕ, arith, refl, ap}
+use Rattle.std.specs.Prelude.{slice_index_or}
+use Rattle.cw_actions.specs.Resulting.Outside.{files_at}
+use Rattle.cw_actions.proofs.Resulting.Texts.{OneOfText}
+use Rattle.cw_actions.proofs.Resulting.Told.{units_taken, units_stopped}
+use Rattle.cw_actions.proofs.Resulting.Compiles.{first_of, stopped, written}
 use Rattle.cw_actions.proofs.results.compiling.compile.Goals as goal
 
-pub returns : goal.returns
-returns g c = λ left input_faults held out_faults. c.compile_file-status.ensures (record { held = held; faults = out_faults }) c.args.steps left input_faults _ _ _ _ c.close.ensures
+pub read_units-requires : goal.read_units-requires
+read_units-requires g c = omega (arith, c.requires.few)
+
+pub returns-in-Ok : goal.returns-in-Ok
+returns-in-Ok g c = λ left input_faults held out_faults.
+    let given : OneOfText = record { one_unit = c.one_outcome.ensures.one_unit; one_refusal = c.one_outcome.ensures.one_refusal; not_both = c.one_outcome.ensures.not_both; tokens = c.one_outcome.ensures.tokens } in
+    let (all, segments, counts) = c.in-Ok.ensures.taken in
+    let middle = c.read_units.new.files in
+    rw c.close.ensures.same
+    (written given _ (record { input = refl; faults = refl }) (record { out = refl; faults = refl }) _ (record { says = c.close.ensures.line; ended = c.close.ensures.ended }) c.in-Ok.segments.units (units_taken _ _ _ all) (files_at (g.F.Store.file middle) (g.F.Store.faults middle) (g.F.Store.absences middle)) c.in-Ok.ensures.stay counts
+    (rw (c.first_object-object.ensures ∙ ap (λ (objects : List (List ℕ)). slice_index_or objects 0 []) c.as_slice.ensures ∙ first_of c.in-Ok.segments.units _ segments.objects) at (rw c.first_name.ensures at c.save_beside-status.ensures)))
+
+pub returns-in-Err : goal.returns-in-Err
+returns-in-Err g c = λ left input_faults held out_faults.
+    let given : OneOfText = record { one_unit = c.one_outcome.ensures.one_unit; one_refusal = c.one_outcome.ensures.one_refusal; not_both = c.one_outcome.ensures.not_both; tokens = c.one_outcome.ensures.tokens } in
+    rw c.close-in-Err.ensures.same
+    (stopped given _ (record { input = refl; faults = refl }) (record { out = refl; faults = refl }) _ (record { says = c.close-in-Err.ensures.line; ended = c.close-in-Err.ensures.ended }) c.in-Err.ensures.stay (units_stopped _ _ _ _ _ c.in-Err.ensures.taken))

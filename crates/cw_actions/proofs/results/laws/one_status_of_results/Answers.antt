@@ -1,6 +1,5 @@
 use Rattle.cw_actions.proofs.Resulting.Texts.{OneOfText}
-use Rattle.cw_actions.proofs.Resulting.Statuses.{maps_once, depths_once, codes_once, shows_once, compiles_once, migrates_once}
-use Rattle.cw_actions.proofs.Resulting.Hexes.{once}
+use Rattle.cw_actions.proofs.Resulting.Statuses.{maps_once, depths_once, codes_once, shows_once, compiles_once, migrates_once, hexes_once}
 use Rattle.cw_actions.proofs.results.laws.one_status_of_results.Goals as goal
 
 pub returns : goal.returns
@@ -13,5 +12,5 @@ returns c =
       list = shows_once given;
       compile = compiles_once given;
       migrate = migrates_once c.object_format.ensures.fault;
-      hex = once;
+      hex = hexes_once;
     }

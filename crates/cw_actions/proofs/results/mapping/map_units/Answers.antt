@@ -1,7 +1,7 @@
 use Rattle.std.proofs.Common.{◌∙◌, sym, ap}
 use Rattle.cw_unit.specs.Allocation.{storage_map}
 use Rattle.cw_list.specs.Rows.{layouts_of}
-use Rattle.cw_actions.specs.Resulting.Closed.{out_at}
+use Rattle.cw_actions.specs.Resulting.Outside.{out_at}
 use Rattle.cw_correct.specs.Results.{IsMap}
 use Rattle.cw_actions.proofs.Resulting.Steps.{written_of, unlinked_tells}
 use Rattle.cw_actions.proofs.results.mapping.map_units.Goals as goal

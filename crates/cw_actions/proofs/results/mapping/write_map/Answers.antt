@@ -1,9 +1,7 @@
-use Rattle.std.proofs.Common.{List, ℕ, ◌∙◌, sym, ap, refl, subst}
+use Rattle.std.proofs.Common.{List, ◌∙◌, sym, ap, refl}
 use Rattle.cw_unit.specs.Program.{program_at}
 use Rattle.cw_unit.specs.declared.unit.Unit.{Unit as SourceUnit}
 use Rattle.cw_list.specs.Rows.{layouts_of, program_listing}
-use Rattle.cw_actions.specs.Resulting.Closed.{Out, out_at}
-use Rattle.cw_actions.specs.Resulting.Written.{GivesOut}
 use Rattle.cw_actions.proofs.Resulting.Steps.{map_is}
 use Rattle.cw_actions.proofs.results.mapping.write_map.Goals as goal
 

@@ -1,5 +1,5 @@
 use Rattle.std.proofs.Common.{refl}
-use Rattle.cw_actions.specs.Resulting.Closed.{files_at}
+use Rattle.cw_actions.specs.Resulting.Outside.{files_at}
 use Rattle.cw_actions.proofs.Resulting.Steps.{migrates_of}
 use Rattle.cw_actions.proofs.results.migrating.migrate_object.Goals as goal
 

@@ -1,25 +1,18 @@
-use Rattle.std.proofs.Common.{arith, ap, length, subst, ◌∙◌}
+use Rattle.std.proofs.Common.{subst, ◌∙◌}
 use Rattle.std.specs.Prelude.{ℕ, List}
 use Rattle.cw_i86.specs.MachineRun.{IsStart}
-use Rattle.cw_image.specs.declared.image.Image.{Image}
-use Rattle.cw_actions.proofs.Going.Library.{some_code, few_words}
+use Rattle.cw_actions.proofs.Going.Library.{can_load}
 use Rattle.cw_actions.proofs.Going.Called.{map_is}
 use Rattle.cw_actions.proofs.Tracing.Called.{watches_as}
 use Rattle.cw_actions.proofs.trace.running.watch_segments.Goals as goal
 
 pub start-requires-clause-some : goal.start-requires-clause-some
 start-requires-clause-some g c =
-    let us = c.args.segments.now.units in
-    let limits = c.args.limits.now in
-    let code = ap (λ (i : Image). length i.code) c.requires.linked.image ∙ c.linked_units.ensures.code us limits in
-    omega (arith, ap length c.as_slice-code.ensures, code, some_code us)
+    (can_load c.linked_units.ensures.code c.args.segments.now.units c.args.limits.now c.requires.limits c.requires.linked.links _ _ _ c.as_slice-code.ensures c.as_slice-words.ensures c.requires.linked.image).some
 
 pub start-requires-clause-words : goal.start-requires-clause-words
 start-requires-clause-words g c =
-    let us = c.args.segments.now.units in
-    let limits = c.args.limits.now in
-    let words = ap (λ (i : Image). length i.words) c.requires.linked.image in
-    omega (arith, ap length c.as_slice-words.ensures, words, few_words us limits, c.requires.limits.1)
+    (can_load c.linked_units.ensures.code c.args.segments.now.units c.args.limits.now c.requires.limits c.requires.linked.links _ _ _ c.as_slice-code.ensures c.as_slice-words.ensures c.requires.linked.image).words
 
 pub returns-in-Ok-start : goal.returns-in-Ok-start
 returns-in-Ok-start g c =
