@@ -12,7 +12,7 @@ use cw_texts::compile_text;
 use cw_unit::layout::Limits;
 use cw_view::View;
 use cw_word::List;
-use passes::time_text;
+use passes::{Span, Spans, time_text};
 use std::alloc::{AllocError, Global};
 use std::io;
 use std::rt::Clock;
@@ -209,6 +209,19 @@ fn time(
     Ok(())
 }
 
+// Tells the share of each pass in so many microseconds.
+fn tell(rt: &impl Eprint, spans: &[Span], whole: u128) -> anyhow::Result<()> {
+    if whole == 0 {
+        return Ok(());
+    }
+    for span in spans {
+        if let Some(hundredfold) = span.took.checked_mul(100) {
+            eprintln!(rt; "{}: {} of 100", span.pass, hundredfold / whole)?;
+        }
+    }
+    Ok(())
+}
+
 // Tells the share of each pass in compiling a text of so many statements, in hundredths; what is left goes to orders, code and the object.
 fn share(rt: &(impl Eprint + Clock), alloc: Global, statements: u32) -> anyhow::Result<()> {
     let text = long_text(alloc, statements)?;
@@ -218,16 +231,12 @@ fn share(rt: &(impl Eprint + Clock), alloc: Global, statements: u32) -> anyhow::
     let start = Instant::now(rt)?;
     let _bytes = code_of(alloc, text.as_str());
     let whole = start.elapsed(rt)?.as_micros();
-    let mut spans = Vec::new(alloc);
-    time_text(rt, alloc, text.as_bytes(), &mut spans)?;
-    if whole > 0 {
-        for span in &spans {
-            if let Some(hundredfold) = span.took.checked_mul(100) {
-                eprintln!(rt; "{}: {} of 100", span.pass, hundredfold / whole)?;
-            }
-        }
+    let mut spans = Spans::new(alloc);
+    time_text(rt, alloc, text.as_bytes(), &mut spans);
+    match spans.list() {
+        Some(list) => tell(rt, list, whole),
+        None => Ok(()),
     }
-    Ok(())
 }
 
 fn main(rt: HostRuntime) -> anyhow::Result<()> {

@@ -8,7 +8,7 @@ use cw_lex::{Token, lex};
 use cw_macro::expand;
 use cw_make::made::unit_of_named;
 use cw_parse::parse;
-use cw_scope::resolve::resolve;
+use cw_scope::resolve::{Named, resolve};
 use cw_tree::segment::Raw;
 use cw_type::StoredText;
 use cw_type::check::check_types;
@@ -23,101 +23,123 @@ pub struct Span {
     pub took: u128,
 }
 
-// Notes how long the pass took that began at this time.
-fn note(
-    rt: &impl Clock,
-    spans: &mut Vec<Span>,
-    pass: &'static str,
-    start: &Instant,
-) -> anyhow::Result<()> {
-    let took = start.elapsed(rt)?.as_micros();
-    spans.push(Span { pass, took })?;
-    Ok(())
+/// What the passes took so far. Where the clock or memory fails it keeps that, so that no pass has a way out.
+#[derive(Drop)]
+pub struct Spans {
+    list: Vec<Span>,
+    since: Option<Instant>,
+    failed: bool,
+}
+
+impl Spans {
+    /// No passes yet.
+    pub fn new(alloc: Global) -> Spans {
+        Spans {
+            list: Vec::new(alloc),
+            since: None,
+            failed: false,
+        }
+    }
+
+    /// The passes in order, unless the clock or memory failed.
+    pub fn list(&self) -> Option<&[Span]> {
+        if self.failed {
+            None
+        } else {
+            Some(self.list.as_slice())
+        }
+    }
+
+    // Begins to time a pass.
+    fn begin(&mut self, rt: &impl Clock) {
+        self.since = Instant::now(rt).ok();
+    }
+
+    // How many microseconds have gone since then.
+    fn took(&self, rt: &impl Clock) -> Option<u128> {
+        match &self.since {
+            Some(start) => match start.elapsed(rt) {
+                Ok(took) => Some(took.as_micros()),
+                Err(_) => None,
+            },
+            None => None,
+        }
+    }
+
+    // Notes how long the pass took that was begun last.
+    fn note(&mut self, rt: &impl Clock, pass: &'static str) {
+        match self.took(rt) {
+            Some(took) => {
+                if self.list.push(Span { pass, took }).is_err() {
+                    self.failed = true;
+                }
+            }
+            None => self.failed = true,
+        }
+    }
 }
 
 // Of a text in which no rule of names is broken.
-fn time_stored(
-    rt: &impl Clock,
-    alloc: Global,
-    stored: &StoredText,
-    spans: &mut Vec<Span>,
-) -> anyhow::Result<()> {
-    let start = Instant::now(rt)?;
+fn time_stored(rt: &impl Clock, alloc: Global, stored: &StoredText, spans: &mut Spans) {
+    spans.begin(rt);
     let judged = check_types(alloc, stored).is_ok();
-    note(rt, spans, "rules of types", &start)?;
+    spans.note(rt, "rules of types");
     if judged {
-        let start = Instant::now(rt)?;
+        spans.begin(rt);
         let _unit = unit_of_named(alloc, stored);
-        note(rt, spans, "unit", &start)?;
+        spans.note(rt, "unit");
     }
-    Ok(())
 }
 
-fn time_tree(
-    rt: &impl Clock,
-    alloc: Global,
-    raw: &Raw,
-    spans: &mut Vec<Span>,
-) -> anyhow::Result<()> {
-    let start = Instant::now(rt)?;
-    let Ok(named) = resolve(alloc, raw) else {
-        return Ok(());
-    };
-    note(rt, spans, "names", &start)?;
-    let start = Instant::now(rt)?;
-    let Ok(stored) = StoredText::new(alloc, named) else {
-        return Ok(());
-    };
-    note(rt, spans, "what is stored", &start)?;
-    time_stored(rt, alloc, &stored, spans)
+fn time_named(rt: &impl Clock, alloc: Global, named: Named, spans: &mut Spans) {
+    spans.begin(rt);
+    let stored = StoredText::new(alloc, named);
+    spans.note(rt, "what is stored");
+    if let Ok(stored) = &stored {
+        time_stored(rt, alloc, stored, spans);
+    }
 }
 
-fn time_expanded(
-    rt: &impl Clock,
-    alloc: Global,
-    tokens: &[Token<'_>],
-    spans: &mut Vec<Span>,
-) -> anyhow::Result<()> {
+fn time_tree(rt: &impl Clock, alloc: Global, raw: &Raw, spans: &mut Spans) {
+    spans.begin(rt);
+    let named = resolve(alloc, raw);
+    spans.note(rt, "names");
+    if let Ok(named) = named {
+        time_named(rt, alloc, named, spans);
+    }
+}
+
+fn time_expanded(rt: &impl Clock, alloc: Global, tokens: &[Token<'_>], spans: &mut Spans) {
     if tokens.len() > 65_535 {
-        return Ok(());
+        return;
     }
-    let start = Instant::now(rt)?;
-    let Ok(raw) = parse(alloc, tokens) else {
-        return Ok(());
-    };
-    note(rt, spans, "tree", &start)?;
-    time_tree(rt, alloc, &raw, spans)
+    spans.begin(rt);
+    let raw = parse(alloc, tokens);
+    spans.note(rt, "tree");
+    if let Ok(raw) = &raw {
+        time_tree(rt, alloc, raw, spans);
+    }
 }
 
-fn time_tokens(
-    rt: &impl Clock,
-    alloc: Global,
-    tokens: &[Token<'_>],
-    spans: &mut Vec<Span>,
-) -> anyhow::Result<()>
+fn time_tokens(rt: &impl Clock, alloc: Global, tokens: &[Token<'_>], spans: &mut Spans)
     requires { AreOfText (map view tokens.now) }
 {
-    let start = Instant::now(rt)?;
-    let Ok(expanded) = expand(alloc, tokens) else {
-        return Ok(());
-    };
-    note(rt, spans, "expansion", &start)?;
-    time_expanded(rt, alloc, expanded.as_slice(), spans)
+    spans.begin(rt);
+    let expanded = expand(alloc, tokens);
+    spans.note(rt, "expansion");
+    if let Ok(expanded) = &expanded {
+        time_expanded(rt, alloc, expanded.as_slice(), spans);
+    }
 }
 
 /// Makes a text's unit pass by pass, and notes how long each took, up to the one that refuses it.
-pub fn time_text(
-    rt: &impl Clock,
-    alloc: Global,
-    text: &[u8],
-    spans: &mut Vec<Span>,
-) -> anyhow::Result<()>
+pub fn time_text(rt: &impl Clock, alloc: Global, text: &[u8], spans: &mut Spans)
     requires { length text.now ≤ 1048576 }
 {
-    let start = Instant::now(rt)?;
-    let Ok(tokens) = lex(alloc, text) else {
-        return Ok(());
-    };
-    note(rt, spans, "tokens", &start)?;
-    time_tokens(rt, alloc, tokens.as_slice(), spans)
+    spans.begin(rt);
+    let tokens = lex(alloc, text);
+    spans.note(rt, "tokens");
+    if let Ok(tokens) = &tokens {
+        time_tokens(rt, alloc, tokens.as_slice(), spans);
+    }
 }
