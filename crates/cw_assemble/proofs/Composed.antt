@@ -31,22 +31,34 @@ use Rattle.cw_tmpl.proofs.Sizes.{size_to, size_everywhere, size_of_templates, la
 use Rattle.cw_tmpl.proofs.Ways.{landing_long, routine_long, size_of_landings}
 use Rattle.cw_tmpl.proofs.Growing.{adds_then, Coming, coming_more}
 
+-- pieces, and pieces behind them
+infixr 5 ◌⨟◌
+pub ◌⨟◌ : {a b c : Assembly} {ps qs : List Coded} → Adds a ps b → Adds b qs c → Adds a (ps ++ qs) c
+f ⨟ s = adds_then _ _ _ _ _ f s
+
+-- the pieces of a value that is named by another way, alone and with others behind them
+pub by_same : {A : Type 0} {x y : A} {old new : Assembly} (f : A → List Coded) → x ≡ y → Adds old (f x) new → Adds old (f y) new
+by_same {old = old} {new = new} f e a = subst (λ z. Adds old (f z) new) e a
+
+pub by_first : {A : Type 0} {x y : A} {old new : Assembly} (f : A → List Coded) (qs : List Coded) → x ≡ y → Adds old (f x ++ qs) new → Adds old (f y ++ qs) new
+by_first {old = old} {new = new} f qs e a = subst (λ z. Adds old (f z ++ qs) new) e a
+
 as_pieces : (old new : Assembly) (ps qs : List Coded) → ps ≡ qs → Adds old ps new → Adds old qs new
 as_pieces old new ps qs e h = subst (λ xs. Adds old xs new) e h
 
+-- what depends on the place behind other pieces
+at_end : {old one new : Assembly} {before : List Coded} (f : ℕ → List Coded) → Adds old before one → Adds one (f (length one.bytes)) new → Adds old (before ++ f (length old.bytes + pieces_size before)) new
+at_end {old = old} {before = before} f a b = a ⨟ by_same f (ap length a.bytes ∙ length-append old.bytes (blanks before)) b
+
 -- a comparison, and the jump behind it
-pub branch_added : (old one new : Assembly) (before : List Coded) (short : Bool) (c : Comparator) (to : ℕ) → Adds old before one
+pub branch_added : {old one new : Assembly} {before : List Coded} (short : Bool) (c : Comparator) (to : ℕ) → Adds old before one
     → Adds one (branch_by short c (length one.bytes) to) new → Adds old (before ++ branch_by short c (length old.bytes + pieces_size before) to) new
-branch_added old one new before short c to a b =
-    let place : length one.bytes ≡ length old.bytes + pieces_size before = ap length a.bytes ∙ length-append old.bytes (blanks before) in
-    adds_then old one new before (branch_by short c (length old.bytes + pieces_size before) to) a (subst (λ n. Adds one (branch_by short c n to) new) place b)
+branch_added short c to a b = at_end (λ n. branch_by short c n to) a b
 
 -- an operation, and the check behind it
-pub check_added : (old one new : Assembly) (before : List Coded) (short : Bool) (line to : ℕ) → Adds old before one
+pub check_added : {old one new : Assembly} {before : List Coded} (short : Bool) (line to : ℕ) → Adds old before one
     → Adds one (checked_by short line (length one.bytes) to) new → Adds old (before ++ checked_by short line (length old.bytes + pieces_size before) to) new
-check_added old one new before short line to a b =
-    let place : length one.bytes ≡ length old.bytes + pieces_size before = ap length a.bytes ∙ length-append old.bytes (blanks before) in
-    adds_then old one new before (checked_by short line (length old.bytes + pieces_size before) to) a (subst (λ n. Adds one (checked_by short line n to) new) place b)
+check_added short line to a b = at_end (λ n. checked_by short line n to) a b
 
 -- the first of the items from a place on
 pub item_first : {A : Type 0} (xs : List A) (k : ℕ) (x : A) → k < length xs → x ≡ get_or xs k x → drop k xs ≡ x ∷ drop (k + 1) xs

@@ -1,5 +1,5 @@
 -- Lists of places that grow by one in each turn of a loop.
-use Rattle.std.proofs.Common.{◌≡◌, ℕ, suc, ◌+◌, ◌<◌, List, [], ◌∷◌, ◌++◌, length, drop, drop-cons, get_or, Option, sym, ap, ap₂, ◌∙◌, append_assoc, arith}
+use Rattle.std.proofs.Common.{◌≡◌, ℕ, suc, ◌+◌, ◌<◌, List, [], ◌∷◌, ◌++◌, length, drop, drop-cons, get_or, Option, sym, ap, ap₂, ◌∙◌, append_assoc, subst, arith}
 use Rattle.std.specs.Prelude.{Bool, ◌&&◌, not}
 use Rattle.cw_unit.specs.declared.unit.Goal.{Goal}
 use Rattle.cw_order.specs.declared.order.LabelMark.{LabelMark}
@@ -18,6 +18,10 @@ pub item_here : {A : Type 0} (xs : List A) (k : ℕ) (d : A) → k < length xs �
 item_here xs k d lt =
     let e : suc k ≡ k + 1 = omega arith in
     drop-cons xs k d lt ∙ ap (λ n. get_or xs k d ∷ drop n xs) e
+
+-- a place in a list that is named by another way
+pub at_index : {A : Type 0} {xs ys : List A} (k : ℕ) → xs ≡ ys → k < length xs → k < length ys
+at_index k same lt = subst (λ l. k < length l) same lt
 
 -- the place of an order's code, and that behind its block
 pub place_more : (forms : Forms) (places new : List ℕ) (at left behind next : ℕ) (list : List Order) (k : ℕ) (b : Block) (o : Order) (short : Bool) (whole : List ℕ) → k < length list → o ≡ get_or list k o

@@ -118,11 +118,7 @@ stable false h = absurd (h refl)
 
 says-label : (b : DescBody) → says_label (Some b) ≡ true → b ≡ bodies.Label
 says-label bodies.Label e = refl
-says-label bodies.Switch e = absurd (cc)
-says-label (bodies.Proc s) e = absurd (cc)
-says-label (bodies.Word s) e = absurd (cc)
-says-label (bodies.Array s dims) e = absurd (cc)
-says-label (bodies.Table w l es) e = absurd (cc)
+says-label _ e = absurd (cc)
 
 module _ (us : List SourceUnit) (passed : All (λ u. IsTrue (is_built u)) us) where
   pub at : (g : ℕ) (u : SourceUnit) → slice_get us g ≡ Some u → Parts u

@@ -141,34 +141,17 @@ module _ (us : List SourceUnit) (m : Map) (limits : Limits) (g : ℕ) (u : Sourc
     call-same wanted target.Write (Some ks) = refl
 
     argument-same : (x : Arg-F (Option Kind) Bool Bool Bool Bool) → argument_step p 0 o x ≡ argument_step q g w x
-    argument-same (layer.Value e f) = refl
-    argument-same (layer.Place r) = refl
-    argument-same (layer.Array i l) = refl
-    argument-same (layer.Same i) = refl
-    argument-same (layer.Base i) = refl
     argument-same (layer.Goal x) = ap (λ b. kind_if b LabelKind) (reaches-goal x)
     argument-same (layer.Switch n) = ap (λ b. kind_if b SwitchKind) (own-switch n)
     argument-same (layer.CommonSwitch d) = ap (λ b. kind_if b SwitchKind) (switch-of d)
     argument-same (layer.Proc n) = ap procedure_kind (own-procedure n)
     argument-same (layer.CommonProc d) = common-kind d
     argument-same (layer.Special k) = control-same k
+    argument-same _ = refl
 
     expression-layer : (x : Expr-F (Option Kind) Bool Bool Bool Bool) → expression_step p 0 o x ≡ expression_step q g w x
-    expression-layer (layer.Num n) = refl
-    expression-layer (layer.Const z) = refl
-    expression-layer (layer.Text i) = refl
-    expression-layer (layer.Read r) = refl
     expression-layer (layer.Call t args) = call-same true t (kinds_of args)
-    expression-layer (layer.Force f e) = refl
-    expression-layer (layer.Locate r) = refl
-    expression-layer (layer.Bits t b e) = refl
-    expression-layer (layer.Logic op a b) = refl
-    expression-layer (layer.Sum a b) = refl
-    expression-layer (layer.Less a b) = refl
-    expression-layer (layer.Minus a) = refl
-    expression-layer (layer.Times a b) = refl
-    expression-layer (layer.Over a b) = refl
-    expression-layer (layer.Choice c a b) = refl
+    expression-layer _ = refl
 
     arguments-are : argument_step p 0 o ≡ argument_step q g w
     arguments-are = fun_ext argument-same

@@ -12,10 +12,7 @@ use Rattle.cw_built.specs.Named.{names_home, names_root, is_long}
 
 by-home : (u : SourceUnit) (who owner : Option ℕ) (r : ℕ) (x : Home) → may_name who owner (sort_of u r owner x) ≡ names_home who owner x
 by-home u who owner r (home.Common d) = refl
-by-home u who owner r home.Own = refl
-by-home u who owner r (home.Absolute a) = refl
-by-home u who owner r home.Frame = refl
-by-home u who owner r (home.Over b o) = refl
+by-home u who owner r _ = refl
 
 pub names : (u : SourceUnit) (who : Option ℕ) (n : ℕ) (i : Item) → IsStorable u → slice_get u.items n ≡ Some i
     → may_name who (owner_in (slice_get u.items (root_of u n))) (sort_of_family u (family_of u n)) ≡ names_root who (slice_get u.items (root_of u n))

@@ -30,28 +30,11 @@ rows a b width h =
     (word a p.0, word b q.0, leb-true width 32768 q.1)
 
 pub coded-order : (o : Order) → IsTrue (has_numbers o) → HasCode o
-coded-order order.Save h = tt
-coded-order (order.Const w) h = tt
-coded-order (order.Home family offset) h = tt
-coded-order order.Load h = tt
-coded-order order.Store h = tt
-coded-order (order.Add line) h = tt
-coded-order (order.Sub line) h = tt
-coded-order (order.Neg line) h = tt
-coded-order order.WriteByte h = tt
-coded-order (order.Jump m) h = tt
-coded-order (order.JumpIf c m) h = tt
-coded-order order.Mark h = tt
-coded-order (order.Start n) h = tt
-coded-order order.NextBody h = tt
 coded-order (order.Rescale from to line) h = let p = both (nat_le from 15) (nat_le to 15) h in (leb-true from 15 p.0, leb-true to 15 p.1)
 coded-order (order.Mul (pos n) line) h = leb-true n 15 h
 coded-order (order.Mul (negsuc n) line) h = ltb-true n 30 h
 coded-order (order.Div (pos n) line) h = leb-true n 16 h
 coded-order (order.Div (negsuc n) line) h = ltb-true n 15 h
-coded-order order.And h = tt
-coded-order order.Or h = tt
-coded-order order.Xor h = tt
 coded-order (order.Take t b) h = part t b h
 coded-order (order.LoadPart t b is_signed) h = part t b h
 coded-order (order.StorePart t b) h = part t b h
@@ -60,11 +43,7 @@ coded-order (order.Element lower span line) h = word lower h
 coded-order (order.ElementOfTwo lower second width line) h = rows lower second width h
 coded-order (order.ElementInside lower second width span) h = rows lower second width h
 coded-order (order.Entry width word span line) h = let p = both (nat_le width 32768) (nat_lt word 32768) h in (leb-true width 32768 p.0, ltb-true word 32768 p.1)
-coded-order (order.InArea line) h = tt
 coded-order (order.InBounds lower upper line) h = words lower upper h
-coded-order order.Less h = tt
-coded-order order.Drop h = tt
-coded-order order.ReadByte h = tt
 coded-order (order.FrameHome n) h = ltb-true n 65536 h
 coded-order (order.Enter size) h = ltb-true size 65536 h
 coded-order (order.BindFrame k offset) h = let p = both (nat_lt k 256) (nat_lt offset 32768) h in (ltb-true k 256 p.0, ltb-true offset 32768 p.1)
@@ -76,23 +55,7 @@ coded-order (order.GoSpecial k) h = ltb-true k 256 h
 coded-order (order.GoSwitchSpecial k line) h = ltb-true k 256 h
 coded-order (order.LoopWay marks) h = ltb-true (length marks) 32768 h
 coded-order (order.SwitchWay marks line) h = ltb-true (length marks) 32768 h
-coded-order (order.Exhausted m) h = tt
-coded-order (order.SetVariable line) h = tt
-coded-order (order.AddStep line) h = tt
-coded-order (order.PutVariable line) h = tt
-coded-order (order.NextStep x line m) h = tt
-coded-order (order.CallProc q line) h = tt
-coded-order (order.CallCommon d line) h = tt
-coded-order (order.LabelOut l) h = tt
-coded-order (order.LabelCommon d) h = tt
-coded-order (order.SwitchOut n) h = tt
-coded-order (order.SwitchCommon d) h = tt
-coded-order (order.ProcOut q) h = tt
-coded-order (order.ProcCommon d) h = tt
-coded-order (order.GoMain m) h = tt
-coded-order (order.GoCommon d) h = tt
-coded-order (order.GoSwitch n line) h = tt
-coded-order (order.GoSwitchCommon d line) h = tt
+coded-order _ h = tt
 
 -- the parts of `has_code`
 pub lined : (o : Order) → IsTrue (has_code o) → IsTrue (has_numbers o) × (line_of o < 65536)

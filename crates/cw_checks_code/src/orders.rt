@@ -1,48 +1,69 @@
 //! Programs of orders, with what they write and how they end, by hand from the orders' meaning.
 use crate::processor::{Run, image_of};
-use cw_interpreter::{End, Machine, program};
+use cw_interpreter::{End, Machine, Program, program};
 use cw_ports::ImageEnd;
 use std::alloc::{AllocError, Global};
 use std::test::Fail;
 
-/// Bytes as numbers, and how the run ended: nothing, or a stop's kind, segment and line.
-pub fn told(alloc: Global, output: &[u8], end: &str) -> Result<String, AllocError> {
-    let mut told = String::new(alloc);
-    let mut between = "";
-    for byte in output {
-        told.push_str(format!(in alloc; "{between}{byte}")?.as_str())?;
-        between = " ";
+/// What a row tells of a run: the bytes that are written, as numbers, and how it ended: nothing, or a stop's kind, segment and line.
+#[derive(Clone, Copy)]
+pub struct Told<'a> {
+    pub bytes: &'a str,
+    pub end: &'a str,
+}
+
+// Whether the bytes have these numbers, between which stands one blank.
+fn are_numbers(bytes: &[u8], numbers: &str) -> bool {
+    if numbers.is_empty() {
+        return bytes.is_empty();
     }
-    told.push('|')?;
-    told.push_str(end)?;
-    Ok(told)
+    let mut left = bytes;
+    for number in numbers.split(' ') {
+        match (left, number.parse::<u8>()) {
+            ([first, rest @ ..], Ok(byte)) if *first == byte => left = rest,
+            _ => return false,
+        }
+    }
+    left.is_empty()
 }
 
-/// What an interpreted run showed.
-pub fn told_of_orders(alloc: Global, output: &[u8], end: End) -> Result<String, AllocError> {
-    let end = match end {
-        End::Ended => String::new(alloc),
-        End::Stopped(kind, segment, line) => format!(in alloc; "{kind} {segment} {line}")?,
-        End::Stuck => String::from_str(alloc, "stuck")?,
-        End::Unfinished => String::from_str(alloc, "unfinished")?,
-        End::NoMemory => String::from_str(alloc, "no memory")?,
+fn number(word: Option<&str>) -> Option<u64> {
+    word?.parse::<u64>().ok()
+}
+
+fn is_stop(end: &str, kind: u8, segment: u64, line: u16) -> bool {
+    let mut words = end.split(' ');
+    let is_kind = number(words.next()) == Some(u64::from(kind));
+    let is_segment = number(words.next()) == Some(segment);
+    let is_line = number(words.next()) == Some(u64::from(line));
+    is_kind && is_segment && is_line && words.next().is_none()
+}
+
+/// Whether an interpreted run showed what is told.
+pub fn is_told_of_orders(output: &[u8], end: End, told: Told<'_>) -> bool {
+    let ends = match end {
+        End::Ended => told.end.is_empty(),
+        End::Stopped(kind, segment, line) => is_stop(told.end, kind, segment as u64, line),
+        End::Stuck => told.end == "stuck",
+        End::Unfinished => told.end == "unfinished",
+        End::NoMemory => told.end == "no memory",
     };
-    told(alloc, output, end.as_str())
+    ends && are_numbers(output, told.bytes)
 }
 
-/// What a run on the processor showed.
-pub fn told_of_code(alloc: Global, output: &[u8], end: ImageEnd) -> Result<String, AllocError> {
-    let end = match end {
-        ImageEnd::Ended => String::new(alloc),
+/// Whether a run on the processor showed what is told.
+pub fn is_told_of_code(output: &[u8], end: ImageEnd, told: Told<'_>) -> bool {
+    let ends = match end {
+        ImageEnd::Ended => told.end.is_empty(),
         ImageEnd::Stopped {
             kind,
             segment,
             line,
-        } => format!(in alloc; "{kind} {segment} {line}")?,
-        ImageEnd::Unfinished => String::from_str(alloc, "unfinished")?,
-        _ => String::from_str(alloc, "fault")?,
+        } => is_stop(told.end, kind, u64::from(segment), line),
+        ImageEnd::Unfinished => told.end == "unfinished",
+        _ => told.end == "fault",
     };
-    told(alloc, output, end.as_str())
+    ends && are_numbers(output, told.bytes)
 }
 
 /// The bytes of a list of numbers.
@@ -322,30 +343,58 @@ pub const STEPS: u64 = 400_000;
 
 pub const ORDER_STEPS: u32 = 200_000;
 
-// What the run of orders shows, from a data area of zeros.
-fn interpreted(alloc: Global, text: &str, input: &[u8]) -> Result<String, AllocError> {
-    let Some(program) = program(alloc, text) else {
-        return String::from_str(alloc, "unread");
-    };
+// Whether the run of a program, from a data area of zeros, shows what is told.
+fn is_run(
+    alloc: Global,
+    program: &Program,
+    input: &[u8],
+    told: Told<'_>,
+) -> Result<bool, AllocError> {
     let memory = vec![in alloc; 0_i16; program.limits.area as usize]?;
-    let mut machine = Machine::new(alloc, &program, memory, input);
+    let mut machine = Machine::new(alloc, program, memory, input);
     let end = machine.run(ORDER_STEPS);
-    told_of_orders(alloc, machine.output(), end)
+    Ok(is_told_of_orders(machine.output(), end, told))
+}
+
+// Whether that of orders does.
+fn is_interpreted(
+    alloc: Global,
+    text: &str,
+    input: &[u8],
+    told: Told<'_>,
+) -> Result<bool, AllocError> {
+    match program(alloc, text) {
+        Some(program) => is_run(alloc, &program, input, told),
+        None => Ok(false),
+    }
+}
+
+fn run_program(alloc: Global, program: &Program, input: &[u8]) -> Option<Run> {
+    let code = image_of(alloc, program)?;
+    Run::new(alloc, &code, &[], input)
 }
 
 fn run_of(alloc: Global, text: &str, input: &[u8]) -> Option<Run> {
     let program = program(alloc, text)?;
-    let code = image_of(alloc, &program)?;
-    Run::new(alloc, &code, &[], input)
+    run_program(alloc, &program, input)
 }
 
-// What the run of their code shows.
-fn processed(alloc: Global, text: &str, input: &[u8]) -> Result<String, AllocError> {
-    let Some(mut run) = run_of(alloc, text, input) else {
-        return String::from_str(alloc, "no code");
-    };
-    let end = run.go_on(STEPS);
-    told_of_code(alloc, run.output(), end)
+// Whether that of their code does.
+fn is_processed(alloc: Global, text: &str, input: &[u8], told: Told<'_>) -> bool {
+    match run_of(alloc, text, input) {
+        Some(mut run) => {
+            let end = run.go_on(STEPS);
+            is_told_of_code(run.output(), end, told)
+        }
+        None => false,
+    }
+}
+
+// Whether both do.
+fn is_row(alloc: Global, text: &str, input: &str, told: Told<'_>) -> Result<bool, AllocError> {
+    let input = bytes_of(alloc, input)?;
+    let is_interpreted = is_interpreted(alloc, text, &input, told)?;
+    Ok(is_interpreted && is_processed(alloc, text, &input, told))
 }
 
 // Orders and their code show what the rows say.
@@ -361,18 +410,7 @@ fn programs(rt: HostRuntime) -> Result<(), Fail> {
             parts.next(),
             parts.next(),
         ) {
-            let input = bytes_of(alloc, input)?;
-            let wanted = format!(in alloc; "{bytes}|{end}")?;
-            assert_eq!(rt;
-                interpreted(alloc, text, &input)?.as_str(),
-                wanted.as_str(),
-                "{text}"
-            );
-            assert_eq!(rt;
-                processed(alloc, text, &input)?.as_str(),
-                wanted.as_str(),
-                "{text}"
-            );
+            assert!(rt; is_row(alloc, text, input, Told { bytes, end })?, "{text}");
             count = count.wrapping_add(1);
         }
     }
@@ -416,20 +454,29 @@ fn coverage(rt: HostRuntime) -> Result<(), Fail> {
     Ok(())
 }
 
+// Whether one byte is written within 112 instructions, and the other within the next 112.
+fn is_soon_out(alloc: Global, text: &str) -> bool {
+    let Some(mut run) = run_of(alloc, text, b"") else {
+        return false;
+    };
+    run.go_until(1, 112);
+    let is_begun = !run.output().is_empty();
+    run.go_on(112);
+    is_begun && run.output() == b"A\x02".as_slice()
+}
+
 // A jump out of thousands of calls takes no more than the 224 instructions that a step of the source may: one byte is written within 112 of
 // them, and the other within the next 112.
 #[test]
 fn jumps_out(rt: HostRuntime) -> Result<(), Fail> {
     let alloc = rt.alloc();
+    let told = Told {
+        bytes: "65 2",
+        end: "",
+    };
     for &text in JUMPS {
-        assert_eq!(rt; interpreted(alloc, text, b"")?.as_str(), "65 2|");
-        let Some(mut run) = run_of(alloc, text, b"") else {
-            panic!(&rt; "no code");
-        };
-        run.go_until(1, 112);
-        assert!(rt; !run.output().is_empty());
-        run.go_on(112);
-        assert_eq!(rt; run.output(), b"A\x02".as_slice());
+        assert!(rt; is_interpreted(alloc, text, b"", told)?, "{text}");
+        assert!(rt; is_soon_out(alloc, text), "{text}");
     }
     Ok(())
 }

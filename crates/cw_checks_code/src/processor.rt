@@ -22,14 +22,27 @@ fn code_of(alloc: Global, orders: &Orders) -> Option<Code> {
     }
 }
 
+// The codes of the segments.
+fn codes_of(alloc: Global, program: &Program) -> Option<Vec<Code>> {
+    let mut codes = Vec::new(alloc);
+    for segment in program.segments.iter() {
+        codes.push(code_of(alloc, &segment.orders)?).ok()?;
+    }
+    Some(codes)
+}
+
+// Where the code behind a segment's begins.
+fn behind(at: u32, code: &Code) -> Option<u32> {
+    at.checked_add(u32::try_from(code.bytes.as_slice().len()).ok()?)
+}
+
 // Where the code of each segment begins, behind the library.
 fn starts_of(alloc: Global, codes: &[Code]) -> Option<Vec<u32>> {
-    let mut starts = Vec::new(alloc);
     let mut at = u32::try_from(base_code().len()).ok()?;
+    let mut starts = Vec::new(alloc);
     for code in codes {
         starts.push(at).ok()?;
-        let size = u32::try_from(code.bytes.as_slice().len()).ok()?;
-        at = at.checked_add(size)?;
+        at = behind(at, code)?;
     }
     Some(starts)
 }
@@ -43,6 +56,12 @@ fn place_in(code: &Code, definition: Def) -> Option<u32> {
     place.copied()
 }
 
+// The place of a definition in the image.
+fn place_of(codes: &[Code], starts: &[u32], segment: usize, definition: Def) -> Option<u16> {
+    let place = place_in(codes.get(segment)?, definition)?;
+    u16::try_from(starts.get(segment)?.checked_add(place)?).ok()
+}
+
 // The places of what the descriptors of a segment name.
 fn definitions_of(
     alloc: Global,
@@ -52,41 +71,72 @@ fn definitions_of(
 ) -> Option<Vec<u16>> {
     let mut places = vec![in alloc; 0_u16; 16].ok()?;
     for (descriptor, segment, definition) in defined {
-        let place = place_in(codes.get(*segment)?, *definition)?;
-        let place = starts.get(*segment)?.checked_add(place)?;
-        *places.get_mut(*descriptor as usize)? = u16::try_from(place).ok()?;
+        *places.get_mut(*descriptor as usize)? = place_of(codes, starts, *segment, *definition)?;
     }
     Some(places)
 }
 
-/// The code of a program's image: the library, and the code of the segments, linked.
-pub fn image_of(alloc: Global, program: &Program) -> Option<Vec<u8>> {
-    let mut codes = Vec::new(alloc);
-    for segment in program.segments.iter() {
-        codes.push(code_of(alloc, &segment.orders)?).ok()?;
+// Where the code behind a segment of this number begins, or what ends the program.
+fn next_of(starts: &[u32], number: usize) -> Option<u16> {
+    match starts.get(number) {
+        Some(place) => u16::try_from(*place).ok(),
+        None => base_entry(0),
     }
-    let starts = starts_of(alloc, &codes)?;
+}
+
+// Fills in the code of the segment at this place.
+fn fill_segment(
+    alloc: Global,
+    image: &mut [u8],
+    program: &Program,
+    codes: &[Code],
+    starts: &[u32],
+    place: usize,
+) -> Option<()> {
+    let segment = program.segments.get(place)?;
+    let code = codes.get(place)?;
+    let start = *starts.get(place)?;
+    let number = place.wrapping_add(1);
+    let next = next_of(starts, number)?;
+    let number = u16::try_from(number).ok()?;
+    let definitions = definitions_of(alloc, &segment.defined, codes, starts)?;
+    let links = Links {
+        homes: &segment.homes,
+        definitions: &definitions,
+        start,
+        number,
+        next,
+    };
+    fill(image, code.relocs.as_slice(), &links, &program.limits);
+    Some(())
+}
+
+// The library, and the codes behind it.
+fn joined(alloc: Global, codes: &[Code]) -> Option<Vec<u8>> {
     let mut image = base_code().to_vec(alloc).ok()?;
-    for code in codes.iter() {
+    for code in codes {
         image.extend_from_slice(code.bytes.as_slice()).ok()?;
     }
-    for (k, segment) in program.segments.iter().enumerate() {
-        let code = codes.get(k)?;
-        let next = match starts.get(k.wrapping_add(1)) {
-            Some(place) => u16::try_from(*place).ok()?,
-            None => base_entry(0)?,
-        };
-        let definitions = definitions_of(alloc, &segment.defined, &codes, &starts)?;
-        let links = Links {
-            homes: &segment.homes,
-            definitions: &definitions,
-            start: *starts.get(k)?,
-            number: u16::try_from(k.wrapping_add(1)).ok()?,
-            next,
-        };
-        fill(&mut image, code.relocs.as_slice(), &links, &program.limits);
+    Some(image)
+}
+
+fn linked_at(alloc: Global, program: &Program, codes: &[Code], starts: &[u32]) -> Option<Vec<u8>> {
+    let mut image = joined(alloc, codes)?;
+    for place in 0..codes.len() {
+        fill_segment(alloc, image.as_mut_slice(), program, codes, starts, place)?;
     }
     Some(image)
+}
+
+fn linked(alloc: Global, program: &Program, codes: &[Code]) -> Option<Vec<u8>> {
+    let starts = starts_of(alloc, codes)?;
+    linked_at(alloc, program, codes, &starts)
+}
+
+/// The code of a program's image: the library, and the code of the segments, linked.
+pub fn image_of(alloc: Global, program: &Program) -> Option<Vec<u8>> {
+    let codes = codes_of(alloc, program)?;
+    linked(alloc, program, &codes)
 }
 
 /// How many bytes are written at most.
@@ -100,17 +150,24 @@ pub struct Run {
     out: MemSink,
 }
 
+fn source(alloc: Global, input: &[u8]) -> Option<MemSource> {
+    let bytes = List::of(input.to_vec(alloc).ok()?);
+    Some(MemSource::new(bytes, MOST, List::new(alloc)))
+}
+
 impl Run {
     /// A run over this input that begins with these words of the data area.
     pub fn new(alloc: Global, code: &[u8], words: &[u16], input: &[u8]) -> Option<Run> {
         if code.is_empty() || code.len() > 65_536 || words.len() > 32_768 {
             return None;
         }
-        let cpu = Cpu::start(alloc, code, words).ok()?;
-        let bytes = List::of(input.to_vec(alloc).ok()?);
-        let input = MemSource::new(bytes, MOST, List::new(alloc));
+        let input = source(alloc, input)?;
         let out = MemSink::new(alloc, MOST, MOST, List::new(alloc)).ok()?;
-        Some(Run { cpu, input, out })
+        Some(Run {
+            cpu: Cpu::start(alloc, code, words).ok()?,
+            input,
+            out,
+        })
     }
 
     /// Goes on for so many instructions at most.

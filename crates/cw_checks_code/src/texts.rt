@@ -1,14 +1,16 @@
 //! Small texts, with what they write and how they end, by hand from the rules of the language.
-use crate::orders::{ORDER_STEPS, STEPS, bytes_of, told_of_code, told_of_orders};
+use crate::orders::{ORDER_STEPS, STEPS, Told, bytes_of, is_told_of_code, is_told_of_orders};
 use crate::processor::Run;
 use cw_files::Segment as Compiled;
 use cw_gen_unit::orders;
 use cw_interpreter::{Machine, Program, Segment};
 use cw_link::{Linked, link};
+use cw_order::Orders;
 use cw_ports::ImageEnd;
 use cw_texts::compile_text;
 use cw_tmpl::base_code;
 use cw_unit::layout::Limits;
+use cw_unit::unit::{Def, Unit};
 use cw_view::View;
 use std::alloc::{AllocError, Global};
 use std::test::Fail;
@@ -128,16 +130,23 @@ ABSOLUTE (INTEGER A / 50; INTEGER ARRAY B[0:2] / 51);|B[0] := 7; [50] := 8; W(A)
 |RECURSIVE C;~C;~C|||6 1 2
 |SWITCH S := A;~PROCEDURE P;~GOTO S[2];~A: P|||3 1 3";
 
+/// The bytes of a text, where `~` stands for the end of a line.
+pub fn lines_of(alloc: Global, text: &str) -> Result<Vec<u8>, AllocError> {
+    let mut bytes = text.as_bytes().to_vec(alloc)?;
+    for byte in bytes.as_mut_slice() {
+        if *byte == b'~' {
+            *byte = b'\n';
+        }
+    }
+    Ok(bytes)
+}
+
 // A text: with further communicators, and this between BEGIN and END.
 fn text_of(alloc: Global, communicators: &str, body: &str) -> Result<Vec<u8>, AllocError> {
     let text = format!(in alloc;
         "LIBRARY (INTEGER PROCEDURE READBYTE; PROCEDURE WRITEBYTE(VALUE INTEGER)); {communicators} DEFINE W \"WRITEBYTE\"; SEGMENT A BEGIN {body} END FINISH"
     )?;
-    let mut bytes = Vec::new(alloc);
-    for byte in text.as_bytes() {
-        bytes.push(if *byte == b'~' { b'\n' } else { *byte })?;
-    }
-    Ok(bytes)
+    lines_of(alloc, text.as_str())
 }
 
 /// An object by itself, linked.
@@ -155,44 +164,63 @@ struct Built {
     linked: Linked,
 }
 
-fn compiled(alloc: Global, text: &[u8]) -> Option<Built> {
-    if text.len() > 1_048_576 {
-        return None;
-    }
-    let Ok(compiled) = compile_text(alloc, text, 0) else {
-        return None;
-    };
-    let Compiled { unit, made } = compiled;
-    let orders = orders(alloc, &unit, &made.layout).ok()?;
-    let linked = link_one(alloc, made.object.as_slice())?;
+fn homes_of(alloc: Global, linked: &Linked) -> Option<Vec<u16>> {
+    let homes = linked.map.homes.as_slice().first()?;
+    homes.as_slice().to_vec(alloc).ok()
+}
+
+fn arguments_of(alloc: Global, unit: &Unit) -> Option<Vec<usize>> {
     let mut arguments = Vec::new(alloc);
     for procedure in unit.procs.as_slice() {
         arguments.push(procedure.params.as_slice().len()).ok()?;
     }
+    Some(arguments)
+}
+
+fn defined_of(alloc: Global, unit: &Unit) -> Option<Vec<(u16, usize, Def)>> {
     let mut defined = Vec::new(alloc);
     for (descriptor, definition) in unit.defined.as_slice() {
         defined.push((*descriptor, 0, *definition)).ok()?;
     }
-    let homes = linked
-        .map
-        .homes
-        .as_slice()
-        .first()?
-        .as_slice()
-        .to_vec(alloc)
-        .ok()?;
-    let segment = Segment {
+    Some(defined)
+}
+
+fn segment_of(alloc: Global, orders: Orders, unit: &Unit, linked: &Linked) -> Option<Segment> {
+    let homes = homes_of(alloc, linked)?;
+    let arguments = arguments_of(alloc, unit)?;
+    Some(Segment {
         orders,
         homes,
         arguments,
-        defined,
-    };
-    let segments = vec![in alloc; segment].ok()?;
-    let program = Program {
-        segments,
+        defined: defined_of(alloc, unit)?,
+    })
+}
+
+fn program_of(alloc: Global, segment: Segment) -> Option<Program> {
+    Some(Program {
+        segments: vec![in alloc; segment].ok()?,
         limits: LIMITS,
-    };
+    })
+}
+
+fn linked_with(alloc: Global, orders: Orders, unit: &Unit, object: &[u8]) -> Option<Built> {
+    let linked = link_one(alloc, object)?;
+    let segment = segment_of(alloc, orders, unit, &linked)?;
+    let program = program_of(alloc, segment)?;
     Some(Built { program, linked })
+}
+
+fn compiled(alloc: Global, text: &[u8]) -> Option<Built> {
+    if text.len() > 1_048_576 {
+        return None;
+    }
+    let Ok(Compiled { unit, made }) = compile_text(alloc, text, 0) else {
+        return None;
+    };
+    match orders(alloc, &unit, &made.layout) {
+        Ok(orders) => linked_with(alloc, orders, &unit, made.object.as_slice()),
+        Err(_) => None,
+    }
 }
 
 // The data area as it begins.
@@ -204,15 +232,17 @@ fn memory_of(alloc: Global, linked: &Linked) -> Result<Vec<i16>, AllocError> {
     Ok(memory)
 }
 
-// What the run of a text's orders shows.
-fn interpreted(alloc: Global, text: &[u8], input: &[u8]) -> Result<String, AllocError> {
-    let Some(compiled) = compiled(alloc, text) else {
-        return String::from_str(alloc, "refused");
-    };
-    let memory = memory_of(alloc, &compiled.linked)?;
-    let mut machine = Machine::new(alloc, &compiled.program, memory, input);
+// Whether the run of a text's orders shows what is told.
+fn is_interpreted(
+    alloc: Global,
+    built: &Built,
+    input: &[u8],
+    told: Told<'_>,
+) -> Result<bool, AllocError> {
+    let memory = memory_of(alloc, &built.linked)?;
+    let mut machine = Machine::new(alloc, &built.program, memory, input);
     let end = machine.run(ORDER_STEPS);
-    told_of_orders(alloc, machine.output(), end)
+    Ok(is_told_of_orders(machine.output(), end, told))
 }
 
 fn run_of(alloc: Global, linked: &Linked, input: &[u8]) -> Option<Run> {
@@ -220,16 +250,40 @@ fn run_of(alloc: Global, linked: &Linked, input: &[u8]) -> Option<Run> {
     Run::new(alloc, image.code.as_slice(), image.words.as_slice(), input)
 }
 
-// What the run of its code shows.
-fn processed(alloc: Global, text: &[u8], input: &[u8]) -> Result<String, AllocError> {
-    let Some(compiled) = compiled(alloc, text) else {
-        return String::from_str(alloc, "refused");
-    };
-    let Some(mut run) = run_of(alloc, &compiled.linked, input) else {
-        return String::from_str(alloc, "no run");
-    };
-    let end = run.go_on(STEPS);
-    told_of_code(alloc, run.output(), end)
+// Whether the run of its code does.
+fn is_processed(alloc: Global, linked: &Linked, input: &[u8], told: Told<'_>) -> bool {
+    match run_of(alloc, linked, input) {
+        Some(mut run) => {
+            let end = run.go_on(STEPS);
+            is_told_of_code(run.output(), end, told)
+        }
+        None => false,
+    }
+}
+
+fn runs(alloc: Global, text: &[u8], input: &[u8], told: Told<'_>) -> Result<bool, AllocError> {
+    match compiled(alloc, text) {
+        Some(built) => match is_interpreted(alloc, &built, input, told) {
+            Ok(true) => Ok(is_processed(alloc, &built.linked, input, told)),
+            other => other,
+        },
+        None => Ok(false),
+    }
+}
+
+fn is_row(alloc: Global, text: &[u8], input: &str, told: Told<'_>) -> Result<bool, AllocError> {
+    let input = bytes_of(alloc, input)?;
+    runs(alloc, text, &input, told)
+}
+
+fn is_text(
+    alloc: Global,
+    (communicators, body): (&str, &str),
+    input: &str,
+    told: Told<'_>,
+) -> Result<bool, AllocError> {
+    let text = text_of(alloc, communicators, body)?;
+    is_row(alloc, &text, input, told)
 }
 
 // The orders of the texts, and their code, show what the rows say.
@@ -246,19 +300,8 @@ fn texts_run(rt: HostRuntime) -> Result<(), Fail> {
             parts.next(),
             parts.next(),
         ) {
-            let text = text_of(alloc, communicators, body)?;
-            let input = bytes_of(alloc, input)?;
-            let wanted = format!(in alloc; "{bytes}|{end}")?;
-            assert_eq!(rt;
-                interpreted(alloc, &text, &input)?.as_str(),
-                wanted.as_str(),
-                "{body}"
-            );
-            assert_eq!(rt;
-                processed(alloc, &text, &input)?.as_str(),
-                wanted.as_str(),
-                "{body}"
-            );
+            let text = (communicators, body);
+            assert!(rt; is_text(alloc, text, input, Told { bytes, end })?, "{body}");
             count = count.wrapping_add(1);
         }
     }
@@ -284,27 +327,75 @@ const COUNTED: &[(&str, usize, u64)] = &[
     ("INTEGER I; FOR I := 1 STEP 1 UNTIL 2 DO W(I)", 64, 68),
 ];
 
+// Whether the code of a segment has so many bytes.
+fn has_size(linked: &Linked, bytes: usize) -> bool {
+    let size = linked.image.code.as_slice().len();
+    size.wrapping_sub(base_code().len()) == bytes
+}
+
+// Whether a run comes to its end with so many instructions, and with no fewer.
+fn ends_after(alloc: Global, linked: &Linked, steps: u64) -> bool {
+    match run_of(alloc, linked, b"") {
+        Some(mut run) => run.go_on(steps.wrapping_sub(1)) == ImageEnd::Unfinished
+            && run.go_on(1) == ImageEnd::Ended,
+        None => false,
+    }
+}
+
+fn is_counted(alloc: Global, text: &[u8], bytes: usize, steps: u64) -> bool {
+    match compiled(alloc, text) {
+        Some(built) => has_size(&built.linked, bytes) && ends_after(alloc, &built.linked, steps),
+        None => false,
+    }
+}
+
+fn is_counted_row(alloc: Global, body: &str, bytes: usize, steps: u64) -> Result<bool, AllocError> {
+    let text = text_of(alloc, "", body)?;
+    Ok(is_counted(alloc, &text, bytes, steps))
+}
+
 #[test]
 fn sizes(rt: HostRuntime) -> Result<(), Fail> {
     let alloc = rt.alloc();
     for &(body, bytes, steps) in COUNTED {
-        let text = text_of(alloc, "", body)?;
-        let Some(compiled) = compiled(alloc, &text) else {
-            panic!(&rt; "refused: {body}");
-        };
-        let size = compiled.linked.image.code.as_slice().len();
-        assert_eq!(rt; size.wrapping_sub(base_code().len()), bytes, "{body}");
-        let Some(mut run) = run_of(alloc, &compiled.linked, b"") else {
-            panic!(&rt; "no run: {body}");
-        };
-        assert_eq!(rt;
-            run.go_on(steps.wrapping_sub(1)),
-            ImageEnd::Unfinished,
-            "{body}"
-        );
-        assert_eq!(rt; run.go_on(1), ImageEnd::Ended, "{body}");
+        assert!(rt; is_counted_row(alloc, body, bytes, steps)?, "{body}");
     }
     Ok(())
+}
+
+fn is_fourfold_run(alloc: Global, linked: &Linked) -> bool {
+    match run_of(alloc, linked, b"") {
+        Some(mut run) => run.go_on(STEPS) == ImageEnd::Ended
+            && run.output().len() == 256
+            && run.output().first() == Some(&1)
+            && run.output().last() == Some(&4),
+        None => false,
+    }
+}
+
+fn is_fourfold_object(alloc: Global, object: &[u8], tokens: u32) -> bool {
+    match link_one(alloc, object) {
+        Some(linked) => {
+            let size = linked.image.code.as_slice().len();
+            let own = size.wrapping_sub(base_code().len());
+            own <= (tokens as usize).wrapping_mul(32) && is_fourfold_run(alloc, &linked)
+        }
+        None => false,
+    }
+}
+
+fn is_fourfold(alloc: Global, text: &[u8]) -> bool {
+    if text.len() > 1_048_576 {
+        return false;
+    }
+    match compile_text(alloc, text, 0) {
+        Ok(segment) => is_fourfold_object(
+            alloc,
+            segment.made.object.as_slice(),
+            segment.unit.tokens,
+        ),
+        Err(_) => false,
+    }
 }
 
 // Four FORs in one another run their body 256 times, and their code is short.
@@ -314,27 +405,6 @@ fn fourfold(rt: HostRuntime) -> Result<(), Fail> {
     let body =
         "INTEGER I; FOR I := 1, 2, 3, 4 DO FOR I := I, I, I, I DO FOR I := I, I, I, I DO FOR I := I, I, I, I DO W(I)";
     let text = text_of(alloc, "", body)?;
-    if text.len() > 1_048_576 {
-        panic!(&rt; "too long");
-    }
-    let Ok(segment) = compile_text(alloc, &text, 0) else {
-        panic!(&rt; "refused");
-    };
-    let Some(linked) = link_one(alloc, segment.made.object.as_slice()) else {
-        panic!(&rt; "not linked");
-    };
-    let size = linked.image.code.as_slice().len();
-    let own = size.wrapping_sub(base_code().len());
-    assert!(rt;
-        own <= (segment.unit.tokens as usize).wrapping_mul(32),
-        "{own}"
-    );
-    let Some(mut run) = run_of(alloc, &linked, b"") else {
-        panic!(&rt; "no run");
-    };
-    assert_eq!(rt; run.go_on(STEPS), ImageEnd::Ended);
-    assert_eq!(rt; run.output().len(), 256);
-    assert_eq!(rt; run.output().first(), Some(&1));
-    assert_eq!(rt; run.output().last(), Some(&4));
+    assert!(rt; is_fourfold(alloc, &text));
     Ok(())
 }

@@ -1,9 +1,11 @@
 //! Each row is a text, a bar, and its canonical text, by hand from the rules. In both `~` stands for a line feed. The canonical text has itself
 //! as its canonical text.
-use cw_lex::lex;
+use crate::rows::with_lines;
+use cw_lex::{Token, lex};
 use cw_macro::{MOST_BYTES, expand};
 use cw_parse::parse;
 use cw_show::show;
+use cw_tree::segment::Raw;
 use std::alloc::{AllocError, Global};
 use std::test::Fail;
 
@@ -49,51 +51,49 @@ COMMON(INTEGER A;LABEL L;SWITCH S;INTEGER PROCEDURE P(VALUE INTEGER;SWITCH));SEG
 LIBRARY(RECURSIVE PROCEDURE P;PROCEDURE Q);ABSOLUTE(INTEGER Z/OCTAL(7);INTEGER ARRAY Y[0:1]/4);SEGMENT A BEGIN END FINISH|LIBRARY ( RECURSIVE P ;~PROCEDURE Q ) ;~ABSOLUTE ( INTEGER Z / OCTAL ( 7 ) ;~INTEGER ARRAY Y [ 0 : 1 ] / 4 ) ;~SEGMENT A BEGIN~END FINISH~
 DEFINE T(X)"X;X";COMMENT a tree knows no macros;SEGMENT A BEGIN T(Y:=1) END FINISH|SEGMENT A BEGIN~Y := 1 ;~Y := 1 END FINISH~"#;
 
-// Line feeds for `~`.
-fn with_lines(alloc: Global, text: &str) -> Result<String, AllocError> {
-    let mut whole = String::new(alloc);
-    for (i, part) in text.split('~').enumerate() {
-        if i > 0 {
-            whole.push_str("\n")?;
-        }
-        whole.push_str(part)?;
+fn is_shown(alloc: Global, raw: &Raw, wanted: &[u8]) -> bool {
+    match show(alloc, raw) {
+        Ok(shown) => shown.as_slice() == wanted,
+        Err(_) => false,
     }
-    Ok(whole)
 }
 
-// The canonical text of a text that has a tree.
-fn canonical(alloc: Global, text: &[u8]) -> Result<Vec<u8>, AllocError> {
-    if text.len() > MOST_BYTES {
-        return Err(AllocError);
-    }
-    let Ok(tokens) = lex(alloc, text) else {
-        return Err(AllocError);
-    };
-    let Ok(expanded) = expand(alloc, tokens.as_slice()) else {
-        return Err(AllocError);
-    };
-    let tokens = expanded.as_slice();
+fn are_shown(alloc: Global, tokens: &[Token<'_>], wanted: &[u8]) -> bool {
     if tokens.len() > 65535 {
-        return Err(AllocError);
+        return false;
     }
     match parse(alloc, tokens) {
-        Ok(raw) => match show(alloc, &raw) {
-            Ok(shown) => Ok(shown),
-            Err(_) => Err(AllocError),
-        },
-        Err(_) => Ok(vec![in alloc]?),
+        Ok(raw) => is_shown(alloc, &raw, wanted),
+        Err(_) => wanted.is_empty(),
     }
+}
+
+// Whether this is the canonical text of a text that has a tree.
+fn is_canonical(alloc: Global, text: &[u8], wanted: &[u8]) -> bool {
+    if text.len() > MOST_BYTES {
+        return false;
+    }
+    let Ok(tokens) = lex(alloc, text) else {
+        return false;
+    };
+    match expand(alloc, tokens.as_slice()) {
+        Ok(expanded) => are_shown(alloc, expanded.as_slice(), wanted),
+        Err(_) => false,
+    }
+}
+
+// Whether it is that, and its own.
+fn is_row(alloc: Global, text: &[u8], wanted: &str) -> Result<bool, AllocError> {
+    let wanted = with_lines(alloc, wanted.as_bytes(), b'~')?;
+    Ok(is_canonical(alloc, text, &wanted) && is_canonical(alloc, &wanted, &wanted))
 }
 
 fn holds(alloc: Global, row: &str) -> Result<bool, AllocError> {
     let Some((text, wanted)) = row.split_once('|') else {
         return Ok(false);
     };
-    let text = with_lines(alloc, text)?;
-    let wanted = with_lines(alloc, wanted)?;
-    let shown = canonical(alloc, text.as_bytes())?;
-    let again = canonical(alloc, shown.as_slice())?;
-    Ok(shown.as_slice() == wanted.as_bytes() && again.as_slice() == wanted.as_bytes())
+    let text = with_lines(alloc, text.as_bytes(), b'~')?;
+    is_row(alloc, &text, wanted)
 }
 
 #[test]

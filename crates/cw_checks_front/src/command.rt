@@ -1,5 +1,6 @@
 //! Words, one line of them a row, with what they mean.
-use cw_stop::Stop;
+use crate::rows::Left;
+use cw_stop::{Stop, Watched};
 use cw_words::{Action, Command, WordsFault, read_words};
 use std::alloc::{AllocError, Global};
 use std::test::Fail;
@@ -125,29 +126,57 @@ fn name(action: Action) -> &'static str {
     }
 }
 
-fn push_bytes(out: &mut String, bytes: &[u8]) -> Result<(), AllocError> {
-    for byte in bytes {
-        out.push(*byte as char)?;
+fn takes_watched(
+    alloc: Global,
+    left: &mut Left<'_>,
+    watched: &Watched,
+) -> Result<bool, AllocError> {
+    let word = format!(in alloc; "[{}]", watched.word)?;
+    Ok(left.takes(b" ") && left.takes(watched.text.as_slice()) && left.takes(word.as_bytes()))
+}
+
+fn takes_all_watched(
+    alloc: Global,
+    left: &mut Left<'_>,
+    watched: &[Watched],
+) -> Result<bool, AllocError> {
+    for watched in watched {
+        if !takes_watched(alloc, left, watched)? {
+            return Ok(false);
+        }
     }
-    Ok(())
+    Ok(true)
+}
+
+fn takes_line(alloc: Global, left: &mut Left<'_>, stop: &Stop) -> Result<bool, AllocError> {
+    let line = format!(in alloc; " {}", stop.line)?;
+    Ok(left.takes(b" @ ") && left.takes(stop.segment.bytes()) && left.takes(line.as_bytes()))
 }
 
 // What a stop is, as a row tells it.
-fn push_stop(alloc: Global, out: &mut String, stop: &Stop) -> Result<(), AllocError> {
-    out.push_str(" @ ")?;
-    push_bytes(out, stop.segment.bytes())?;
-    out.push_str(format!(in alloc; " {}", stop.line)?.as_str())?;
-    for watched in stop.watched.as_slice() {
-        out.push(' ')?;
-        push_bytes(out, watched.text.as_slice())?;
-        out.push_str(format!(in alloc; "[{}]", watched.word)?.as_str())?;
+fn takes_stop(alloc: Global, left: &mut Left<'_>, stop: &Stop) -> Result<bool, AllocError> {
+    if takes_line(alloc, left, stop)? {
+        takes_all_watched(alloc, left, stop.watched.as_slice())
+    } else {
+        Ok(false)
     }
-    Ok(())
 }
 
-// What a command is, as a row tells it.
-fn told(alloc: Global, command: &Command<'_>) -> Result<String, AllocError> {
-    let mut out = format!(in alloc;
+fn takes_names(left: &mut Left<'_>, names: &[&str]) -> bool {
+    for name in names {
+        if !(left.takes(b" ") && left.takes(name.as_bytes())) {
+            return false;
+        }
+    }
+    true
+}
+
+fn takes_numbers(
+    alloc: Global,
+    left: &mut Left<'_>,
+    command: &Command<'_>,
+) -> Result<bool, AllocError> {
+    let told = format!(in alloc;
         "{} {} {} {} {} {}",
         name(command.action),
         command.area,
@@ -156,20 +185,24 @@ fn told(alloc: Global, command: &Command<'_>) -> Result<String, AllocError> {
         command.steps,
         command.copies
     )?;
-    for name in command.names.iter() {
-        out.push(' ')?;
-        out.push_str(name)?;
-    }
-    if let Some(stop) = &command.stop {
-        push_stop(alloc, &mut out, stop)?;
-    }
-    Ok(out)
+    Ok(left.takes(told.as_bytes()) && takes_names(left, command.names.as_slice()))
 }
 
-fn meaning(alloc: Global, words: &[String]) -> Result<String, AllocError> {
+// What a command is, as a row tells it.
+fn is_command(alloc: Global, command: &Command<'_>, told: &str) -> Result<bool, AllocError> {
+    let mut left = Left::new(told.as_bytes());
+    let is_taken = takes_numbers(alloc, &mut left, command)?
+        && match &command.stop {
+            Some(stop) => takes_stop(alloc, &mut left, stop)?,
+            None => true,
+        };
+    Ok(is_taken && left.is_empty())
+}
+
+fn is_meant(alloc: Global, words: &[String], told: &str) -> Result<bool, AllocError> {
     match read_words(alloc, words) {
-        Ok(command) => told(alloc, &command),
-        Err(WordsFault::Usage) => Ok(String::new(alloc)),
+        Ok(command) => is_command(alloc, &command, told),
+        Err(WordsFault::Usage) => Ok(told.is_empty()),
         Err(WordsFault::NoMemory) => Err(AllocError),
     }
 }
@@ -184,17 +217,21 @@ fn words_of(alloc: Global, line: &str) -> Result<Vec<String>, AllocError> {
     Ok(words)
 }
 
+fn is_row(alloc: Global, line: &str, told: &str) -> Result<bool, AllocError> {
+    let words = words_of(alloc, line)?;
+    is_meant(alloc, words.as_slice(), told)
+}
+
 #[test]
 fn rows(rt: HostRuntime) -> Result<(), Fail> {
     let alloc = rt.alloc();
     for row in ROWS.split('\n') {
-        let Some((line, wanted)) = row.split_once('?') else {
+        let Some((line, told)) = row.split_once('?') else {
             return Err(AllocError.into());
         };
-        let words = words_of(alloc, line)?;
-        assert_eq!(rt; meaning(alloc, words.as_slice())?.as_str(), wanted);
+        assert!(rt; is_row(alloc, line, told)?, "{row}");
     }
-    assert_eq!(rt; meaning(alloc, &[])?.as_str(), "");
+    assert!(rt; is_meant(alloc, &[], "")?);
     Ok(())
 }
 
@@ -208,17 +245,36 @@ fn many(alloc: Global, action: &str, number: usize) -> Result<Vec<String>, Alloc
     Ok(words)
 }
 
-fn are_taken(alloc: Global, action: &str, number: usize) -> Result<bool, AllocError> {
-    let words = many(alloc, action, number)?;
-    Ok(!meaning(alloc, words.as_slice())?.is_empty())
+fn are_taken(alloc: Global, words: &[String]) -> Result<bool, AllocError> {
+    match read_words(alloc, words) {
+        Ok(_) => Ok(true),
+        Err(WordsFault::Usage) => Ok(false),
+        Err(WordsFault::NoMemory) => Err(AllocError),
+    }
 }
+
+fn is_taken(alloc: Global, action: &str, number: usize) -> Result<bool, AllocError> {
+    let words = many(alloc, action, number)?;
+    are_taken(alloc, words.as_slice())
+}
+
+// Actions that take so many WORDs, or not.
+const NUMBERS: &[(&str, usize, bool)] = &[
+    ("go", 200, true),
+    ("go", 201, false),
+    ("link", 200, true),
+    ("link", 201, false),
+    ("map", 200, true),
+    ("map", 201, false),
+    ("code", 200, true),
+    ("code", 201, false),
+];
 
 #[test]
 fn numbers_of_words(rt: HostRuntime) -> Result<(), Fail> {
     let alloc = rt.alloc();
-    for action in ["go", "link", "map", "code"] {
-        assert_eq!(rt; are_taken(alloc, action, 200)?, true);
-        assert_eq!(rt; are_taken(alloc, action, 201)?, false);
+    for &(action, number, wanted) in NUMBERS {
+        assert_eq!(rt; is_taken(alloc, action, number)?, wanted);
     }
     Ok(())
 }

@@ -1,4 +1,5 @@
 //! Texts with their tokens or their first fault, by hand from the rules of the written form.
+use crate::rows::Left;
 use cw_lex::{LexFault, Symbol, Token, TokenKind, Word, lex, lex_body};
 use std::alloc::{AllocError, Global};
 use std::test::Fail;
@@ -188,72 +189,72 @@ fn symbol_text(symbol: Symbol) -> &'static [u8] {
     }
 }
 
-fn push_line(out: &mut Vec<u8>, line: u32) -> Result<(), AllocError> {
-    out.push(b'0' + (line % 10) as u8)?;
-    Ok(())
-}
-
-fn push_token(out: &mut Vec<u8>, token: &Token<'_>) -> Result<(), AllocError> {
-    let letter = match token.kind {
-        TokenKind::Word(_) => b'W',
-        TokenKind::Name => b'N',
-        TokenKind::Number => b'D',
-        TokenKind::Text => b'T',
-        TokenKind::BodyText => b'B',
-        TokenKind::Literal => b'L',
-        TokenKind::Symbol(_) => b'S',
-    };
-    out.push(letter)?;
-    push_line(out, token.line)?;
-    out.push(b' ')?;
-    out.extend_from_slice(token.text)?;
-    match token.kind {
-        TokenKind::Word(word) => {
-            out.push(b'=')?;
-            out.extend_from_slice(word_text(word))?;
-        }
-        TokenKind::Symbol(symbol) => {
-            out.push(b'=')?;
-            out.extend_from_slice(symbol_text(symbol))?;
-        }
-        _ => {}
+fn takes_spelling(left: &mut Left<'_>, kind: TokenKind) -> bool {
+    match kind {
+        TokenKind::Word(word) => left.takes(b"=") && left.takes(word_text(word)),
+        TokenKind::Symbol(symbol) => left.takes(b"=") && left.takes(symbol_text(symbol)),
+        _ => true,
     }
-    out.push(b'|')?;
-    Ok(())
 }
 
-fn push_fault(out: &mut Vec<u8>, fault: &LexFault) -> Result<(), AllocError> {
+fn letter(kind: TokenKind) -> &'static [u8] {
+    match kind {
+        TokenKind::Word(_) => b"W",
+        TokenKind::Name => b"N",
+        TokenKind::Number => b"D",
+        TokenKind::Text => b"T",
+        TokenKind::BodyText => b"B",
+        TokenKind::Literal => b"L",
+        TokenKind::Symbol(_) => b"S",
+    }
+}
+
+fn takes_token(left: &mut Left<'_>, token: &Token<'_>) -> bool {
+    left.takes(letter(token.kind))
+        && left.takes_line(token.line)
+        && left.takes(b" ")
+        && left.takes(token.text)
+        && takes_spelling(left, token.kind)
+        && left.takes(b"|")
+}
+
+fn takes_tokens(left: &mut Left<'_>, tokens: &[Token<'_>]) -> bool {
+    for token in tokens {
+        if !takes_token(left, token) {
+            return false;
+        }
+    }
+    true
+}
+
+fn takes_fault(left: &mut Left<'_>, fault: &LexFault) -> bool {
     let (code, line) = match fault {
         LexFault::BadChar { line } => (b"L1 ", *line),
         LexFault::OpenString { line } => (b"L2 ", *line),
         LexFault::BadNumber { line } => (b"L3 ", *line),
         LexFault::LongName { line } => (b"L4 ", *line),
         LexFault::OpenComment { line } => (b"L5 ", *line),
-        LexFault::NoMemory => return Err(AllocError),
+        LexFault::NoMemory => return false,
     };
-    out.extend_from_slice(code)?;
-    push_line(out, line)
+    left.takes(code) && left.takes_line(line)
 }
 
-fn outcome(alloc: Global, in_body: bool, text: &[u8]) -> Result<Vec<u8>, AllocError> {
+// Whether what is told comes of a text.
+fn comes(alloc: Global, in_body: bool, text: &[u8], told: &[u8]) -> bool {
     if text.len() > 1000 {
-        return Err(AllocError);
+        return false;
     }
-    let mut out = Vec::new(alloc);
+    let mut left = Left::new(told);
     let answer = if in_body {
         lex_body(alloc, text, 0, 1)
     } else {
         lex(alloc, text)
     };
-    match answer {
-        Ok(tokens) => {
-            for token in tokens.as_slice() {
-                push_token(&mut out, token)?;
-            }
-        }
-        Err(fault) => push_fault(&mut out, &fault)?,
-    }
-    Ok(out)
+    let is_taken = match answer {
+        Ok(tokens) => takes_tokens(&mut left, tokens.as_slice()),
+        Err(fault) => takes_fault(&mut left, &fault),
+    };
+    is_taken && left.is_empty()
 }
 
 fn escaped_byte(letter: u8) -> u8 {
@@ -284,17 +285,23 @@ fn unescaped(alloc: Global, field: &[u8]) -> Result<Vec<u8>, AllocError> {
     Ok(bytes)
 }
 
+fn text_comes(alloc: Global, in_body: bool, text: &[u8], told: &[u8]) -> Result<bool, AllocError> {
+    let told = unescaped(alloc, told)?;
+    Ok(comes(alloc, in_body, text, &told))
+}
+
+fn row_comes(alloc: Global, in_body: bool, text: &[u8], told: &[u8]) -> Result<bool, AllocError> {
+    let text = unescaped(alloc, text)?;
+    text_comes(alloc, in_body, &text, told)
+}
+
 // Whether a row comes out as it says.
 fn holds(alloc: Global, row: &str) -> Result<bool, AllocError> {
-    let Some((given, wanted)) = row.split_once('?') else {
+    let Some((given, told)) = row.split_once('?') else {
         return Ok(false);
     };
     match given.as_bytes() {
-        [mode, text @ ..] => {
-            let text = unescaped(alloc, text)?;
-            let expected = unescaped(alloc, wanted.as_bytes())?;
-            Ok(outcome(alloc, *mode == b'm', &text)?.as_slice() == expected.as_slice())
-        }
+        [mode, text @ ..] => row_comes(alloc, *mode == b'm', text, told.as_bytes()),
         [] => Ok(false),
     }
 }

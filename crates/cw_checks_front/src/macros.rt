@@ -1,5 +1,6 @@
 //! Texts with the tokens that they expand to, or the first fault of the expansion, by hand from the rules of macros.
-use cw_lex::lex;
+use crate::rows::{Left, repeated, with_lines};
+use cw_lex::{Token, lex};
 use cw_macro::{MOST_BYTES, MacroFault, expand};
 use std::alloc::{AllocError, Global};
 use std::test::Fail;
@@ -107,77 +108,54 @@ DEFINE K(X) "X";K([)])?BadCall 1
 DEFINE K(X) "X";K[1]?BadCall 1
 DEFINE K(X) "X";DEFINE B "$";K(?BadDefine 1"#;
 
-fn push_line(out: &mut Vec<u8>, line: u32) -> Result<(), AllocError> {
-    out.push(b'0' + (line % 10) as u8)?;
-    Ok(())
-}
-
-fn push_fault(out: &mut Vec<u8>, fault: &MacroFault) -> Result<(), AllocError> {
-    let line = match fault {
-        MacroFault::BadDefine { line } => {
-            out.extend_from_slice(b"BadDefine ")?;
-            *line
-        }
-        MacroFault::BadCall { line } => {
-            out.extend_from_slice(b"BadCall ")?;
-            *line
-        }
-        MacroFault::TooDeep { line } => {
-            out.extend_from_slice(b"TooDeep ")?;
-            *line
-        }
-        MacroFault::TooLong { line } => {
-            out.extend_from_slice(b"TooLong ")?;
-            *line
-        }
-        MacroFault::NoSuchMacro { line } => {
-            out.extend_from_slice(b"NoSuchMacro ")?;
-            *line
-        }
-        MacroFault::NoMemory => return Err(AllocError),
+fn takes_fault(left: &mut Left<'_>, fault: &MacroFault) -> bool {
+    let (name, line): (&[u8], u32) = match fault {
+        MacroFault::BadDefine { line } => (b"BadDefine ", *line),
+        MacroFault::BadCall { line } => (b"BadCall ", *line),
+        MacroFault::TooDeep { line } => (b"TooDeep ", *line),
+        MacroFault::TooLong { line } => (b"TooLong ", *line),
+        MacroFault::NoSuchMacro { line } => (b"NoSuchMacro ", *line),
+        MacroFault::NoMemory => return false,
     };
-    push_line(out, line)
+    left.takes(name) && left.takes_line(line)
 }
 
-// What comes of a text, as a row tells it.
-fn outcome(alloc: Global, text: &[u8]) -> Result<Vec<u8>, AllocError> {
-    let mut out = Vec::new(alloc);
+fn takes_tokens(left: &mut Left<'_>, tokens: &[Token<'_>]) -> bool {
+    for token in tokens {
+        let is_taken = left.takes_line(token.line)
+            && left.takes(b" ")
+            && left.takes(token.text)
+            && left.takes(b"|");
+        if !is_taken {
+            return false;
+        }
+    }
+    true
+}
+
+// Whether what is told comes of a text.
+fn comes(alloc: Global, text: &[u8], told: &[u8]) -> bool {
     if text.len() > MOST_BYTES {
-        return Err(AllocError);
+        return false;
     }
+    let mut left = Left::new(told);
     let Ok(tokens) = lex(alloc, text) else {
-        out.extend_from_slice(b"no tokens")?;
-        return Ok(out);
+        return false;
     };
-    match expand(alloc, tokens.as_slice()) {
-        Ok(expanded) => {
-            for token in expanded.as_slice() {
-                push_line(&mut out, token.line)?;
-                out.push(b' ')?;
-                out.extend_from_slice(token.text)?;
-                out.push(b'|')?;
-            }
-        }
-        Err(fault) => push_fault(&mut out, &fault)?,
-    }
-    Ok(out)
-}
-
-fn with_line_feeds(alloc: Global, field: &[u8]) -> Result<Vec<u8>, AllocError> {
-    let mut bytes = Vec::new(alloc);
-    for byte in field {
-        bytes.push(if *byte == b'^' { b'\n' } else { *byte })?;
-    }
-    Ok(bytes)
+    let is_taken = match expand(alloc, tokens.as_slice()) {
+        Ok(expanded) => takes_tokens(&mut left, expanded.as_slice()),
+        Err(fault) => takes_fault(&mut left, &fault),
+    };
+    is_taken && left.is_empty()
 }
 
 // Whether a row comes out as it says.
 fn holds(alloc: Global, row: &str) -> Result<bool, AllocError> {
-    let Some((given, wanted)) = row.split_once('?') else {
+    let Some((given, told)) = row.split_once('?') else {
         return Ok(false);
     };
-    let text = with_line_feeds(alloc, given.as_bytes())?;
-    Ok(outcome(alloc, &text)?.as_slice() == wanted.as_bytes())
+    let text = with_lines(alloc, given.as_bytes(), b'^')?;
+    Ok(comes(alloc, &text, told.as_bytes()))
 }
 
 // The number of the first row that comes out otherwise, or that of all rows.
@@ -199,162 +177,162 @@ fn texts(rt: HostRuntime) -> Result<(), Fail> {
     Ok(())
 }
 
-// The number of tokens that come of a text, or none with the fault.
-fn size(alloc: Global, text: &[u8]) -> Result<Result<usize, MacroFault>, AllocError> {
+// What comes of a large text: so many tokens, or a fault in line 1.
+#[derive(Clone, Copy)]
+enum Large {
+    Tokens(usize),
+    TooDeep,
+    TooLong,
+}
+
+fn comes_large(alloc: Global, text: &[u8], large: Large) -> bool {
     if text.len() > MOST_BYTES {
-        return Err(AllocError);
+        return false;
     }
     let Ok(tokens) = lex(alloc, text) else {
-        return Err(AllocError);
+        return false;
     };
-    match expand(alloc, tokens.as_slice()) {
-        Ok(expanded) => Ok(Ok(expanded.as_slice().len())),
-        Err(fault) => Ok(Err(fault)),
+    match (expand(alloc, tokens.as_slice()), large) {
+        (Ok(expanded), Large::Tokens(count)) => expanded.as_slice().len() == count,
+        (Err(MacroFault::TooDeep { line }), Large::TooDeep) => line == 1,
+        (Err(MacroFault::TooLong { line }), Large::TooLong) => line == 1,
+        _ => false,
     }
 }
 
-fn push_name(text: &mut Vec<u8>, number: u8) -> Result<(), AllocError> {
-    text.push(b'A')?;
-    text.push(b'0' + number / 10 % 10)?;
-    text.push(b'0' + number % 10)?;
-    Ok(())
+fn name(number: u8) -> [u8; 3] {
+    [b'A', b'0' + number / 10 % 10, b'0' + number % 10]
 }
 
-fn push_times(text: &mut Vec<u8>, part: &[u8], times: u32) -> Result<(), AllocError> {
+// A macro that has the one of this number so many times.
+fn push_level(text: &mut Vec<u8>, number: u8, times: u32) -> Result<(), AllocError> {
+    let [letter, tens, ones] = name(number.wrapping_add(1));
+    text.extend_from_slice(&[
+        b'D', b'E', b'F', b'I', b'N', b'E', b' ', letter, tens, ones, b' ', b'"',
+    ])?;
+    let [letter, tens, ones] = name(number);
     for _ in 0..times {
-        text.extend_from_slice(part)?;
+        text.extend_from_slice(&[letter, tens, ones, b' '])?;
     }
-    Ok(())
+    text.extend_from_slice(b"\";")
 }
 
 // Macros of which each has the one before it so many times, from one that is a semicolon on; and a call of the last.
 fn tower(alloc: Global, height: u8, times: u32) -> Result<Vec<u8>, AllocError> {
-    let mut text = Vec::new(alloc);
-    text.extend_from_slice(b"DEFINE A00 \";\";")?;
+    let mut text = b"DEFINE A00 \";\";".to_vec(alloc)?;
     for number in 0..height.min(99) {
-        text.extend_from_slice(b"DEFINE ")?;
-        push_name(&mut text, number + 1)?;
-        text.extend_from_slice(b" \"")?;
-        for _ in 0..times {
-            push_name(&mut text, number)?;
-            text.push(b' ')?;
-        }
-        text.extend_from_slice(b"\";")?;
+        push_level(&mut text, number, times)?;
     }
-    push_name(&mut text, height.min(99))?;
+    text.extend_from_slice(&name(height.min(99)))?;
     Ok(text)
 }
 
-// Calls, each in the argument of the one around it.
-fn nest(alloc: Global, depth: u32) -> Result<Vec<u8>, AllocError> {
-    let mut text = Vec::new(alloc);
-    text.extend_from_slice(b"DEFINE I(X) \"X\";")?;
-    push_times(&mut text, b"I(", depth)?;
-    text.push(b'1')?;
-    push_times(&mut text, b")", depth)?;
-    Ok(text)
-}
+// Towers of so many levels and so many times, and what comes of them: among them a macro that doubles sixteen times.
+const TOWERS: &[(u8, u32, Large)] = &[
+    (31, 1, Large::Tokens(1)),
+    (32, 1, Large::TooDeep),
+    (15, 2, Large::Tokens(32_768)),
+    (16, 2, Large::TooLong),
+];
 
-// So many semicolons, and the so many calls behind them, each of which is replaced by nothing in five steps, with ten tokens.
-fn empty_calls(alloc: Global, semicolons: u32, calls: u32) -> Result<Vec<u8>, AllocError> {
-    let mut text = Vec::new(alloc);
-    text.extend_from_slice(b"DEFINE E \"\";DEFINE F \"E E E E\";")?;
-    push_times(&mut text, b";", semicolons)?;
-    push_times(&mut text, b"F ", calls)?;
-    Ok(text)
+fn is_tower(alloc: Global, height: u8, times: u32, large: Large) -> Result<bool, AllocError> {
+    let text = tower(alloc, height, times)?;
+    Ok(comes_large(alloc, &text, large))
 }
 
 #[test]
-fn levels(rt: HostRuntime) -> Result<(), Fail> {
-    let alloc = rt.alloc();
-    assert!(rt; matches!(size(alloc, &tower(alloc, 31, 1)?)?, Ok(1)));
-    assert!(rt;
-        matches!(
-            size(alloc, &tower(alloc, 32, 1)?)?,
-            Err(MacroFault::TooDeep { line: 1 })
-        )
-    );
-    assert!(rt; matches!(size(alloc, &nest(alloc, 32)?)?, Ok(1)));
-    assert!(rt;
-        matches!(
-            size(alloc, &nest(alloc, 33)?)?,
-            Err(MacroFault::TooDeep { line: 1 })
-        )
-    );
+fn towers(rt: HostRuntime) -> Result<(), Fail> {
+    for &(height, times, large) in TOWERS {
+        assert!(rt;
+            is_tower(rt.alloc(), height, times, large)?,
+            "{height} {times}"
+        );
+    }
     Ok(())
 }
 
-// A macro that doubles sixteen times, and a text of semicolons alone.
-#[test]
-fn long_results(rt: HostRuntime) -> Result<(), Fail> {
-    let alloc = rt.alloc();
-    assert!(rt; matches!(size(alloc, &tower(alloc, 15, 2)?)?, Ok(32_768)));
-    assert!(rt;
-        matches!(
-            size(alloc, &tower(alloc, 16, 2)?)?,
-            Err(MacroFault::TooLong { line: 1 })
-        )
-    );
-    let mut text = Vec::new(alloc);
-    push_times(&mut text, b";", 65_535)?;
-    assert!(rt; matches!(size(alloc, &text)?, Ok(65_535)));
-    text.push(b';')?;
-    assert!(rt; matches!(size(alloc, &text)?, Err(MacroFault::TooLong { line: 1 })));
-    push_times(&mut text, b";", 983_040)?;
-    assert!(rt; matches!(size(alloc, &text)?, Err(MacroFault::TooLong { line: 1 })));
-    Ok(())
+// The pieces of a text, each so many times, and what comes of it: calls, each in the argument of the one around it; semicolons alone; semicolons, and calls
+// behind them, each of which is replaced by nothing in five steps, with ten tokens; and a macro whose body has so many times both its parameters, and so many
+// calls with empty arguments before the last.
+const REPEATED: &[(&[(&[u8], u32)], Large)] = &[
+    (
+        &[
+            (b"DEFINE I(X) \"X\";", 1),
+            (b"I(", 32),
+            (b"1", 1),
+            (b")", 32),
+        ],
+        Large::Tokens(1),
+    ),
+    (
+        &[
+            (b"DEFINE I(X) \"X\";", 1),
+            (b"I(", 33),
+            (b"1", 1),
+            (b")", 33),
+        ],
+        Large::TooDeep,
+    ),
+    (&[(b";", 65_535)], Large::Tokens(65_535)),
+    (&[(b";", 65_536)], Large::TooLong),
+    (&[(b";", 1_048_576)], Large::TooLong),
+    (
+        &[
+            (b"DEFINE E \"\";DEFINE F \"E E E E\";", 1),
+            (b";", 8),
+            (b"F ", 104_856),
+        ],
+        Large::Tokens(8),
+    ),
+    (
+        &[
+            (b"DEFINE E \"\";DEFINE F \"E E E E\";", 1),
+            (b";", 9),
+            (b"F ", 104_856),
+        ],
+        Large::TooLong,
+    ),
+    (
+        &[
+            (b"DEFINE K(X,Y) \"", 1),
+            (b"X Y ", 20_000),
+            (b"\";", 1),
+            (b"K(,)", 20_000),
+        ],
+        Large::Tokens(0),
+    ),
+    (
+        &[
+            (b"DEFINE K(X,Y) \"", 1),
+            (b"X Y ", 600),
+            (b"\";", 1),
+            (b"K(,)", 3),
+            (b"K(,1)", 1),
+        ],
+        Large::Tokens(600),
+    ),
+    (
+        &[
+            (b"DEFINE K(X,Y) \"", 1),
+            (b"X Y ", 600),
+            (b"\";", 1),
+            (b"K(,)", 3),
+            (b"K(1;2,)", 1),
+        ],
+        Large::Tokens(1_800),
+    ),
+];
+
+fn is_repeated(alloc: Global, pieces: &[(&[u8], u32)], large: Large) -> Result<bool, AllocError> {
+    let text = repeated(alloc, pieces)?;
+    Ok(comes_large(alloc, &text, large))
 }
 
 #[test]
-fn long_replacements(rt: HostRuntime) -> Result<(), Fail> {
-    let alloc = rt.alloc();
-    assert!(rt; matches!(size(alloc, &empty_calls(alloc, 8, 104_856)?)?, Ok(8)));
-    assert!(rt;
-        matches!(
-            size(alloc, &empty_calls(alloc, 9, 104_856)?)?,
-            Err(MacroFault::TooLong { line: 1 })
-        )
-    );
-    Ok(())
-}
-
-// A macro whose body has so many times both its parameters, and so many calls with empty arguments before the last.
-fn empty_arguments(
-    alloc: Global,
-    pairs: u32,
-    calls: u32,
-    last: &[u8],
-) -> Result<Vec<u8>, AllocError> {
-    let mut text = Vec::new(alloc);
-    text.extend_from_slice(b"DEFINE K(X,Y) \"")?;
-    push_times(&mut text, b"X Y ", pairs)?;
-    text.extend_from_slice(b"\";")?;
-    push_times(&mut text, b"K(,)", calls)?;
-    text.extend_from_slice(last)?;
-    Ok(text)
-}
-
-#[test]
-fn parameters_without_tokens(rt: HostRuntime) -> Result<(), Fail> {
-    let alloc = rt.alloc();
-    assert!(rt;
-        matches!(
-            size(alloc, &empty_arguments(alloc, 20_000, 20_000, b"")?)?,
-            Ok(0)
-        )
-    );
-    assert!(rt;
-        matches!(
-            size(alloc, &empty_arguments(alloc, 600, 3, b"K(,1)")?)?,
-            Ok(600)
-        )
-    );
-    assert!(rt;
-        matches!(
-            size(alloc, &empty_arguments(alloc, 600, 3, b"K(1;2,)")?)?,
-            Ok(1_800)
-        )
-    );
+fn large_texts(rt: HostRuntime) -> Result<(), Fail> {
+    for &(pieces, large) in REPEATED {
+        assert!(rt; is_repeated(rt.alloc(), pieces, large)?);
+    }
     Ok(())
 }
 

@@ -17,21 +17,28 @@ fn calls(alloc: Global, calls: &[u64]) -> Result<List<u64>, AllocError> {
     Ok(List::of(calls.to_vec(alloc)?))
 }
 
-// A store of one file `a`, whose calls move at most three bytes, with room for one file of eight bytes, its name counted.
-fn store(alloc: Global, fails: &[u64]) -> Result<MemStore, AllocError> {
-    let file = MemFile {
+fn file(alloc: Global) -> Result<MemFile, AllocError> {
+    Ok(MemFile {
         name: bytes(alloc, b"a")?,
         bytes: bytes(alloc, TEXT)?,
-    };
-    let files = List::of(vec![in alloc; file]?);
-    match MemStore::new(alloc, files, 1, 8, 3, calls(alloc, fails)?) {
+    })
+}
+
+fn files(alloc: Global) -> Result<List<MemFile>, AllocError> {
+    Ok(List::of(vec![in alloc; file(alloc)?]?))
+}
+
+// A store of one file `a`, whose calls move at most three bytes, with room for one file of eight bytes, its name counted.
+fn store(alloc: Global, fails: &[u64]) -> Result<MemStore, AllocError> {
+    let fails = calls(alloc, fails)?;
+    match MemStore::new(alloc, files(alloc)?, 1, 8, 3, fails) {
         Ok(store) => Ok(store),
         Err(_) => Err(AllocError),
     }
 }
 
 // Reads in order, into eight bytes or into none: what each answers, and what stands first in the eight bytes then.
-const READS: [(u8, Result<usize, Failed>, &[u8]); 5] = [
+const READS: &[(u8, Result<usize, Failed>, &[u8])] = &[
     (8, Ok(3), b"fou"),
     (8, Err(Failed), b"fou"),
     (0, Ok(0), b"fou"),
@@ -44,7 +51,7 @@ fn sources(rt: HostRuntime) -> Result<(), Fail> {
     let alloc = rt.alloc();
     let mut source = MemSource::new(bytes(alloc, b"four")?, 3, calls(alloc, &[2])?);
     let mut buf = [0u8; 8];
-    for (room, wanted, first) in &READS {
+    for (room, wanted, first) in READS {
         let count = match room {
             0 => source.read(&mut []),
             _ => source.read(&mut buf),
@@ -56,7 +63,7 @@ fn sources(rt: HostRuntime) -> Result<(), Fail> {
 }
 
 // Writes in order, and what each answers.
-const WRITES: [(&[u8], Result<usize, Failed>); 6] = [
+const WRITES: &[(&[u8], Result<usize, Failed>)] = &[
     (b"abcd", Ok(3)),
     (b"d", Err(Failed)),
     (b"", Ok(0)),
@@ -71,7 +78,7 @@ fn sinks(rt: HostRuntime) -> Result<(), Fail> {
     let Ok(mut sink) = MemSink::new(alloc, 5, 3, calls(alloc, &[2])?) else {
         return Err(AllocError.into());
     };
-    for (piece, wanted) in &WRITES {
+    for (piece, wanted) in WRITES {
         assert_eq!(rt; sink.write(piece), *wanted);
     }
     assert_eq!(rt; sink.held(), b"abcde".as_slice());
@@ -79,7 +86,7 @@ fn sinks(rt: HostRuntime) -> Result<(), Fail> {
 }
 
 // Reads of a store in order, of a file from a place on into eight bytes, and what each answers.
-const PART_READS: [(&str, u64, Result<usize, StoreFault>); 4] = [
+const PART_READS: &[(&str, u64, Result<usize, StoreFault>)] = &[
     ("a", 8, Ok(2)),
     ("b", 0, Err(StoreFault::Missing)),
     ("a", 0, Err(StoreFault::Failed)),
@@ -87,7 +94,7 @@ const PART_READS: [(&str, u64, Result<usize, StoreFault>); 4] = [
 ];
 
 // And then writes.
-const FILE_WRITES: [(&str, &[u8], Result<(), StoreFault>); 4] = [
+const FILE_WRITES: &[(&str, &[u8], Result<(), StoreFault>)] = &[
     ("b", b"written", Err(StoreFault::Failed)),
     ("b", b"too long", Err(StoreFault::Failed)),
     ("b", b"written", Ok(())),
@@ -96,14 +103,14 @@ const FILE_WRITES: [(&str, &[u8], Result<(), StoreFault>); 4] = [
 
 fn check_reads(rt: &impl Abort, files: &mut MemStore) {
     let mut buf = [0u8; 8];
-    for (name, at, wanted) in &PART_READS {
+    for (name, at, wanted) in PART_READS {
         assert_eq!(rt; files.read_part(name, *at, &mut buf), *wanted);
         assert!(rt; buf.starts_with(b"ad"));
     }
 }
 
 fn check_writes(rt: &impl Abort, files: &mut MemStore) {
-    for (name, written, wanted) in &FILE_WRITES {
+    for (name, written, wanted) in FILE_WRITES {
         assert_eq!(rt; files.write_all(name, written), *wanted);
     }
 }
@@ -143,7 +150,7 @@ fn answer(alloc: Global, name: &str, limit: usize, fails: &[u64]) -> Result<File
 }
 
 // Reads of a whole file: its name, how long it may be, the calls that fail, and the answer.
-const WHOLE_READS: [(&str, u8, &[u64], FileFault); 8] = [
+const WHOLE_READS: &[(&str, u8, &[u64], FileFault)] = &[
     ("a", 9, &[], FileFault::TooLong),
     ("a", 0, &[], FileFault::TooLong),
     ("b", 9, &[], FileFault::Missing),
@@ -156,7 +163,7 @@ const WHOLE_READS: [(&str, u8, &[u64], FileFault); 8] = [
 
 #[test]
 fn whole_files(rt: HostRuntime) -> Result<(), Fail> {
-    for (name, limit, fails, wanted) in &WHOLE_READS {
+    for (name, limit, fails, wanted) in WHOLE_READS {
         let fault = answer(rt.alloc(), name, usize::from(*limit), fails)?;
         assert_eq!(rt; fault, *wanted);
     }

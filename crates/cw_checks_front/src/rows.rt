@@ -1,11 +1,60 @@
-//! The texts of tables that have a row a line.
+//! The texts of tables that have a row a line, and what is told of them.
 use std::alloc::{AllocError, Global};
 
-fn push_text(text: &mut Vec<u8>, given: &[u8]) -> Result<(), AllocError> {
-    for byte in given {
-        text.push(if *byte == b'^' { b'\n' } else { *byte })?;
+/// What is left of what a row tells.
+#[derive(Clone, Copy)]
+pub struct Left<'a> {
+    left: &'a [u8],
+}
+
+impl<'a> Left<'a> {
+    /// All of it.
+    pub fn new(told: &'a [u8]) -> Left<'a> {
+        Left { left: told }
     }
-    Ok(())
+
+    /// Takes this piece off its front, where it stands there.
+    pub fn takes(&mut self, piece: &[u8]) -> bool {
+        match self.left.strip_prefix(piece) {
+            Some(rest) => {
+                self.left = rest;
+                true
+            }
+            None => false,
+        }
+    }
+
+    /// Takes the last digit of a line.
+    pub fn takes_line(&mut self, line: u32) -> bool {
+        self.takes(&[b'0' + (line % 10) as u8])
+    }
+
+    /// Whether nothing is left.
+    pub fn is_empty(&self) -> bool {
+        self.left.is_empty()
+    }
+}
+
+/// Pieces of text, one behind the other, each so many times.
+pub fn repeated(alloc: Global, pieces: &[(&[u8], u32)]) -> Result<Vec<u8>, AllocError> {
+    let mut text = Vec::new(alloc);
+    for &(piece, count) in pieces {
+        for _ in 0..count {
+            text.extend_from_slice(piece)?;
+        }
+    }
+    Ok(text)
+}
+
+/// Bytes where a line feed stands for each of these.
+pub fn with_lines(alloc: Global, given: &[u8], mark: u8) -> Result<Vec<u8>, AllocError> {
+    let mut text = given.to_vec(alloc)?;
+    for byte in text.as_mut_slice() {
+        if *byte == mark {
+            *byte = b'\n';
+        }
+    }
+    Ok(text)
 }
 
 fn front(form: u8) -> &'static [u8] {
@@ -28,9 +77,6 @@ fn back(form: u8) -> &'static [u8] {
 /// `b` what stands in a segment's outermost block, and under `l` what stands in that of a segment whose LIBRARY lists READBYTE
 /// and WRITEBYTE.
 pub fn text_of(alloc: Global, form: u8, given: &[u8]) -> Result<Vec<u8>, AllocError> {
-    let mut text = Vec::new(alloc);
-    text.extend_from_slice(front(form))?;
-    push_text(&mut text, given)?;
-    text.extend_from_slice(back(form))?;
-    Ok(text)
+    let given = with_lines(alloc, given, b'^')?;
+    repeated(alloc, &[(front(form), 1), (&given, 1), (back(form), 1)])
 }

@@ -1,6 +1,6 @@
 //! Each row is how often the parts between bars stand, a blank, a text, a question mark, and `ok` with the number of its tokens,
 //! or its fault: `S1 token line` for Syntax, `S2 token line` for NestTooDeep, `S3 line` for LeftOut.
-use cw_lex::lex;
+use cw_lex::{Token, lex};
 use cw_macro::{MOST_BYTES, expand};
 use cw_parse::{ParseFault, parse};
 use std::alloc::{AllocError, Global};
@@ -118,41 +118,60 @@ const ROWS: &str = r#"1 ?S1 1 1
 65000 SEGMENT A BEGIN |;| END FINISH?ok 65005
 29999 SEGMENT A BEGIN X := 1|+1| END FINISH?ok 60006"#;
 
-// What comes of a text, as a row tells it.
-fn answer_of(alloc: Global, text: &[u8]) -> Result<String, AllocError> {
-    if text.len() > MOST_BYTES {
-        return Err(AllocError);
+fn number(word: Option<&str>) -> Option<u32> {
+    word?.parse::<u32>().ok()
+}
+
+// Whether a code and numbers are told.
+fn is_told(told: &str, code: &str, numbers: &[u32]) -> bool {
+    let mut words = told.split(' ');
+    if words.next() != Some(code) {
+        return false;
     }
-    let Ok(tokens) = lex(alloc, text) else {
-        return Err(AllocError);
-    };
-    let Ok(expanded) = expand(alloc, tokens.as_slice()) else {
-        return Err(AllocError);
-    };
-    let tokens = expanded.as_slice();
+    for wanted in numbers {
+        if number(words.next()) != Some(*wanted) {
+            return false;
+        }
+    }
+    words.next().is_none()
+}
+
+// Whether what is told comes of tokens.
+fn tokens_come(alloc: Global, tokens: &[Token<'_>], told: &str) -> bool {
     if tokens.len() > 65535 {
-        return Err(AllocError);
+        return false;
     }
     match parse(alloc, tokens) {
-        Ok(raw) => {
-            let count = raw.tokens;
-            format!(in alloc; "ok {count}")
-        }
-        Err(ParseFault::Syntax { token, line }) => format!(in alloc; "S1 {token} {line}"),
-        Err(ParseFault::NestTooDeep { token, line }) => format!(in alloc; "S2 {token} {line}"),
-        Err(ParseFault::LeftOut { line, .. }) => format!(in alloc; "S3 {line}"),
-        Err(ParseFault::NoMemory) => Err(AllocError),
+        Ok(raw) => is_told(told, "ok", &[raw.tokens]),
+        Err(ParseFault::Syntax { token, line }) => is_told(told, "S1", &[token, line]),
+        Err(ParseFault::NestTooDeep { token, line }) => is_told(told, "S2", &[token, line]),
+        Err(ParseFault::LeftOut { line, .. }) => is_told(told, "S3", &[line]),
+        Err(ParseFault::NoMemory) => false,
+    }
+}
+
+// Whether it comes of a text.
+fn comes(alloc: Global, text: &[u8], told: &str) -> bool {
+    if text.len() > MOST_BYTES {
+        return false;
+    }
+    let Ok(tokens) = lex(alloc, text) else {
+        return false;
+    };
+    match expand(alloc, tokens.as_slice()) {
+        Ok(expanded) => tokens_come(alloc, expanded.as_slice(), told),
+        Err(_) => false,
     }
 }
 
 // The text with the parts between bars so many times.
-fn repeated(alloc: Global, text: &str, count: usize) -> Result<String, AllocError> {
-    let mut whole = String::new(alloc);
+fn between_bars(alloc: Global, text: &str, count: usize) -> Result<Vec<u8>, AllocError> {
+    let mut whole = Vec::new(alloc);
     let mut between = false;
     for part in text.split('|') {
         let times = if between { count } else { 1 };
         for _ in 0..times {
-            whole.push_str(part)?;
+            whole.extend_from_slice(part.as_bytes())?;
         }
         between = !between;
     }
@@ -164,15 +183,14 @@ fn holds(alloc: Global, row: &str) -> Result<bool, AllocError> {
     let Some((times, rest)) = row.split_once(' ') else {
         return Ok(false);
     };
-    let Some((text, wanted)) = rest.split_once('?') else {
+    let Some((text, told)) = rest.split_once('?') else {
         return Ok(false);
     };
     let Ok(count) = times.parse::<usize>() else {
         return Ok(false);
     };
-    let text = repeated(alloc, text, count)?;
-    let answer = answer_of(alloc, text.as_bytes())?;
-    Ok(answer.as_str() == wanted)
+    let text = between_bars(alloc, text, count)?;
+    Ok(comes(alloc, &text, told))
 }
 
 // The first row that does not hold, or nothing.

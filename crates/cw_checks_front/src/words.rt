@@ -168,19 +168,20 @@ fn words(rt: HostRuntime) {
     assert_eq!(rt; best_scale(2, 5, 1), Ok(13));
 }
 
+const NAMES: &[(&[u8], bool)] = &[
+    (b"A", true),
+    (b"A234567890123456789012345678901", true),
+    (b"A2345678901234567890123456789012", false),
+    (b"", false),
+    (b"1A", false),
+    (b"Z9A0", true),
+    (b"Aa", false),
+    (b"A B", false),
+];
+
 #[test]
 fn names(rt: HostRuntime) {
-    let longest = b"A234567890123456789012345678901";
-    for (bytes, is_name) in [
-        (b"A".as_slice(), true),
-        (longest.as_slice(), true),
-        (b"A2345678901234567890123456789012".as_slice(), false),
-        (b"".as_slice(), false),
-        (b"1A".as_slice(), false),
-        (b"Z9A0".as_slice(), true),
-        (b"Aa".as_slice(), false),
-        (b"A B".as_slice(), false),
-    ] {
+    for &(bytes, is_name) in NAMES {
         match Name::new(bytes) {
             Some(name) => {
                 assert!(rt; is_name);

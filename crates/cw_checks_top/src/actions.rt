@@ -1,16 +1,13 @@
 //! The actions on several files, over a store in memory that takes files.
-use crate::command::{flat, list, words_of};
-use cw_io::{MemFile, MemSink, MemSource, MemStore};
-use cw_top::coral66;
-use cw_word::List;
-use std::alloc::{AllocError, Global};
+use crate::command::{Outside, Wanted, call, store_of};
+use std::alloc::AllocError;
 use std::test::Fail;
 
-const FIRST: &str =
-    "COMMON (INTEGER X; PROCEDURE P(VALUE INTEGER)); LIBRARY (INTEGER PROCEDURE READBYTE; PROCEDURE WRITEBYTE(VALUE INTEGER)); SEGMENT A BEGIN X := 66; P(READBYTE); WRITEBYTE(X) END FINISH";
+const FIRST: &[u8] =
+    b"COMMON (INTEGER X; PROCEDURE P(VALUE INTEGER)); LIBRARY (INTEGER PROCEDURE READBYTE; PROCEDURE WRITEBYTE(VALUE INTEGER)); SEGMENT A BEGIN X := 66; P(READBYTE); WRITEBYTE(X) END FINISH";
 
-const SECOND: &str =
-    "COMMON (INTEGER X; PROCEDURE P(VALUE INTEGER)); LIBRARY (PROCEDURE WRITEBYTE(VALUE INTEGER)); SEGMENT B BEGIN PROCEDURE P(VALUE INTEGER N); BEGIN WRITEBYTE(N); X := X + 1 END; END FINISH";
+const SECOND: &[u8] =
+    b"COMMON (INTEGER X; PROCEDURE P(VALUE INTEGER)); LIBRARY (PROCEDURE WRITEBYTE(VALUE INTEGER)); SEGMENT B BEGIN PROCEDURE P(VALUE INTEGER N); BEGIN WRITEBYTE(N); X := X + 1 END; END FINISH";
 
 // An image of one word of data whose program halts at once, and the same without its last byte and with another instruction.
 const HALTING: [u8; 22] = [
@@ -34,8 +31,58 @@ const STOPPING: [u8; 38] = [
 // The HEX text of HALTING with another byte in its second line.
 const WRONG_SUM: &[u8] = b":020000021000EC\n:01000000F40C\n:0400000310000000E9\n:00000001FF\n";
 
-// Bytes that are taken for libraries, and are none.
-const LIBRARIES: &[(&str, &[u8])] = &[
+// Texts, images, HEX texts, and bytes that are taken for libraries and are none, each under the name that the calls give it.
+const FILES: &[(&str, &[u8])] = &[
+    ("a", FIRST),
+    ("b", SECOND),
+    ("e", b"SEGMENT E BEGIN END FINISH"),
+    (
+        "t1",
+        b"COMMON (FIXED(16,4) T); SEGMENT A BEGIN T := 1 END FINISH",
+    ),
+    (
+        "t2",
+        b"COMMON (INTEGER T); SEGMENT B BEGIN T := 1 END FINISH",
+    ),
+    ("r", b"COMMON (PROCEDURE R); SEGMENT A BEGIN R END FINISH"),
+    (
+        "n",
+        b"SEGMENT A BEGIN INTEGER RECURSIVE PROCEDURE F(VALUE INTEGER N); ANSWER IF N = 0 THEN 0 ELSE F(N - 1); INTEGER X; X := F(3) END FINISH",
+    ),
+    (
+        "h",
+        b"SEGMENT A BEGIN PROCEDURE P(VALUE INTEGER N); ; PROCEDURE G(PROCEDURE Q(VALUE INTEGER)); Q(1); G(P) END FINISH",
+    ),
+    (
+        "w",
+        b"SEGMENT A BEGIN INTEGER X;\nX := 32767;\nX := X + 1 END FINISH",
+    ),
+    (
+        "v",
+        b"LIBRARY (PROCEDURE WRITEBYTE(VALUE INTEGER)); SEGMENT A BEGIN INTEGER I; FOR I := 1 STEP 1 UNTIL 3 DO\nWRITEBYTE(I) END FINISH",
+    ),
+    (
+        "m",
+        b"LIBRARY (PROCEDURE P1); SEGMENT M BEGIN P1 END FINISH",
+    ),
+    (
+        "x",
+        b"LIBRARY (PROCEDURE P1; PROCEDURE P2); SEGMENT X BEGIN PROCEDURE P1; P2; END FINISH",
+    ),
+    (
+        "y",
+        b"LIBRARY (PROCEDURE P2; PROCEDURE WRITEBYTE(VALUE INTEGER)); SEGMENT Y BEGIN PROCEDURE P2; WRITEBYTE(7); END FINISH",
+    ),
+    (
+        "z",
+        b"LIBRARY (PROCEDURE WRITEBYTE(VALUE INTEGER)); SEGMENT Z BEGIN WRITEBYTE(9) END FINISH",
+    ),
+    ("halting", &HALTING),
+    ("A.IMX", &CUT),
+    ("none", &NO_CODE),
+    ("stopping", &STOPPING),
+    ("sum", WRONG_SUM),
+    ("colon", b":"),
     ("l2", b"C66L"),
     ("l3", b"C66L\x02\x00"),
     ("l4", b"C66L\x01\x00\x00\x00"),
@@ -126,114 +173,29 @@ big 100?0|3708~|big 100 words 10901~
 --data 109 --frames 0 big 1?3||link: P1 DataTooBig 110~
 --steps 1000 big 1?5||big 1 words 110~unfinished: 1000~";
 
-/// A file of the store.
-pub fn file(alloc: Global, name: &[u8], bytes: &[u8]) -> Result<MemFile, AllocError> {
-    Ok(MemFile {
-        name: list(alloc, name)?,
-        bytes: list(alloc, bytes)?,
-    })
-}
-
-// Texts, images and HEX texts, each under the name that the tables give it.
-fn store(alloc: Global) -> Result<MemStore, AllocError> {
-    let texts = [
-        ("a", FIRST),
-        ("b", SECOND),
-        ("e", "SEGMENT E BEGIN END FINISH"),
-        (
-            "t1",
-            "COMMON (FIXED(16,4) T); SEGMENT A BEGIN T := 1 END FINISH",
-        ),
-        (
-            "t2",
-            "COMMON (INTEGER T); SEGMENT B BEGIN T := 1 END FINISH",
-        ),
-        ("r", "COMMON (PROCEDURE R); SEGMENT A BEGIN R END FINISH"),
-        (
-            "n",
-            "SEGMENT A BEGIN INTEGER RECURSIVE PROCEDURE F(VALUE INTEGER N); ANSWER IF N = 0 THEN 0 ELSE F(N - 1); INTEGER X; X := F(3) END FINISH",
-        ),
-        (
-            "h",
-            "SEGMENT A BEGIN PROCEDURE P(VALUE INTEGER N); ; PROCEDURE G(PROCEDURE Q(VALUE INTEGER)); Q(1); G(P) END FINISH",
-        ),
-        (
-            "w",
-            "SEGMENT A BEGIN INTEGER X;\nX := 32767;\nX := X + 1 END FINISH",
-        ),
-        (
-            "v",
-            "LIBRARY (PROCEDURE WRITEBYTE(VALUE INTEGER)); SEGMENT A BEGIN INTEGER I; FOR I := 1 STEP 1 UNTIL 3 DO\nWRITEBYTE(I) END FINISH",
-        ),
-        ("m", "LIBRARY (PROCEDURE P1); SEGMENT M BEGIN P1 END FINISH"),
-        (
-            "x",
-            "LIBRARY (PROCEDURE P1; PROCEDURE P2); SEGMENT X BEGIN PROCEDURE P1; P2; END FINISH",
-        ),
-        (
-            "y",
-            "LIBRARY (PROCEDURE P2; PROCEDURE WRITEBYTE(VALUE INTEGER)); SEGMENT Y BEGIN PROCEDURE P2; WRITEBYTE(7); END FINISH",
-        ),
-        (
-            "z",
-            "LIBRARY (PROCEDURE WRITEBYTE(VALUE INTEGER)); SEGMENT Z BEGIN WRITEBYTE(9) END FINISH",
-        ),
-    ];
-    let mut files = Vec::new(alloc);
-    for (name, text) in texts {
-        files.push(file(alloc, name.as_bytes(), text.as_bytes())?)?;
-    }
-    files.push(file(alloc, b"halting", &HALTING)?)?;
-    files.push(file(alloc, b"A.IMX", &CUT)?)?;
-    files.push(file(alloc, b"none", &NO_CODE)?)?;
-    files.push(file(alloc, b"stopping", &STOPPING)?)?;
-    files.push(file(alloc, b"sum", WRONG_SUM)?)?;
-    files.push(file(alloc, b"colon", b":")?)?;
-    for &(name, bytes) in LIBRARIES {
-        files.push(file(alloc, name.as_bytes(), bytes)?)?;
-    }
-    let no_call = List::of(Vec::new(alloc));
-    match MemStore::new(alloc, List::of(files), 32, 65_536, 4096, no_call) {
-        Ok(store) => Ok(store),
-        Err(_) => Err(AllocError),
-    }
-}
-
-// What a call shows, over the input 65: its status, what it writes and what it says.
-fn shown(alloc: Global, files: &mut MemStore, line: &str) -> Result<String, AllocError> {
-    let mut input = MemSource::new(list(alloc, b"A")?, 4096, List::of(Vec::new(alloc)));
-    let Ok(mut out) = MemSink::new(alloc, 4096, 1, List::of(Vec::new(alloc))) else {
-        return Err(AllocError);
-    };
-    let Ok(mut say) = MemSink::new(alloc, 4096, 4096, List::of(Vec::new(alloc))) else {
-        return Err(AllocError);
-    };
-    let words = words_of(alloc, line)?;
-    let status = coral66(
-        alloc,
-        words.as_slice(),
-        files,
-        &mut input,
-        &mut out,
-        &mut say,
-    );
-    let code = status.code();
-    let held = String::from_utf8_lossy(alloc, out.held())?;
-    let said = String::from_utf8_lossy(alloc, say.held())?;
-    format!(in alloc; "{code}|{held}|{said}")
-}
+// What surrounds a call: the input 65.
+const OUTSIDE: Outside<'static> = Outside {
+    input: b"A",
+    taken: 4096,
+    out: (4096, 1),
+    say: (4096, 4096),
+    input_faults: "",
+    faults: "",
+};
 
 #[test]
 fn actions(rt: HostRuntime) -> Result<(), Fail> {
     let alloc = rt.alloc();
-    let mut files = store(alloc)?;
+    let mut files = store_of(alloc, FILES, (32, 65_536), 4096, "")?;
     let mut count = 0_u32;
     for row in CALLS.split('\n') {
-        let Some((line, wanted)) = row.split_once('?') else {
+        let Some((line, told)) = row.split_once('?') else {
             return Err(AllocError.into());
         };
-        let text = shown(alloc, &mut files, line)?;
-        assert_eq!(rt; flat(alloc, text.as_str())?.as_str(), wanted);
+        assert!(rt;
+            call(alloc, &mut files, line, &OUTSIDE, Wanted::Text(told))?.is_some(),
+            "{row}"
+        );
         count = count.wrapping_add(1);
     }
     assert_eq!(rt; count, 80);

@@ -1,5 +1,5 @@
 //! Small programs with what they write and how they end, by hand from the rules of the language.
-use crate::command::{RUN_STEPS, bytes_and_end, within};
+use crate::command::{RUN_STEPS, Wanted, goes, repeated};
 use std::alloc::{AllocError, Global};
 use std::test::Fail;
 
@@ -69,10 +69,18 @@ INTEGER X; X := (1); WRITEBYTE(X)?1?
 BEGIN INTEGER X; X := 2.5; WRITEBYTE(X) END?2?
 DEFINE UNLESS(C) \"IF C THEN ELSE\"; UNLESS(1 = 2) WRITEBYTE(6)?6?";
 
-fn text_of(alloc: Global, body: &str) -> Result<String, AllocError> {
-    format!(in alloc;
+// Whether a program with this between BEGIN and END writes these bytes and has this closing line, within so many instructions.
+fn is_program(
+    alloc: Global,
+    body: &str,
+    steps: u64,
+    bytes: &str,
+    end: &str,
+) -> Result<Option<u8>, AllocError> {
+    let text = format!(in alloc;
         "LIBRARY (PROCEDURE WRITEBYTE(VALUE INTEGER)); SEGMENT A BEGIN {body} END FINISH"
-    )
+    )?;
+    goes(alloc, text.as_bytes(), steps, Wanted::End(bytes, end))
 }
 
 #[test]
@@ -82,11 +90,9 @@ fn programs(rt: HostRuntime) -> Result<(), Fail> {
     for row in PROGRAMS.lines() {
         let mut parts = row.split('?');
         if let (Some(body), Some(bytes), Some(end)) = (parts.next(), parts.next(), parts.next()) {
-            let text = text_of(alloc, body)?;
-            let wanted = format!(in alloc; "{bytes}|{end}")?;
-            assert_eq!(rt;
-                bytes_and_end(alloc, text.as_bytes(), RUN_STEPS)?.as_str(),
-                wanted.as_str()
+            assert!(rt;
+                is_program(alloc, body, RUN_STEPS, bytes, end)?.is_some(),
+                "{row}"
             );
             count = count.wrapping_add(1);
         }
@@ -95,96 +101,117 @@ fn programs(rt: HostRuntime) -> Result<(), Fail> {
     Ok(())
 }
 
+// Programs with the steps that they are given, the bytes that are written, and the closing line.
+const UNFINISHED: &[(&str, u64, &str, &str)] = &[
+    ("L: GOTO L", 1000, "", "unfinished: 1000"),
+    ("WRITEBYTE(1); L: GOTO L", 1000, "1", "unfinished: 1000"),
+    ("WRITEBYTE(1); L: GOTO L", 13, "", "unfinished: 13"),
+];
+
 // A loop without an end has the steps that it is given.
 #[test]
 fn unfinished(rt: HostRuntime) -> Result<(), Fail> {
     let alloc = rt.alloc();
-    let text = text_of(alloc, "L: GOTO L")?;
-    assert_eq!(rt;
-        bytes_and_end(alloc, text.as_bytes(), 1000)?.as_str(),
-        "|unfinished: 1000"
-    );
-    let text = text_of(alloc, "WRITEBYTE(1); L: GOTO L")?;
-    assert_eq!(rt;
-        bytes_and_end(alloc, text.as_bytes(), 1000)?.as_str(),
-        "1|unfinished: 1000"
-    );
-    assert_eq!(rt;
-        bytes_and_end(alloc, text.as_bytes(), 13)?.as_str(),
-        "|unfinished: 13"
-    );
+    for &(body, steps, bytes, end) in UNFINISHED {
+        assert!(rt;
+            is_program(alloc, body, steps, bytes, end)?.is_some(),
+            "{body} {steps}"
+        );
+    }
     Ok(())
 }
 
-// So many times a piece between two others.
-fn repeated(
-    alloc: Global,
-    before: &str,
-    piece: &str,
-    count: u32,
-    behind: &str,
-) -> Result<Vec<u8>, AllocError> {
-    let mut text = Vec::new(alloc);
-    text.extend_from_slice(before.as_bytes())?;
-    for _ in 0..count {
-        text.extend_from_slice(piece.as_bytes())?;
-    }
-    text.extend_from_slice(behind.as_bytes())?;
-    Ok(text)
+fn push_name(alloc: Global, text: &mut Vec<u8>, number: u32) -> Result<(), AllocError> {
+    let name = format!(in alloc; ",N{number}")?;
+    text.extend_from_slice(name.as_bytes())
 }
 
 // A text that declares so many names.
 fn declaring(alloc: Global, count: u32) -> Result<Vec<u8>, AllocError> {
-    let mut text = Vec::new(alloc);
-    text.extend_from_slice(b"SEGMENT A BEGIN INTEGER N0")?;
-    for n in 1..count {
-        text.extend_from_slice(format!(in alloc; ",N{n}")?.as_bytes())?;
+    let mut text = b"SEGMENT A BEGIN INTEGER N0".to_vec(alloc)?;
+    for number in 1..count {
+        push_name(alloc, &mut text, number)?;
     }
     text.extend_from_slice(b"; END FINISH")?;
     Ok(text)
 }
 
-// Too many words, too much code, and too many levels, each with the last that fits.
+// A text that declares so many names, and what is shown of it.
+const DECLARING: &[(u32, Wanted<'static>)] = &[
+    (16_385, Wanted::Text("3||link: P1 DataTooBig 20481~")),
+    (12_289, Wanted::Text("3||link: P1 DataTooBig 16385~")),
+    (12_288, Wanted::End("", "")),
+];
+
+fn is_declaring(alloc: Global, count: u32, wanted: Wanted<'_>) -> Result<Option<u8>, AllocError> {
+    let text = declaring(alloc, count)?;
+    goes(alloc, &text, RUN_STEPS, wanted)
+}
+
+// Too many words, with the last that fit.
+#[test]
+fn names(rt: HostRuntime) -> Result<(), Fail> {
+    let alloc = rt.alloc();
+    for &(count, wanted) in DECLARING {
+        assert!(rt; is_declaring(alloc, count, wanted)?.is_some(), "{count}");
+    }
+    Ok(())
+}
+
+// The pieces of a text, each so many times, and what is shown of it: too much code, and too many levels, each with the last that fits; and semicolons alone.
+const REPEATED: &[(&[(&[u8], u32)], Wanted<'static>)] = &[
+    (
+        &[
+            (b"SEGMENT A BEGIN INTEGER X; ", 1),
+            (b"X := X + 1; ", 6851),
+            (b"END FINISH", 1),
+        ],
+        Wanted::Text("3||link: P4 CodeTooBig 65543~"),
+    ),
+    (
+        &[
+            (b"SEGMENT A BEGIN INTEGER X; ", 1),
+            (b"X := X + 1; ", 6850),
+            (b"END FINISH", 1),
+        ],
+        Wanted::End("", ""),
+    ),
+    (
+        &[
+            (b"SEGMENT A ", 1),
+            (b"BEGIN ", 64),
+            (b"END ", 64),
+            (b"FINISH", 1),
+        ],
+        Wanted::End("", ""),
+    ),
+    (
+        &[
+            (b"SEGMENT A ", 1),
+            (b"BEGIN ", 65),
+            (b"END ", 65),
+            (b"FINISH", 1),
+        ],
+        Wanted::Text("2||a:1: S2 NestTooDeep 67~"),
+    ),
+    (&[(b";", 1_048_576)], Wanted::Text("2||a:1: M4 TooLong~")),
+];
+
+fn is_repeated(
+    alloc: Global,
+    pieces: &[(&[u8], u32)],
+    wanted: Wanted<'_>,
+) -> Result<Option<u8>, AllocError> {
+    let text = repeated(alloc, pieces)?;
+    goes(alloc, &text, RUN_STEPS, wanted)
+}
+
 #[test]
 fn limits(rt: HostRuntime) -> Result<(), Fail> {
     let alloc = rt.alloc();
-    assert_eq!(rt;
-        within(alloc, &declaring(alloc, 16_385)?, RUN_STEPS)?.as_str(),
-        "3||link: P1 DataTooBig 20481\n"
-    );
-    assert_eq!(rt;
-        within(alloc, &declaring(alloc, 12_289)?, RUN_STEPS)?.as_str(),
-        "3||link: P1 DataTooBig 16385\n"
-    );
-    assert_eq!(rt;
-        bytes_and_end(alloc, &declaring(alloc, 12_288)?, RUN_STEPS)?.as_str(),
-        "|"
-    );
-    let before = "SEGMENT A BEGIN INTEGER X; ";
-    let text = repeated(alloc, before, "X := X + 1; ", 6851, "END FINISH")?;
-    assert_eq!(rt;
-        within(alloc, &text, RUN_STEPS)?.as_str(),
-        "3||link: P4 CodeTooBig 65543\n"
-    );
-    let text = repeated(alloc, before, "X := X + 1; ", 6850, "END FINISH")?;
-    assert_eq!(rt; bytes_and_end(alloc, &text, RUN_STEPS)?.as_str(), "|");
-    let levels = |count: u32| -> Result<Vec<u8>, AllocError> {
-        let inner = repeated(alloc, "SEGMENT A ", "BEGIN ", count, "")?;
-        let mut text = inner;
-        for _ in 0..count {
-            text.extend_from_slice(b"END ")?;
-        }
-        text.extend_from_slice(b"FINISH")?;
-        Ok(text)
-    };
-    assert_eq!(rt;
-        bytes_and_end(alloc, &levels(64)?, RUN_STEPS)?.as_str(),
-        "|"
-    );
-    assert_eq!(rt;
-        within(alloc, &levels(65)?, RUN_STEPS)?.as_str(),
-        "2||a:1: S2 NestTooDeep 67\n"
-    );
+    for &(pieces, wanted) in REPEATED {
+        assert!(rt; is_repeated(alloc, pieces, wanted)?.is_some());
+    }
     Ok(())
 }
 
@@ -208,6 +235,17 @@ SEGMENT A BEGIN FLOATING X; X := 1 END FINISH?:1: S3 LeftOut FLOATING
 SEGMENT A BEGIN INTEGER I; FIXED(16,2) X; X := I/0.1 END FINISH?:1: Y2 ScaleRange
 SEGMENT A BEGIN PROCEDURE P(VALUE INTEGER X);; P END FINISH?:1: Y1 WrongArgs";
 
+fn is_refused(alloc: Global, text: &str, said: &str) -> Result<Option<u8>, AllocError> {
+    let told = format!(in alloc; "2||a{said}~")?;
+    let text = if text.is_empty() { "?" } else { text };
+    goes(
+        alloc,
+        text.as_bytes(),
+        RUN_STEPS,
+        Wanted::Text(told.as_str()),
+    )
+}
+
 #[test]
 fn refusals(rt: HostRuntime) -> Result<(), Fail> {
     let alloc = rt.alloc();
@@ -215,12 +253,7 @@ fn refusals(rt: HostRuntime) -> Result<(), Fail> {
     for row in REFUSALS.lines() {
         let mut parts = row.rsplit('?');
         if let (Some(said), Some(text)) = (parts.next(), parts.next()) {
-            let text = if text.is_empty() { "?" } else { text };
-            let wanted = format!(in alloc; "2||a{said}\n")?;
-            assert_eq!(rt;
-                within(alloc, text.as_bytes(), RUN_STEPS)?.as_str(),
-                wanted.as_str()
-            );
+            assert!(rt; is_refused(alloc, text, said)?.is_some(), "{row}");
             count = count.wrapping_add(1);
         }
     }
@@ -228,25 +261,29 @@ fn refusals(rt: HostRuntime) -> Result<(), Fail> {
     Ok(())
 }
 
-// A macro that doubles sixteen times, and a text of semicolons alone.
-#[test]
-fn long_expansions(rt: HostRuntime) -> Result<(), Fail> {
-    let alloc = rt.alloc();
-    let mut text = Vec::new(alloc);
-    text.extend_from_slice(b"DEFINE A0 \";\";")?;
+fn push_doubled(alloc: Global, text: &mut Vec<u8>, k: u32) -> Result<(), AllocError> {
+    let j = k.wrapping_sub(1);
+    let doubled = format!(in alloc; "DEFINE A{k} \"A{j} A{j}\";")?;
+    text.extend_from_slice(doubled.as_bytes())
+}
+
+// A macro that doubles sixteen times.
+fn doubling(alloc: Global) -> Result<Vec<u8>, AllocError> {
+    let mut text = b"DEFINE A0 \";\";".to_vec(alloc)?;
     for k in 1_u32..17 {
-        let j = k - 1;
-        text.extend_from_slice(format!(in alloc; "DEFINE A{k} \"A{j} A{j}\";")?.as_bytes())?;
+        push_doubled(alloc, &mut text, k)?;
     }
     text.extend_from_slice(b"A16")?;
-    assert_eq!(rt;
-        within(alloc, &text, RUN_STEPS)?.as_str(),
-        "2||a:1: M4 TooLong\n"
-    );
-    let text = repeated(alloc, "", ";", 1_048_576, "")?;
-    assert_eq!(rt;
-        within(alloc, &text, RUN_STEPS)?.as_str(),
-        "2||a:1: M4 TooLong\n"
-    );
+    Ok(text)
+}
+
+fn is_doubling(alloc: Global, told: &str) -> Result<Option<u8>, AllocError> {
+    let text = doubling(alloc)?;
+    goes(alloc, &text, RUN_STEPS, Wanted::Text(told))
+}
+
+#[test]
+fn long_expansions(rt: HostRuntime) -> Result<(), Fail> {
+    assert!(rt; is_doubling(rt.alloc(), "2||a:1: M4 TooLong~")?.is_some());
     Ok(())
 }

@@ -4,13 +4,11 @@ use Rattle.std.proofs.lemmas.Bool.{cases_lt, true≢false}
 use Rattle.std.proofs.lemmas.Option.{none-some, same_Some, slice_get-get_or}
 use Rattle.std.proofs.lemmas.List.{drop_more}
 use Rattle.cw_unit.specs.Allocation.{name_at}
-use Rattle.cw_unit.specs.declared.descriptor.Desc.{Desc}
 use Rattle.cw_comm.specs.declared.face.Face.{Face}
 use Rattle.cw_comm.specs.Agreement.{Name, defines, definer_from}
 use Rattle.cw_comm.specs.Clashes.{Names, Defines, IsSecondDefinition, NoneBefore}
-use Rattle.cw_comm.specs.Numbered.{AreNumbered}
 use Rattle.cw_comm.specs.Tables.{defined_in, TellsDefiners, TellsOwn, IsFirstTold}
-use Rattle.cw_comm.proofs.Entries.{no_face, IsNumbered, numbered}
+use Rattle.cw_comm.proofs.Entries.{no_face, Standing}
 use Rattle.cw_comm.proofs.Naming.{read_name}
 use Rattle.cw_comm.proofs.Firsts.{TellsNames, name_is, one_more, first_here}
 
@@ -126,38 +124,31 @@ module _ (faces : List Face) (names : List Name) (g : ℕ) (old new : List (Opti
 pub defined_names : (faces : List Face) → TellsNames faces (IsSecondDefinition faces)
 defined_names faces j d i n p = p.names
 
-module _ (faces : List Face) (names : List Name) (numbers : List (List ℕ)) (num : AreNumbered faces names numbers) (definers here : List (Option ℕ)) (td : TellsDefiners names faces definers) (g : ℕ) (th : TellsOwn names faces g here) (d : ℕ) (f : Face) (x : Desc)
-    (is : slice_get faces g ≡ Some f) (at : slice_get f.descs d ≡ Some x) (k : ℕ) (number : k ≡ get_or (get_or numbers g []) d 0) where
-  mine : Names faces g d x.name
-  mine = record { face = f; desc = x; segment_is = is; descriptor_is = at; name_is = refl }
+module _ {faces : List Face} {names : List Name} {definers here : List (Option ℕ)} (td : TellsDefiners names faces definers) (g : ℕ) (th : TellsOwn names faces g here) (d k : ℕ) (it : Standing faces names g d k) where
+  first-is : get_or definers k None ≡ definer_from 0 it.name faces
+  first-is = td.at k it.stands.within ∙ ap (λ n. definer_from 0 n faces) it.stands.there
 
-  stands : IsNumbered names k x.name
-  stands = numbered faces names numbers num g d f x k is at number
-
-  first-is : get_or definers k None ≡ definer_from 0 x.name faces
-  first-is = td.at k stands.within ∙ ap (λ n. definer_from 0 n faces) stands.there
-
-  same : (i j : ℕ) (n : Name) → Names faces g d n → Defines faces j n → Defines faces j x.name
-  same i j n p l = subst (Defines faces j) (name_is faces g d n x.name p mine) l
+  same : (i j : ℕ) (n : Name) → Names faces g d n → Defines faces j n → Defines faces j it.name
+  same i j n p l = subst (Defines faces j) (name_is faces g d n it.name p it.mine) l
 
   pub not_here : (get_or here k None ≡ Some g → ⊥) → NoneBefore (IsSecondDefinition faces) g d → NoneBefore (IsSecondDefinition faces) g (d + 1)
-  not_here foreign none = one_more (IsSecondDefinition faces) g d none (λ i n p. foreign ((th.at k stands.within).1 (subst (Defines faces g) (sym stands.there) (same i g n p.names p.defines_here))))
+  not_here foreign none = one_more (IsSecondDefinition faces) g d none (λ i n p. foreign ((th.at k it.stands.within).1 (subst (Defines faces g) (sym it.stands.there) (same i g n p.names p.defines_here))))
 
   pub no_definer : get_or definers k None ≡ None → NoneBefore (IsSecondDefinition faces) g d → NoneBefore (IsSecondDefinition faces) g (d + 1)
-  no_definer h none = one_more (IsSecondDefinition faces) g d none (λ i n p. none_defines faces x.name (sym first-is ∙ h) i (same i i n p.names p.defines_there))
+  no_definer h none = one_more (IsSecondDefinition faces) g d none (λ i n p. none_defines faces it.name (sym first-is ∙ h) i (same i i n p.names p.defines_there))
 
   pub none_earlier : (i : ℕ) → get_or definers k None ≡ Some i → g ≤ i → NoneBefore (IsSecondDefinition faces) g d → NoneBefore (IsSecondDefinition faces) g (d + 1)
   none_earlier i h le none =
-      let r = first_definer faces x.name i (sym first-is ∙ h) in
+      let r = first_definer faces it.name i (sym first-is ∙ h) in
       one_more (IsSecondDefinition faces) g d none (λ j n p. let m = r.least j (same j j n p.names p.defines_there) in omega (arith, m, le, p.before))
 
   pub second : (i : ℕ) → get_or here k None ≡ Some g → get_or definers k None ≡ Some i → i < g → NoneBefore (IsSecondDefinition faces) g d → IsFirstTold (IsSecondDefinition faces) faces g d i
   second i own h lt none =
-      let r = first_definer faces x.name i (sym first-is ∙ h) in
+      let r = first_definer faces it.name i (sym first-is ∙ h) in
       record {
-        name = x.name;
-        names = mine;
-        first = first_here (IsSecondDefinition faces) g d i x.name
-            (record { names = mine; before = lt; defines_here = subst (Defines faces g) stands.there ((th.at k stands.within).0 own); defines_there = r.defines_it })
+        name = it.name;
+        names = it.mine;
+        first = first_here (IsSecondDefinition faces) g d i it.name
+            (record { names = it.mine; before = lt; defines_here = subst (Defines faces g) it.stands.there ((th.at k it.stands.within).0 own); defines_there = r.defines_it })
             (λ j n p. r.least j (same j j n p.names p.defines_there)) none;
       }

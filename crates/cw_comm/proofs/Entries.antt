@@ -1,5 +1,5 @@
 -- One entry more in a table of names.
-use Rattle.std.proofs.Common.{◌≡◌, ℕ, ◌+◌, ◌<◌, ◌≤◌, Bool, true, false, cond, ◌||◌, nat_eq, List, [], ◌∷◌, length, drop, set, get_or, Option, Some, None, slice_get, refl, sym, ap, ap₂, subst, ◌∙◌, arith, inl, inr}
+use Rattle.std.proofs.Common.{◌≡◌, ℕ, ◌+◌, ◌-◌, ◌<◌, ◌≤◌, Bool, true, false, cond, ◌||◌, nat_eq, List, [], ◌∷◌, length, drop, set, get_or, Option, Some, None, slice_get, refl, sym, ap, ap₂, subst, ◌∙◌, arith, inl, inr}
 use Rattle.std.specs.Str.{bytes_eq}
 use Rattle.std.proofs.lemmas.Bool.{cases_eq, cases_lt, eq-eqb, ne_eqb, false_from_ne_true}
 use Rattle.std.proofs.lemmas.List.{get_or_default, drop_more, drop_all, get_or_read, length-map, get_or-set_same, get_or-set_other}
@@ -10,6 +10,7 @@ use Rattle.cw_unit.specs.declared.descriptor.Desc.{Desc}
 use Rattle.cw_unit.specs.declared.descriptor.DescBody.TheVariants as bodies
 use Rattle.cw_comm.specs.declared.face.Face.{Face}
 use Rattle.cw_comm.specs.Agreement.{Name, has_name, defines, definer_from, place_of, places_in}
+use Rattle.cw_comm.specs.Clashes.{Names}
 use Rattle.cw_comm.specs.Numbered.{AreNumbered, IsOnce}
 use Rattle.cw_comm.specs.Tables.{place_from, listed_in, first_listing, defined_in}
 use Rattle.cw_comm.proofs.Naming.{HasPlace, listed_once, listed, numbers_at, number_at}
@@ -51,6 +52,12 @@ pub record IsNumbered (names : List Name) (k : ℕ) (name : Name) : Type 0 where
   pub within : k < length names
   pub there : name_at names k ≡ name
 
+-- the name of a descriptor, and its number
+pub record Standing (faces : List Face) (names : List Name) (g d k : ℕ) : Type 0 where
+  pub name : Name
+  pub mine : Names faces g d name
+  pub stands : IsNumbered names k name
+
 module _ (faces : List Face) (names : List Name) (numbers : List (List ℕ)) (num : AreNumbered faces names numbers) where
   pub once : IsOnce names
   once = subst IsOnce (sym num.names_are) (listed_once faces)
@@ -70,7 +77,7 @@ module _ (faces : List Face) (names : List Name) (numbers : List (List ℕ)) (nu
   pub number_is : (g n : ℕ) (f : Face) (d : Desc) (ns : List ℕ) → slice_get faces g ≡ Some f → slice_get f.descs n ≡ Some d → ns ≡ get_or numbers g ns → get_or ns n 0 ≡ place_of names d.name
   number_is g n f d ns is at e = ap (λ (xs : List ℕ). get_or xs n 0) (read_numbers g f ns is e) ∙ number_at names f.descs n d at
 
-  pub numbered : (g n : ℕ) (f : Face) (d : Desc) (k : ℕ) → slice_get faces g ≡ Some f → slice_get f.descs n ≡ Some d → k ≡ get_or (get_or numbers g []) n 0 → IsNumbered names k d.name
+  numbered : (g n : ℕ) (f : Face) (d : Desc) (k : ℕ) → slice_get faces g ≡ Some f → slice_get f.descs n ≡ Some d → k ≡ get_or (get_or numbers g []) n 0 → IsNumbered names k d.name
   numbered g n f d k is at number =
       let len : length numbers ≡ length faces = ap length num.numbers_are ∙ length-map faces (λ x. places_in names x.descs) in
       let lt : g < length numbers = omega (arith, len, slice_get_within faces g f is) in
@@ -143,19 +150,34 @@ module _ (faces : List Face) (names : List Name) (numbers : List (List ℕ)) (nu
   pub no_definition : (g n : ℕ) (f : Face) (k : ℕ) (old : Option ℕ) → length f.defined ≤ n → old ≡ defined_in g (defines (name_at names k) f.descs (drop n f.defined)) old
   no_definition g n f k old le = sym (ap (λ ds. defined_in g (defines (name_at names k) f.descs ds) old) (drop_all n f.defined le))
 
+-- where a descriptor stands, and the number of its name
+pub standing : {faces : List Face} {names : List Name} {numbers : List (List ℕ)} → AreNumbered faces names numbers → (g d k : ℕ) → g < length faces → ((f : Face) → slice_get faces g ≡ Some f → d < length f.descs) → k ≡ get_or (get_or numbers g []) d 0 → Standing faces names g d k
+standing {faces = faces} {names = names} {numbers = numbers} num g d k within inside number =
+    let f : Face = get_or faces g no_face in
+    let is : slice_get faces g ≡ Some f = slice_get-get_or faces g no_face within in
+    let x : Desc = get_or f.descs d no_desc in
+    let at : slice_get f.descs d ≡ Some x = slice_get-get_or f.descs d no_desc (inside f is) in
+    record { name = x.name; mine = record { face = f; desc = x; segment_is = is; descriptor_is = at; name_is = refl }; stands = numbered faces names numbers num g d f x k is at number }
+
 -- ---- the segment just before this place
 
 drop-face : (fs : List Face) (g : ℕ) (f : Face) → slice_get fs g ≡ Some f → drop g fs ≡ f ∷ drop (g + 1) fs
 drop-face fs g f is = drop_more fs g f (slice_get_within fs g f is) ∙ ap (λ x. x ∷ drop (g + 1) fs) (get_or_from_slice_get fs g f f is)
 
-pub earlier_listing : (faces : List Face) (name : Name) (g m : ℕ) (now before : Option (ℕ × ℕ)) → g < length faces → g + 1 ≡ m → ((f : Face) → slice_get faces g ≡ Some f → now ≡ listed_in g (place_from 0 name f.descs) before) → before ≡ first_listing m name (drop m faces) → now ≡ first_listing g name (drop g faces)
-earlier_listing faces name g m now before lt next told h =
+-- a table with the entries of one segment more, where one tells what an entry is of a segment and of the entry before
+earlier : {A : Type 0} (faces : List Face) (m : ℕ) (one : ℕ → Face → Option A → Option A) (all : ℕ → List Face → Option A) → ((g : ℕ) (f : Face) (fs : List Face) → all g (f ∷ fs) ≡ one g f (all (g + 1) fs)) → (now before : Option A) → 0 < m → m ≤ length faces
+    → ((f : Face) → slice_get faces (m - 1) ≡ Some f → now ≡ one (m - 1) f before) → before ≡ all m (drop m faces) → now ≡ all (m - 1) (drop (m - 1) faces)
+earlier faces m one all step now before some most told h =
+    let g = m - 1 in
+    let next : m ≡ g + 1 = omega (arith, some) in
     let f : Face = get_or faces g no_face in
-    let is : slice_get faces g ≡ Some f = slice_get-get_or faces g no_face lt in
-    told f is ∙ ap (listed_in g (place_from 0 name f.descs)) (h ∙ ap (λ i. first_listing i name (drop i faces)) (sym next)) ∙ ap (first_listing g name) (sym (drop-face faces g f is))
+    let is : slice_get faces g ≡ Some f = slice_get-get_or faces g no_face (omega (arith, some, most)) in
+    told f is ∙ ap (one g f) (h ∙ ap (λ i. all i (drop i faces)) next) ∙ sym (step g f (drop (g + 1) faces)) ∙ ap (all g) (sym (drop-face faces g f is))
 
-pub earlier_definer : (faces : List Face) (name : Name) (g m : ℕ) (now before : Option ℕ) → g < length faces → g + 1 ≡ m → ((f : Face) → slice_get faces g ≡ Some f → now ≡ defined_in g (defines name f.descs f.defined) before) → before ≡ definer_from m name (drop m faces) → now ≡ definer_from g name (drop g faces)
-earlier_definer faces name g m now before lt next told h =
-    let f : Face = get_or faces g no_face in
-    let is : slice_get faces g ≡ Some f = slice_get-get_or faces g no_face lt in
-    told f is ∙ ap (defined_in g (defines name f.descs f.defined)) (h ∙ ap (λ i. definer_from i name (drop i faces)) (sym next)) ∙ ap (definer_from g name) (sym (drop-face faces g f is))
+pub earlier_listing : (faces : List Face) (name : Name) (m : ℕ) (now before : Option (ℕ × ℕ)) → 0 < m → m ≤ length faces → ((f : Face) → slice_get faces (m - 1) ≡ Some f → now ≡ listed_in (m - 1) (place_from 0 name f.descs) before) → before ≡ first_listing m name (drop m faces)
+    → now ≡ first_listing (m - 1) name (drop (m - 1) faces)
+earlier_listing faces name m = earlier faces m (λ g f o. listed_in g (place_from 0 name f.descs) o) (λ g fs. first_listing g name fs) (λ g f fs. refl)
+
+pub earlier_definer : (faces : List Face) (name : Name) (m : ℕ) (now before : Option ℕ) → 0 < m → m ≤ length faces → ((f : Face) → slice_get faces (m - 1) ≡ Some f → now ≡ defined_in (m - 1) (defines name f.descs f.defined) before) → before ≡ definer_from m name (drop m faces)
+    → now ≡ definer_from (m - 1) name (drop (m - 1) faces)
+earlier_definer faces name m = earlier faces m (λ g f o. defined_in g (defines name f.descs f.defined) o) (λ g fs. definer_from g name fs) (λ g f fs. refl)

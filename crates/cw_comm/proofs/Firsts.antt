@@ -1,11 +1,12 @@
 -- The first clash of a kind is found by looking at each descriptor of each segment in turn.
-use Rattle.std.proofs.Common.{◌≡◌, inl, inr, ℕ, zero, suc, ◌+◌, ◌<◌, ◌≤◌, List, [], ◌∷◌, length, Some, slice_get, sym, ap, subst, ◌∙◌, arith}
+use Rattle.std.proofs.Common.{◌≡◌, inl, inr, ℕ, zero, suc, ◌+◌, ◌<◌, ◌≤◌, List, [], ◌∷◌, length, Some, slice_get, get_or, sym, ap, subst, ◌∙◌, arith}
 use Rattle.std.proofs.lemmas.Bool.{cases_eq}
-use Rattle.std.proofs.lemmas.Option.{same_Some, slice_get_within}
+use Rattle.std.proofs.lemmas.Option.{same_Some, slice_get_within, slice_get-get_or, get_or_from_slice_get}
 use Rattle.cw_unit.specs.declared.descriptor.Desc.{Desc}
 use Rattle.cw_comm.specs.declared.face.Face.{Face}
 use Rattle.cw_comm.specs.Agreement.{Name, listing_of, Listing, as_listed}
 use Rattle.cw_comm.specs.Clashes.{Kind, Names, Lists, IsFirst, HasNone, NoneBefore}
+use Rattle.cw_comm.specs.Tables.{IsFirstTold, IsFirstIn}
 
 -- ---- what stands where
 
@@ -73,3 +74,24 @@ none_at_all faces P names none j d i n p =
     let t = names j d i n p in
     let below = slice_get_within faces j t.face t.segment_is in
     elim (none j d i n p) [ inl h ↦ absurd (omega (arith, h, below)) | inr h ↦ absurd (omega (arith, h.0, below)) ]
+
+-- ---- the descriptors of a segment, as a function reads them
+
+pub segment_told : {faces : List Face} {P : Kind} {g d i : ℕ} (face : Face) (ds : List Desc) (one : Desc) → ds ≡ (get_or faces g face).descs → IsFirstTold P faces g d i → IsFirstIn P (get_or ds d one).name i g
+segment_told {faces = faces} {P = P} {g = g} {d = d} {i = i} face ds one e t =
+    let same = e ∙ ap (λ (f : Face). f.descs) (get_or_from_slice_get faces g t.names.face face t.names.segment_is) in
+    let told : (get_or ds d one).name ≡ t.name =
+    ap (λ (xs : List Desc). (get_or xs d one).name) same ∙ ap (λ (x : Desc). x.name) (get_or_from_slice_get t.names.face.descs d t.names.desc one t.names.descriptor_is) ∙ t.names.name_is in
+    (d, subst (IsFirst P g d i) (sym told) t.first)
+
+pub segment_past : (faces : List Face) (P : Kind) → TellsNames faces P → (g d : ℕ) (face : Face) (ds : List Desc) → g < length faces → ds ≡ (get_or faces g face).descs → d ≡ length ds → NoneBefore P g d → NoneBefore P (g + 1) 0
+segment_past faces P names g d face ds within e all none = next_segment faces P names g (get_or faces g face) (slice_get-get_or faces g face within) (subst (NoneBefore P g) (all ∙ ap length e) none)
+
+-- the segments of a clash, of few
+pub both_few : (faces : List Face) (P : Kind) → TellsNames faces P → ((j d i : ℕ) (n : Name) → P j d i n → i < j) → length faces ≤ 200 → (name : Name) (i j : ℕ) → IsFirstIn P name i j → (i < 255) × (j < 255)
+both_few faces P names before few name i j found =
+    let p = found.1.holds in
+    let n = names j found.0 i name p in
+    let within : j < length faces = slice_get_within faces j n.face n.segment_is in
+    let lt : i < j = before j found.0 i name p in
+    (omega (arith, within, lt, few), omega (arith, within, few))

@@ -166,8 +166,8 @@ pub(crate) fn judge_places(places: &[RawPlace], scale: u8, first: &mut Option<Fa
     }
 }
 
-// The places behind so many.
-fn behind(words: usize, places: &[RawPlace]) -> &[RawPlace]
+/// The places behind so many.
+pub fn behind(words: usize, places: &[RawPlace]) -> &[RawPlace]
     ensures { result.now ≡ drop words places.now }
 {
     if words >= places.len() {
@@ -177,7 +177,8 @@ fn behind(words: usize, places: &[RawPlace]) -> &[RawPlace]
     }
 }
 
-fn behind_each<'a>(words: usize, names: &[RawName], places: &'a [RawPlace]) -> &'a [RawPlace]
+/// The places behind those of some items, which have so many words each.
+pub fn behind_each<'a>(words: usize, names: &[RawName], places: &'a [RawPlace]) -> &'a [RawPlace]
     ensures { result.now ≡ behind_each words names.now places.now }
 {
     let mut rest = places;

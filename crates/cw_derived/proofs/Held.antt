@@ -1,9 +1,7 @@
 -- A tree that is a bracket alone, and an expression that is a tree of a narrower rule: what is in them is in normal form.
 use Rattle.std.proofs.Common.{◌≡◌, ℕ, Bool, List, [], ◌∷◌, ◌++◌, map, Option, Some, None, refl, sym, ap, subst, ◌∙◌, append-nil, append_assoc}
 use Rattle.std.proofs.lemmas.Option.{none-some, same_Some}
-use Rattle.cw_tree.specs.declared.leaf.Position.{Position}
 use Rattle.cw_tree.specs.declared.leaf.RawSign.{RawSign}
-use Rattle.cw_tree.specs.declared.leaf.RawFactorSign.{RawFactorSign}
 use Rattle.cw_tree.specs.declared.expression.RawBits.{RawBits}
 use Rattle.cw_tree.specs.declared.expression.RawExpr.TheVariants as expr_tree
 use Rattle.cw_tree.specs.declared.expression.RawPrimary.TheVariants as primary_tree
@@ -109,24 +107,16 @@ sole_in : {n : ℕ} {p : Bool} (o s : Sort) (x t : Value s) (rest : List (Value 
 sole_in {n = n} {p = p} o s x t rest {a = a} {b = b} found h r there q = sole_normal n p o s x t rest a b h r (alone x t rest (sym there ∙ q))
 
 pub differ_in : {n : ℕ} {p : Bool} {y : RawTerm} {a : List ℕ} (t : RawDiffer) → IsNormal n p a_term y a → sole (out-RawTerm y).operands ≡ Some t → IsNormal n p a_differ t a
-differ_in t (is_term {x = x} {rest = rest} h k r) q =
-    let ops : Operands RawDiffer RawFactorSign = extended (x ∷ [], []) rest in
-    sole_in a_factor_sign a_differ x t rest _ h r (ap (λ (z : TermLayer). sole z.operands) (out-roll-RawTerm (record { operands = ops.0; operators = ops.1 }))) q
+differ_in t (is_term {x = x} {rest = rest} h k r) q = sole_in a_factor_sign a_differ x t rest _ h r (ap (λ (z : TermLayer). sole z.operands) (out-roll-RawTerm _)) q
 
 pub union_in : {n : ℕ} {p : Bool} {y : RawDiffer} {a : List ℕ} (t : RawUnion) → IsNormal n p a_differ y a → sole (out-RawDiffer y).operands ≡ Some t → IsNormal n p a_union t a
-union_in t (is_differ {x = x} {rest = rest} h k r) q =
-    let ops : Operands RawUnion Position = extended (x ∷ [], []) rest in
-    sole_in a_position a_union x t rest _ h r (ap (λ (z : DifferLayer). sole z.operands) (out-roll-RawDiffer (record { operands = ops.0; operators = ops.1 }))) q
+union_in t (is_differ {x = x} {rest = rest} h k r) q = sole_in a_position a_union x t rest _ h r (ap (λ (z : DifferLayer). sole z.operands) (out-roll-RawDiffer _)) q
 
 pub mask_in : {n : ℕ} {p : Bool} {y : RawUnion} {a : List ℕ} (t : RawMask) → IsNormal n p a_union y a → sole (out-RawUnion y).operands ≡ Some t → IsNormal n p a_mask t a
-mask_in t (is_union {x = x} {rest = rest} h k r) q =
-    let ops : Operands RawMask Position = extended (x ∷ [], []) rest in
-    sole_in a_position a_mask x t rest _ h r (ap (λ (z : UnionLayer). sole z.operands) (out-roll-RawUnion (record { operands = ops.0; operators = ops.1 }))) q
+mask_in t (is_union {x = x} {rest = rest} h k r) q = sole_in a_position a_mask x t rest _ h r (ap (λ (z : UnionLayer). sole z.operands) (out-roll-RawUnion _)) q
 
 pub prim_in : {n : ℕ} {p : Bool} {y : RawMask} {a : List ℕ} (t : RawPrim) → IsNormal n p a_mask y a → sole (out-RawMask y).operands ≡ Some t → IsNormal n p a_prim t a
-prim_in t (is_mask {x = x} {rest = rest} h k r) q =
-    let ops : Operands RawPrim Position = extended (x ∷ [], []) rest in
-    sole_in a_position a_prim x t rest _ h r (ap (λ (z : MaskLayer). sole z.operands) (out-roll-RawMask (record { operands = ops.0; operators = ops.1 }))) q
+prim_in t (is_mask {x = x} {rest = rest} h k r) q = sole_in a_position a_prim x t rest _ h r (ap (λ (z : MaskLayer). sole z.operands) (out-roll-RawMask _)) q
 
 pub as_term_in : {n : ℕ} {p : Bool} {e : RawExpr} {a : List ℕ} (t : RawTerm) → IsNormal n p an_expr e a → as_term e ≡ Some t → IsNormal n p a_term t a
 as_term_in {e = e} t h q = elim (both_of (as_sum e) sole_term t q) [ both_steps y u v ↦ term_in t (sum_in y h u) v ]

@@ -95,73 +95,39 @@ joined_made {n = n} {p = p} o s t tree parts bracket narrow held narrowed taken 
       normal = subst (λ (z : Operands (Value s) (Value o)). IsNormal n p t (tree z) (all.head_marks ++ all.rest_marks)) (sym all.is) (makes all.head all.rest all.head_marks all.rest_marks all.head_normal all.head_stays all.rest_normal);
     }
 
--- ---- mask
+-- ---- mask, union, differ, term
 
-abbrev pub prim_stays : RawPrim → Type 0
-prim_stays x = (bracket_prim x >>- as_mask) ≡ None
-
-abbrev mask_parts : RawMask → Operands RawPrim Position
-mask_parts m = ((out-RawMask m).operands, (out-RawMask m).operators)
-
-mask_taken : {n : ℕ} {p : Bool} {m : RawMask} {a ns : List ℕ} → IsNormal n p a_mask m a → Within a ns → Start n p a_position a_prim prim_stays (mask_parts m) ns
-mask_taken (is_mask {x = x} {rest = rest} h e r) w =
-    let ops : Operands RawPrim Position = extended (x ∷ [], []) rest in
-    start_with a_position a_prim prim_stays x rest (ap (λ (z : MaskLayer). (z.operands, z.operators)) (out-roll-RawMask (record { operands = ops.0; operators = ops.1 }))) w h e r
+mask_taken : {n : ℕ} {p : Bool} {m : RawMask} {a ns : List ℕ} → IsNormal n p a_mask m a → Within a ns → Start n p a_position a_prim (λ x. (bracket_prim x >>- as_mask) ≡ None) ((out-RawMask m).operands, (out-RawMask m).operators) ns
+mask_taken (is_mask {x = x} {rest = rest} h e r) w = start_with a_position a_prim (λ x. (bracket_prim x >>- as_mask) ≡ None) x rest (ap (λ (z : MaskLayer). (z.operands, z.operators)) (out-roll-RawMask _)) w h e r
 
 pub mask_made : {n : ℕ} {p : Bool} {x : RawPrim} {more : List (Position × RawPrim)} {ns ms : List ℕ} → IsNormalWithin n p a_prim x ns → IsNormalWithin n p (a_list (a_pair a_position a_prim)) more ms → IsNormalWithin n p a_mask (mask_tree (extended (mask_start x) more)) (ns ++ ms)
-mask_made {x = x} {more = more} k m = joined_made a_position a_prim a_mask mask_tree mask_parts bracket_prim as_mask (λ x a y h u. prim_held y h u) (λ y a z h v. as_mask_in z h v) (λ z a ns h w. mask_taken h w) (λ x rest a b h e r. is_mask h e r) {x = x} {more = more} k m
+mask_made {x = x} {more = more} k m =
+    joined_made a_position a_prim a_mask mask_tree (λ z. ((out-RawMask z).operands, (out-RawMask z).operators)) bracket_prim as_mask (λ x a y h u. prim_held y h u) (λ y a z h v. as_mask_in z h v) (λ z a ns h w. mask_taken h w) (λ x rest a b h e r. is_mask h e r) {x = x} {more = more} k m
 
--- ---- union
-
-abbrev pub mask_stays : RawMask → Type 0
-mask_stays x = (bracket_mask x >>- as_union) ≡ None
-
-abbrev union_parts : RawUnion → Operands RawMask Position
-union_parts m = ((out-RawUnion m).operands, (out-RawUnion m).operators)
-
-union_taken : {n : ℕ} {p : Bool} {m : RawUnion} {a ns : List ℕ} → IsNormal n p a_union m a → Within a ns → Start n p a_position a_mask mask_stays (union_parts m) ns
-union_taken (is_union {x = x} {rest = rest} h e r) w =
-    let ops : Operands RawMask Position = extended (x ∷ [], []) rest in
-    start_with a_position a_mask mask_stays x rest (ap (λ (z : UnionLayer). (z.operands, z.operators)) (out-roll-RawUnion (record { operands = ops.0; operators = ops.1 }))) w h e r
+union_taken : {n : ℕ} {p : Bool} {m : RawUnion} {a ns : List ℕ} → IsNormal n p a_union m a → Within a ns → Start n p a_position a_mask (λ x. (bracket_mask x >>- as_union) ≡ None) ((out-RawUnion m).operands, (out-RawUnion m).operators) ns
+union_taken (is_union {x = x} {rest = rest} h e r) w = start_with a_position a_mask (λ x. (bracket_mask x >>- as_union) ≡ None) x rest (ap (λ (z : UnionLayer). (z.operands, z.operators)) (out-roll-RawUnion _)) w h e r
 
 pub union_made : {n : ℕ} {p : Bool} {x : RawMask} {more : List (Position × RawMask)} {ns ms : List ℕ} → IsNormalWithin n p a_mask x ns → IsNormalWithin n p (a_list (a_pair a_position a_mask)) more ms → IsNormalWithin n p a_union (union_tree (extended (union_start x) more)) (ns ++ ms)
-union_made {x = x} {more = more} k m = joined_made a_position a_mask a_union union_tree union_parts bracket_mask as_union (λ x a y h u. mask_held y h u) (λ y a z h v. as_union_in z h v) (λ z a ns h w. union_taken h w) (λ x rest a b h e r. is_union h e r) {x = x} {more = more} k m
+union_made {x = x} {more = more} k m =
+    joined_made a_position a_mask a_union union_tree (λ z. ((out-RawUnion z).operands, (out-RawUnion z).operators)) bracket_mask as_union (λ x a y h u. mask_held y h u) (λ y a z h v. as_union_in z h v) (λ z a ns h w. union_taken h w) (λ x rest a b h e r. is_union h e r) {x = x} {more = more} k m
 
--- ---- differ
-
-abbrev pub union_stays : RawUnion → Type 0
-union_stays x = (bracket_union x >>- as_differ) ≡ None
-
-abbrev differ_parts : RawDiffer → Operands RawUnion Position
-differ_parts m = ((out-RawDiffer m).operands, (out-RawDiffer m).operators)
-
-differ_taken : {n : ℕ} {p : Bool} {m : RawDiffer} {a ns : List ℕ} → IsNormal n p a_differ m a → Within a ns → Start n p a_position a_union union_stays (differ_parts m) ns
-differ_taken (is_differ {x = x} {rest = rest} h e r) w =
-    let ops : Operands RawUnion Position = extended (x ∷ [], []) rest in
-    start_with a_position a_union union_stays x rest (ap (λ (z : DifferLayer). (z.operands, z.operators)) (out-roll-RawDiffer (record { operands = ops.0; operators = ops.1 }))) w h e r
+differ_taken : {n : ℕ} {p : Bool} {m : RawDiffer} {a ns : List ℕ} → IsNormal n p a_differ m a → Within a ns → Start n p a_position a_union (λ x. (bracket_union x >>- as_differ) ≡ None) ((out-RawDiffer m).operands, (out-RawDiffer m).operators) ns
+differ_taken (is_differ {x = x} {rest = rest} h e r) w = start_with a_position a_union (λ x. (bracket_union x >>- as_differ) ≡ None) x rest (ap (λ (z : DifferLayer). (z.operands, z.operators)) (out-roll-RawDiffer _)) w h e r
 
 pub differ_made : {n : ℕ} {p : Bool} {x : RawUnion} {more : List (Position × RawUnion)} {ns ms : List ℕ} → IsNormalWithin n p a_union x ns → IsNormalWithin n p (a_list (a_pair a_position a_union)) more ms → IsNormalWithin n p a_differ (differ_tree (extended (differ_start x) more)) (ns ++ ms)
-differ_made {x = x} {more = more} k m = joined_made a_position a_union a_differ differ_tree differ_parts bracket_union as_differ (λ x a y h u. union_held y h u) (λ y a z h v. as_differ_in z h v) (λ z a ns h w. differ_taken h w) (λ x rest a b h e r. is_differ h e r) {x = x} {more = more} k m
+differ_made {x = x} {more = more} k m =
+    joined_made a_position a_union a_differ differ_tree (λ z. ((out-RawDiffer z).operands, (out-RawDiffer z).operators)) bracket_union as_differ (λ x a y h u. union_held y h u) (λ y a z h v. as_differ_in z h v) (λ z a ns h w. differ_taken h w) (λ x rest a b h e r. is_differ h e r) {x = x} {more = more} k m
 
--- ---- term
-
-abbrev pub differ_stays : RawDiffer → Type 0
-differ_stays x = (bracket_differ x >>- as_term) ≡ None
-
-abbrev term_parts : RawTerm → Operands RawDiffer RawFactorSign
-term_parts m = ((out-RawTerm m).operands, (out-RawTerm m).operators)
-
-term_taken : {n : ℕ} {p : Bool} {m : RawTerm} {a ns : List ℕ} → IsNormal n p a_term m a → Within a ns → Start n p a_factor_sign a_differ differ_stays (term_parts m) ns
-term_taken (is_term {x = x} {rest = rest} h e r) w =
-    let ops : Operands RawDiffer RawFactorSign = extended (x ∷ [], []) rest in
-    start_with a_factor_sign a_differ differ_stays x rest (ap (λ (z : TermLayer). (z.operands, z.operators)) (out-roll-RawTerm (record { operands = ops.0; operators = ops.1 }))) w h e r
+term_taken : {n : ℕ} {p : Bool} {m : RawTerm} {a ns : List ℕ} → IsNormal n p a_term m a → Within a ns → Start n p a_factor_sign a_differ (λ x. (bracket_differ x >>- as_term) ≡ None) ((out-RawTerm m).operands, (out-RawTerm m).operators) ns
+term_taken (is_term {x = x} {rest = rest} h e r) w = start_with a_factor_sign a_differ (λ x. (bracket_differ x >>- as_term) ≡ None) x rest (ap (λ (z : TermLayer). (z.operands, z.operators)) (out-roll-RawTerm _)) w h e r
 
 pub term_made : {n : ℕ} {p : Bool} {x : RawDiffer} {more : List (RawFactorSign × RawDiffer)} {ns ms : List ℕ} → IsNormalWithin n p a_differ x ns → IsNormalWithin n p (a_list (a_pair a_factor_sign a_differ)) more ms → IsNormalWithin n p a_term (term_tree (extended (term_start x) more)) (ns ++ ms)
-term_made {x = x} {more = more} k m = joined_made a_factor_sign a_differ a_term term_tree term_parts bracket_differ as_term (λ x a y h u. differ_held y h u) (λ y a z h v. as_term_in z h v) (λ z a ns h w. term_taken h w) (λ x rest a b h e r. is_term h e r) {x = x} {more = more} k m
+term_made {x = x} {more = more} k m =
+    joined_made a_factor_sign a_differ a_term term_tree (λ z. ((out-RawTerm z).operands, (out-RawTerm z).operators)) bracket_differ as_term (λ x a y h u. differ_held y h u) (λ y a z h v. as_term_in z h v) (λ z a ns h w. term_taken h w) (λ x rest a b h e r. is_term h e r) {x = x} {more = more} k m
 
 -- ---- sums
 
-abbrev pub term_stays : RawTerm → Type 0
+abbrev term_stays : RawTerm → Type 0
 term_stays x = (bracket_term x >>- as_sum) ≡ None
 
 -- terms so far, with a sign or without one

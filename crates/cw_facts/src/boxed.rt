@@ -35,12 +35,6 @@ impl BoxedDeclaration {
     {
         &self.inner
     }
-
-    pub fn copied(&self) -> Declaration
-        ensures { result ≡ self.now }
-    {
-        *self.inner
-    }
 }
 
 /// A specification in a box. Contracts see the specification.

@@ -4,3 +4,4 @@ pub mod Scales
 pub mod NoLabels
 pub mod BestScales
 pub mod Making
+pub mod Adding

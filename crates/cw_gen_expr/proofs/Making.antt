@@ -1,5 +1,5 @@
 -- Pieces of orders that are added one after another, as the code makes them.
-use Rattle.std.proofs.Common.{◌≡◌, ℕ, ◌+◌, ℤ, List, [], ◌∷◌, ◌++◌, length, set, Bool, Option, Some, None, refl, sym, ap, ap₂, ◌∙◌, append_assoc, append-nil, length-append}
+use Rattle.std.proofs.Common.{◌≡◌, ℕ, ◌+◌, ℤ, List, [], ◌∷◌, ◌++◌, length, set, Option, Some, None, refl, sym, ap, ap₂, ◌∙◌, append_assoc, append-nil, length-append}
 use Rattle.std.proofs.Math.Seq.{set-append_seam, take-append_seam}
 use Rattle.cw_word.specs.Word.{unsigned}
 use Rattle.cw_order.specs.declared.order.Order.{Order}
@@ -10,14 +10,13 @@ use Rattle.cw_unit.specs.declared.unit.Spot.{Spot, out-Spot, map-Spot}
 use Rattle.cw_unit.specs.declared.unit.Ref.{Ref}
 use Rattle.cw_unit.specs.declared.unit.Expr.{Expr, Expr-F, out-Expr}
 use Rattle.cw_unit.specs.declared.unit.Arg.TheOpen as layer
-use Rattle.cw_unit.specs.declared.unit.Arg.TheOpen.{Cond-F, Spot-F}
-use Rattle.cw_unit.specs.declared.unit.Arg.TheViews.{roll-Expr, roll-Cond, roll-Spot, out-roll-Expr, out-roll-Spot}
-use Rattle.cw_unit.specs.declared.unit.Arg.TheFolds.{fold-roll-Cond}
+use Rattle.cw_unit.specs.declared.unit.Arg.TheOpen.{Spot-F}
+use Rattle.cw_unit.specs.declared.unit.Arg.TheViews.{roll-Expr, roll-Spot, out-roll-Expr, out-roll-Spot}
 use Rattle.cw_unit.specs.Scales.{operand_scale}
 use Rattle.cw_gen_expr.specs.Pieces.{MarkedOrders, Piece, plain, followed_by, with_end}
 use Rattle.cw_gen_expr.specs.Output.{added, extent_of, shortened}
-use Rattle.cw_gen_expr.specs.ReferenceExpressions.{Scope, Value, Reference, ConditionPiece, saved, two_values, number_order, item_order, form_orders, known_or, named_or, index_piece, known_item, known_word, argument_step, condition_step, expression_step, spot_step, reference_step, value_of, expression_piece, condition_piece, argument_piece, reference_of, spot_piece, computed_piece, pieces_of, indexes_of}
-use Rattle.cw_gen_expr.proofs.Layers.{computed_layer, known_layer, condition_layer, value-made, spot-made}
+use Rattle.cw_gen_expr.specs.ReferenceExpressions.{Scope, Value, Reference, ConditionPiece, number_order, item_order, form_orders, known_or, named_or, known_item, known_word, value_of, expression_piece, condition_piece, argument_piece, reference_of, spot_piece, computed_piece, pieces_of, indexes_of}
+use Rattle.cw_gen_expr.proofs.Layers.{known_layer, value-made, spot-made}
 use Rattle.cw_gen_expr.proofs.Scales.{operand-is}
 
 abbrev pub marked : List Order → List (ℕ × ℕ) → List ℕ → MarkedOrders
@@ -53,13 +52,6 @@ added-both p q x =
 pub two_steps : (p q : Piece) (x x1 x2 : MarkedOrders) → x1 ≡ added p x → x2 ≡ added q x1 → x2 ≡ added (followed_by p q) x
 two_steps p q x x1 x2 e1 e2 = e2 ∙ ap (added q) e1 ∙ sym (added-both p q x)
 
-pub three_steps : (p q r : Piece) (x x1 x2 x3 : MarkedOrders) → x1 ≡ added p x → x2 ≡ added q x1 → x3 ≡ added r x2 → x3 ≡ added (followed_by p (followed_by q r)) x
-three_steps p q r x x1 x2 x3 e1 e2 e3 = two_steps p (followed_by q r) x x1 x3 e1 (two_steps q r x1 x2 x3 e2 e3)
-
--- two values, the first one saved, and the orders that take them
-pub two_saved : (p q : Piece) (os : List Order) (x x1 z x2 x3 : MarkedOrders) → x1 ≡ added p x → z ≡ added saved x1 → x2 ≡ added q z → x3 ≡ added (plain os) x2 → x3 ≡ added (two_values p q os) x
-two_saved p q os x x1 z x2 x3 e1 es e2 e3 = two_steps p (followed_by saved (followed_by q (plain os))) x x1 x3 e1 (three_steps saved q (plain os) x1 z x2 x3 es e2 e3)
-
 pub plain_steps : (os ps : List Order) (x x1 x2 : MarkedOrders) → x1 ≡ added (plain os) x → x2 ≡ added (plain ps) x1 → x2 ≡ added (plain (os ++ ps)) x
 plain_steps os ps x x1 x2 e1 e2 = two_steps (plain os) (plain ps) x x1 x2 e1 e2
 
@@ -73,13 +65,6 @@ added-end body x =
     ∙ alike (append_assoc x.orders y.orders (order.Mark ∷ [])) refl
     (ap₂ (λ ms place. set ms n place) (append_assoc x.marks (0 ∷ []) y.marks) (length-append x.orders y.orders)
     ∙ set-append_seam x.marks 0 y.marks (length x.orders + length y.orders))
-
--- as the code makes it: two pieces and the end
-pub ended : (p q : ℕ → Piece) (m n : ℕ) (x x1 x2 x3 x4 : MarkedOrders) → n ≡ length x.marks → m ≡ n → x1 ≡ reserved x → x2 ≡ added (p n) x1 → x3 ≡ added (q n) x2 → x4 ≡ closed m x3 → x4 ≡ added (with_end (λ end. followed_by (p end) (q end))) x
-ended p q m n x x1 x2 x3 x4 e e' e1 e2 e3 e4 =
-    e4 ∙ ap₂ closed (e' ∙ e) (e3 ∙ ap (added (q n)) (e2 ∙ ap (added (p n)) e1) ∙ ap (λ k. added (q k) (added (p k) (reserved x))) e)
-    ∙ ap (closed (length x.marks)) (sym (added-both (p (length x.marks)) (q (length x.marks)) (reserved x)))
-    ∙ added-end (λ end. followed_by (p end) (q end)) x
 
 -- what was added is taken back
 pub retracted : (p : Piece) (x x1 x2 : MarkedOrders) → x1 ≡ added p x → x2 ≡ shortened (extent_of x) x1 → x2 ≡ x
@@ -102,9 +87,6 @@ form_same s line (layer.Bare e) = refl
 module _ (s : Scope) where
   -- ---- by the first layer of a tree
 
-  pub by_layer : (e : Expr) (y : Expr-F Arg Cond Expr Spot Ref) (f : ℕ) (x x' : MarkedOrders) → e ≡ roll-Expr y → x' ≡ added ((computed_layer s y).at f) x → x' ≡ added (computed_piece s e f) x
-  by_layer e y f x x' is h = h ∙ ap (λ z. added ((computed_layer s z).at f) x) (sym (ap out-Expr is ∙ out-roll-Expr y))
-
   pub known_by : (e : Expr) (y : Expr-F Arg Cond Expr Spot Ref) (f : ℕ) (k : Option ℤ) → e ≡ roll-Expr y → k ≡ known_layer s y f → k ≡ (value_of s e).known f
   known_by e y f k is h = h ∙ ap (λ z. known_layer s z f) (sym (ap out-Expr is ∙ out-roll-Expr y)) ∙ sym (ap (λ v. v.known f) (value-made s e))
 
@@ -121,12 +103,6 @@ module _ (s : Scope) where
 
   pub left_so : (e : Expr) (f : ℕ) (k : Option ℤ) (x x1 : MarkedOrders) → x1 ≡ added (computed_piece s e f) x → k ≡ (value_of s e).known f → k ≡ None → x1 ≡ added (expression_piece s e f) x
   left_so e f k x x1 e1 ek is = e1 ∙ ap (λ p. added p x) (sym (as_known e f ∙ ap (λ o. known_or o (computed_piece s e f)) (sym ek ∙ is)))
-
-  condition_rolled : (y : Cond-F Arg Cond Expr Spot Ref) → condition_piece s (roll-Cond y) ≡ condition_layer s y
-  condition_rolled y = fold-roll-Cond Piece ConditionPiece Value Piece Reference (argument_step s) (condition_step s) (expression_step s) (spot_step s) (reference_step s) y
-
-  pub by_condition : (d : Cond) (y : Cond-F Arg Cond Expr Spot Ref) (when : Bool) (mark : ℕ) (x x' : MarkedOrders) → d ≡ roll-Cond y → x' ≡ added (condition_layer s y when mark) x → x' ≡ added (condition_piece s d when mark) x
-  by_condition d y when mark x x' is h = h ∙ ap (λ v. added (v when mark) x) (sym (ap (condition_piece s) is ∙ condition_rolled y))
 
   -- ---- a reference, by whether its word is known
 
@@ -150,41 +126,15 @@ module _ (s : Scope) where
       ∙ ap (λ p. added p x) (sym (as_named a ∙ ap (λ o. named_or s.layout (known_item s (pieces_of s a)) o F) (sym ek ∙ is)))
 
   -- by the first layer
-  abbrev pieces_in : Spot-F Arg Cond Expr Spot Ref → Spot-F Piece ConditionPiece Value Piece Reference
+  abbrev pub pieces_in : Spot-F Arg Cond Expr Spot Ref → Spot-F Piece ConditionPiece Value Piece Reference
   pieces_in y = map-Spot Arg Cond Expr Spot Ref Piece ConditionPiece Value Piece Reference (argument_piece s) (condition_piece s) (value_of s) (spot_piece s) (reference_of s) y
 
-  pieces_are : (a : Spot) (y : Spot-F Arg Cond Expr Spot Ref) → a ≡ roll-Spot y → pieces_of s a ≡ pieces_in y
+  pub pieces_are : (a : Spot) (y : Spot-F Arg Cond Expr Spot Ref) → a ≡ roll-Spot y → pieces_of s a ≡ pieces_in y
   pieces_are a y is = ap pieces_in (ap out-Spot is ∙ out-roll-Spot y)
-
-  pub by_indexes : (a : Spot) (y : Spot-F Arg Cond Expr Spot Ref) (x x' : MarkedOrders) → a ≡ roll-Spot y → x' ≡ added (index_piece s (pieces_in y)) x → x' ≡ added (indexes_of s a) x
-  by_indexes a y x x' is h = h ∙ ap (λ z. added (index_piece s z) x) (sym (pieces_are a y is))
 
   pub word_by : (a : Spot) (y : Spot-F Arg Cond Expr Spot Ref) (k : Option ℕ) → a ≡ roll-Spot y → k ≡ known_word s (pieces_in y) → k ≡ known_word s (pieces_of s a)
   word_by a y k is h = h ∙ ap (known_word s) (sym (pieces_are a y is))
 
-  -- ---- parts
-
-  -- a value that is named by another way
-  pub value_at : (a a' : Expr) (f f' : ℕ) (x x1 : MarkedOrders) → a' ≡ a → f' ≡ f → x1 ≡ added (expression_piece s a' f') x → x1 ≡ added (expression_piece s a f) x
-  value_at a a' f f' x x1 ea ef h = h ∙ ap₂ (λ v g. added (expression_piece s v g) x) ea ef
-
-  pub known_at : (a a' : Expr) (f f' : ℕ) (k : Option ℤ) → a' ≡ a → f' ≡ f → k ≡ (value_of s a').known f' → k ≡ (value_of s a).known f
-  known_at a a' f f' k ea ef h = h ∙ ap₂ (λ v g. (value_of s v).known g) ea ef
-
-  pub condition_at : (d d' : Cond) (when : Bool) (mark mark' : ℕ) (x x1 : MarkedOrders) → d' ≡ d → mark' ≡ mark → x1 ≡ added (condition_piece s d' when mark') x → x1 ≡ added (condition_piece s d when mark) x
-  condition_at d d' when mark mark' x x1 ed em h = h ∙ ap₂ (λ v m. added (condition_piece s v when m) x) ed em
-
   -- the scale of an operand, as the code finds it
-  pub operand_same : (a a' : Expr) (f : ℕ) → a' ≡ a → f ≡ operand_scale s.unit a' → f ≡ (value_of s a).operand
-  operand_same a a' f ea ef = ef ∙ ap (operand_scale s.unit) ea ∙ sym (operand-is s a)
-
-  -- an expression of one value, and of two
-  pub of_one : (e a a' : Expr) (y : Expr-F Arg Cond Expr Spot Ref) (f g g' : ℕ) (os : List Order) (x x1 x2 : MarkedOrders) → e ≡ roll-Expr y → (computed_layer s y).at f ≡ followed_by (expression_piece s a g) (plain os) → a' ≡ a → g' ≡ g → x1 ≡ added (expression_piece s a' g') x → x2 ≡ added (plain os) x1 → x2 ≡ added (computed_piece s e f) x
-  of_one e a a' y f g g' os x x1 x2 is made ea eg e1 e2 =
-      by_layer e y f x x2 is (two_steps (expression_piece s a g) (plain os) x x1 x2 (value_at a a' g g' x x1 ea eg e1) e2 ∙ ap (λ p. added p x) (sym made))
-
-  pub of_two : (e a b a' b' : Expr) (y : Expr-F Arg Cond Expr Spot Ref) (f g h g' h' : ℕ) (os : List Order) (x x1 z x2 x3 : MarkedOrders) → e ≡ roll-Expr y → (computed_layer s y).at f ≡ two_values (expression_piece s a g) (expression_piece s b h) os → a' ≡ a → g' ≡ g → b' ≡ b → h' ≡ h → x1 ≡ added (expression_piece s a' g') x → z ≡ added saved x1 → x2 ≡ added (expression_piece s b' h') z → x3 ≡ added (plain os) x2 → x3 ≡ added (computed_piece s e f) x
-  of_two e a b a' b' y f g h g' h' os x x1 z x2 x3 is made ea eg eb eh e1 es e2 e3 =
-      by_layer e y f x x3 is
-      (two_saved (expression_piece s a g) (expression_piece s b h) os x x1 z x2 x3 (value_at a a' g g' x x1 ea eg e1) es (value_at b b' h h' z x2 eb eh e2) e3
-      ∙ ap (λ p. added p x) (sym made))
+  pub operand_same : (e : Expr) (f : ℕ) → f ≡ operand_scale s.unit e → f ≡ (value_of s e).operand
+  operand_same e f is = is ∙ sym (operand-is s e)

@@ -108,16 +108,24 @@ fn inside(span: u16, word: u64) -> Option<u16>
     }
 }
 
+/// Whether an index is between its bounds, or is not compared with them.
+fn in_bounds(compared: bool, lower: i64, upper: i64, index: i64) -> bool
+    ensures { result ≡ known.in_bounds compared lower upper index }
+{
+    !compared || (lower <= index && index <= upper)
+}
+
 /// How far an index is above its lower bound; none where it is below it, or is compared with its bounds and is outside.
 pub fn above(compared: bool, lower: i16, upper: i64, index: Option<i16>) -> Option<u16>
     ensures { result ≡ from_lower compared lower upper index }
 {
     let index = i64::from(index?);
     let lower = i64::from(lower);
-    if compared && (index < lower || upper < index) {
-        return None;
+    if in_bounds(compared, lower, upper, index) {
+        u16::try_from(index - lower).ok()
+    } else {
+        None
     }
-    u16::try_from(index - lower).ok()
 }
 
 /// The word of an array's element.

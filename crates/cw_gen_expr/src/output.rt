@@ -1,8 +1,8 @@
 //! Orders as they are made, with the places of their labels and marks.
-ghost use Rattle.std.specs.Prelude.{◌≡◌, [], ◌∷◌, ◌++◌, length, take, replicate, set, OnOk, IfOk};
+ghost use Rattle.std.specs.Prelude.{◌≡◌, [], ◌∷◌, ◌++◌, length, take, replicate, set, true, false, OnOk, IfOk};
 ghost use Rattle.cw_order.specs.declared.order.Order.TheVariants as order;
 ghost use Rattle.cw_gen_expr.specs.Pieces.{MarkedOrders, plain, with_labels};
-ghost use Rattle.cw_gen_expr.specs.Output.{made, added, extent_of, shortened};
+ghost use Rattle.cw_gen_expr.specs.Output.{made, added, extent_of, shortened, Adds, Reserves, Places};
 
 use cw_order::Order;
 use cw_word::{List, NoMemory};
@@ -25,6 +25,9 @@ pub struct Output {
     pub orders: List<Order>,
     pub labels: List<(u32, u32)>,
     pub marks: Vec<u32>,
+    /// There was no memory for an order or a mark, or a number was one that no unit has. Then the rest is of no use, and what is added
+    /// to it does no harm.
+    pub failed: bool,
 }
 
 /// The number of an order or a mark. NoMemory comes where it would pass 2^32 - 1.
@@ -56,6 +59,7 @@ impl Output {
             orders: List::new(alloc),
             labels: List::new(alloc),
             marks: vec![in alloc; 0; marks].map_err(|_| NoMemory)?,
+            failed: false,
         })
     }
 
@@ -77,7 +81,8 @@ impl Output {
 
     /// Takes back what came behind an extent.
     pub fn retract(&mut self, extent: Extent)
-        ensures { made self.new ≡ shortened extent (made self.old) }
+        ensures held { self.new.failed ≡ self.old.failed }
+        ensures orders { made self.new ≡ shortened extent (made self.old) }
     {
         shorten(self.alloc, &mut self.orders, extent.orders);
         shorten(self.alloc, &mut self.labels, extent.labels);
@@ -92,7 +97,8 @@ impl Output {
     }
 
     /// A mark that is placed later.
-    pub fn new_mark(&mut self) -> Result<u32, NoMemory>
+    fn new_mark(&mut self) -> Result<u32, NoMemory>
+        ensures held { self.new.failed ≡ self.old.failed }
         ensures mark { IfOk result (λ mark. mark ≡ length self.old.marks.items) }
         ensures reserved { OnOk result (made self.new ≡ record { orders = self.old.orders; labels = self.old.labels; marks = self.old.marks.items ++ 0 ∷ [] }) }
     {
@@ -102,8 +108,9 @@ impl Output {
     }
 
     /// Places a mark here.
-    pub fn set_mark(&mut self, mark: u32) -> Result<(), NoMemory>
-        ensures { OnOk result
+    fn set_mark(&mut self, mark: u32) -> Result<(), NoMemory>
+        ensures held { self.new.failed ≡ self.old.failed }
+        ensures placed { OnOk result
             (made self.new ≡ record {
               orders = self.old.orders ++ order.Mark ∷ [];
               labels = self.old.labels;
@@ -117,14 +124,88 @@ impl Output {
         self.orders.push(Order::Mark)
     }
 
+    /// What is here is of no use.
+    pub fn fail(&mut self)
+        ensures { self.new.failed ≡ true }
+    {
+        self.failed = true;
+    }
+
+    /// NoMemory where it has failed.
+    pub fn outcome(&self) -> Result<(), NoMemory>
+        ensures { OnOk result (self.now.failed ≡ false) }
+    {
+        if self.failed { Err(NoMemory) } else { Ok(()) }
+    }
+
+    /// Adds an order, or fails.
+    pub fn put(&mut self, order: Order)
+        ensures { Adds (plain (order ∷ [])) self.old self.new }
+    {
+        match self.orders.push(order) {
+            Ok(()) => (),
+            Err(_) => self.fail(),
+        }
+    }
+
+    /// Adds two orders, the first one first, or fails.
+    pub fn put_two(&mut self, first: Order, second: Order)
+        ensures { Adds (plain (first ∷ second ∷ [])) self.old self.new }
+    {
+        self.put(first);
+        self.put(second);
+    }
+
+    /// Adds three orders, the first one first, or fails.
+    pub fn put_three(&mut self, first: Order, second: Order, third: Order)
+        ensures { Adds (plain (first ∷ second ∷ third ∷ [])) self.old self.new }
+    {
+        self.put(first);
+        self.put_two(second, third);
+    }
+
+    /// A mark that is placed later; 0 where it fails.
+    pub fn reserve(&mut self) -> u32
+        ensures { Reserves result self.old self.new }
+    {
+        match self.new_mark() {
+            Ok(mark) => mark,
+            Err(_) => {
+                self.fail();
+                0
+            }
+        }
+    }
+
+    /// Places a mark here, or fails.
+    pub fn put_mark(&mut self, mark: u32)
+        ensures { Places mark self.old self.new }
+    {
+        match self.set_mark(mark) {
+            Ok(()) => (),
+            Err(_) => self.fail(),
+        }
+    }
+
     /// Places labels here.
-    pub fn set_labels(&mut self, labels: &[u32]) -> Result<(), NoMemory>
-        ensures { OnOk result (made self.new ≡ added (with_labels labels.now) (made self.old)) }
+    fn set_labels(&mut self, labels: &[u32]) -> Result<(), NoMemory>
+        ensures held { self.new.failed ≡ self.old.failed }
+        ensures placed { OnOk result (made self.new ≡ added (with_labels labels.now) (made self.old)) }
     {
         let place = self.place()?;
         for label in labels {
             self.labels.push((*label, place))?;
         }
         self.orders.push(Order::Mark)
+    }
+
+    /// Places labels here, or fails.
+    pub fn put_labels(&mut self, labels: &[u32])
+        ensures { Adds (with_labels labels.now) self.old self.new }
+    {
+        match self.set_labels(labels) {
+            Ok(()) => (),
+            Err(_) => self.fail(),
+        }
     }
 }

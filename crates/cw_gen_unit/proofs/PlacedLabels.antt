@@ -50,6 +50,15 @@ module _ (who : Option ℕ) where
       let ne : l ≢ i = omega (arith, lt) in
       ap₂ (λ t r. placed_or (same_body m.proc who) (place_if t q (place_of l ps)) z ∷ r) (other_number l i ne) (before (suc l) ms i q ps zs (let z' : i < suc l = omega (arith, lt) in z'))
 
+  -- one that is behind the first of these
+  later : (l : ℕ) (d : Label) (ms : List Label) (i q : ℕ) (ps : List (ℕ × ℕ)) (z : ℕ) (zs rest : List ℕ) → rest ≡ labels_placed (suc l) ms who ((suc l + i, q) ∷ ps) zs
+      → placed_or (same_body d.proc who) (place_of l ps) z ∷ rest ≡ labels_placed l (d ∷ ms) who ((l + suc i, q) ∷ ps) (z ∷ zs)
+  later l d ms i q ps z zs rest is =
+      let ne : l ≢ l + suc i = omega arith in
+      let next : suc l + i ≡ l + suc i = omega arith in
+      ap₂ (λ t r. placed_or (same_body d.proc who) (place_if t q (place_of l ps)) z ∷ r) (sym (other_number l (l + suc i) ne))
+      (is ∙ ap (λ k. labels_placed (suc l) ms who ((k, q) ∷ ps) zs) next)
+
   -- one of the body
   pub placed-one : (l : ℕ) (ms : List Label) (i q : ℕ) (ps : List (ℕ × ℕ)) (zs : List ℕ) → belongs_to (slice_get ms i) who ≡ true → set (labels_placed l ms who ps zs) i q ≡ labels_placed l ms who ((l + i, q) ∷ ps) zs
   placed-one l [] i q ps zs h = absurd (false≢true h)
@@ -59,11 +68,7 @@ module _ (who : Option ℕ) where
       ap₂ (λ a b. a ∷ b)
       (sym (ap₂ (λ b t. placed_or b (place_if t q (place_of l ps)) z) h (ap (nat_eq l) here ∙ same_number l)))
       (sym (before (suc l) ms (l + 0) q ps zs (let lt : l + 0 < suc l = omega arith in lt)))
-  placed-one l (d ∷ ms) (suc i) q ps (z ∷ zs) h =
-      let ne : l ≢ l + suc i = omega arith in
-      let next : suc l + i ≡ l + suc i = omega arith in
-      ap₂ (λ t r. placed_or (same_body d.proc who) (place_if t q (place_of l ps)) z ∷ r) (sym (other_number l (l + suc i) ne))
-      (placed-one (suc l) ms i q ps zs h ∙ ap (λ k. labels_placed (suc l) ms who ((k, q) ∷ ps) zs) next)
+  placed-one l (d ∷ ms) (suc i) q ps (z ∷ zs) h = later l d ms i q ps z zs _ (placed-one (suc l) ms i q ps zs h)
 
   -- one of another body, or none
   pub placed-other : (l : ℕ) (ms : List Label) (i q : ℕ) (ps : List (ℕ × ℕ)) (zs : List ℕ) → belongs_to (slice_get ms i) who ≡ false → labels_placed l ms who ps zs ≡ labels_placed l ms who ((l + i, q) ∷ ps) zs
@@ -73,11 +78,7 @@ module _ (who : Option ℕ) where
       ap₂ (λ a b. a ∷ b)
       (ap (λ b. placed_or b (place_of l ps) z) h ∙ sym (ap (λ b. placed_or b (place_if (nat_eq l (l + 0)) q (place_of l ps)) z) h))
       (sym (before (suc l) ms (l + 0) q ps zs (let lt : l + 0 < suc l = omega arith in lt)))
-  placed-other l (d ∷ ms) (suc i) q ps (z ∷ zs) h =
-      let ne : l ≢ l + suc i = omega arith in
-      let next : suc l + i ≡ l + suc i = omega arith in
-      ap₂ (λ t r. placed_or (same_body d.proc who) (place_if t q (place_of l ps)) z ∷ r) (sym (other_number l (l + suc i) ne))
-      (placed-other (suc l) ms i q ps zs h ∙ ap (λ k. labels_placed (suc l) ms who ((k, q) ∷ ps) zs) next)
+  placed-other l (d ∷ ms) (suc i) q ps (z ∷ zs) h = later l d ms i q ps z zs _ (placed-other (suc l) ms i q ps zs h)
 
   -- from a label to the one before it
   listed : (ms : List Label) (found : List (ℕ × ℕ)) (i : ℕ) (zs : List ℕ) → i < length found → labels_placed 0 ms who ((0 + (get_or found i (0, 0)).0, (get_or found i (0, 0)).1) ∷ drop (suc i) found) zs ≡ labels_placed 0 ms who (drop i found) zs

@@ -17,7 +17,7 @@ use Rattle.cw_gen_expr.specs.Output.{added}
 use Rattle.cw_gen_expr.specs.ReferenceExpressions.{scope_with}
 use Rattle.cw_gen_expr.specs.ReferenceEntries.{scope_of}
 use Rattle.cw_gen_expr.specs.UnitTables.{procedure_mark, first_mark}
-use Rattle.cw_gen_expr.proofs.Making.{two_steps}
+use Rattle.cw_gen_expr.proofs.Making.{marked, two_steps}
 use Rattle.cw_gen_unit.specs.ReferenceStatements.{statement_piece}
 use Rattle.cw_gen_unit.specs.ReferenceUnits.{body_piece, procedure_piece, procedures_piece, entries_of, procedure_labels, label_places, definition_places, label_marks, procedure_marks, switch_lists, shared, unit_orders}
 use Rattle.cw_gen_unit.specs.LabelPlaces.{labels_placed}
@@ -43,23 +43,24 @@ module _ (u : SourceUnit) (ps : List Proc) (i : ℕ) (q : Proc) (lt : i < length
     next : length ym ≡ length xm + length (procedure_piece u i q (length xo) (length xm)).marks
     next = ap length em ∙ length-append xm (procedure_piece u i q (length xo) (length xm)).marks
 
-    pub next-orders : yo ++ (procedures_piece u (i + 1) (drop (i + 1) ps) (length yo) (length ym)).orders ≡ xo ++ (procedures_piece u i (drop i ps) (length xo) (length xm)).orders
-    next-orders =
+    -- one of the lists of a piece, its orders or its marks
+    onward : {A : Type 0} (part : MarkedOrders → List A) → ((x y : MarkedOrders) → part (marked (x.orders ++ y.orders) (x.labels ++ y.labels) (x.marks ++ y.marks)) ≡ part x ++ part y)
+        → (xs ys : List A) → ys ≡ xs ++ part (procedure_piece u i q (length xo) (length xm))
+        → ys ++ part (procedures_piece u (i + 1) (drop (i + 1) ps) (length yo) (length ym)) ≡ xs ++ part (procedures_piece u i (drop i ps) (length xo) (length xm))
+    onward part law xs ys is =
         let p = procedure_piece u i q (length xo) (length xm) in
         let r = procedures_piece u (suc i) (drop (i + 1) ps) (length xo + length p.orders) (length xm + length p.marks) in
-        ap₂ (λ a b. yo ++ (procedures_piece u (i + 1) (drop (i + 1) ps) a b).orders) place next
-        ∙ ap₂ (λ k o. o ++ (procedures_piece u k (drop (i + 1) ps) (length xo + length p.orders) (length xm + length p.marks)).orders) (add-one i) eo
-        ∙ append_assoc xo p.orders r.orders
-        ∙ ap (λ l. xo ++ (procedures_piece u i l (length xo) (length xm)).orders) (sym split)
+        ap₂ (λ a b. ys ++ part (procedures_piece u (i + 1) (drop (i + 1) ps) a b)) place next
+        ∙ ap₂ (λ k l. l ++ part (procedures_piece u k (drop (i + 1) ps) (length xo + length p.orders) (length xm + length p.marks))) (add-one i) is
+        ∙ append_assoc xs (part p) (part r)
+        ∙ ap (λ l. xs ++ l) (sym (law p r))
+        ∙ ap (λ l. xs ++ part (procedures_piece u i l (length xo) (length xm))) (sym split)
+
+    pub next-orders : yo ++ (procedures_piece u (i + 1) (drop (i + 1) ps) (length yo) (length ym)).orders ≡ xo ++ (procedures_piece u i (drop i ps) (length xo) (length xm)).orders
+    next-orders = onward (λ x. x.orders) (λ x y. refl) xo yo eo
 
     pub next-marks : ym ++ (procedures_piece u (i + 1) (drop (i + 1) ps) (length yo) (length ym)).marks ≡ xm ++ (procedures_piece u i (drop i ps) (length xo) (length xm)).marks
-    next-marks =
-        let p = procedure_piece u i q (length xo) (length xm) in
-        let r = procedures_piece u (suc i) (drop (i + 1) ps) (length xo + length p.orders) (length xm + length p.marks) in
-        ap₂ (λ a b. ym ++ (procedures_piece u (i + 1) (drop (i + 1) ps) a b).marks) place next
-        ∙ ap₂ (λ k o. o ++ (procedures_piece u k (drop (i + 1) ps) (length xo + length p.orders) (length xm + length p.marks)).marks) (add-one i) em
-        ∙ append_assoc xm p.marks r.marks
-        ∙ ap (λ l. xm ++ (procedures_piece u i l (length xo) (length xm)).marks) (sym split)
+    next-marks = onward (λ x. x.marks) (λ x y. refl) xm ym em
 
     pub next-entries : (es : List ℕ) → (es ++ length xo ∷ []) ++ entries_of u (i + 1) (drop (i + 1) ps) (length yo) (length ym) ≡ es ++ entries_of u i (drop i ps) (length xo) (length xm)
     next-entries es =

@@ -1,11 +1,12 @@
 -- A FOR whose beginning is made, up to the mark of its body: what follows any body.
-use Rattle.std.specs.Prelude.{◌≡◌, ℕ, List, [], ◌∷◌, ◌++◌, length, set}
+use Rattle.std.specs.Prelude.{◌≡◌, ℕ, List, [], ◌∷◌, ◌++◌, length, set, false}
 use Rattle.cw_order.specs.declared.order.Order.{Order}
 use Rattle.cw_order.specs.declared.order.Order.TheVariants as order
 use Rattle.cw_unit.specs.declared.layout.Layout.{Layout}
 use Rattle.cw_unit.specs.declared.unit.Expr.{Expr}
 use Rattle.cw_gen_expr.specs.Pieces.{MarkedOrders, Piece, plain, followed_by}
-use Rattle.cw_gen_expr.specs.Output.{added}
+use Rattle.cw_gen_expr.specs.declared.output.Output.{Output}
+use Rattle.cw_gen_expr.specs.Output.{made, added}
 use Rattle.cw_gen_expr.specs.ReferenceExpressions.{Scope, item_order, expression_piece}
 use Rattle.cw_gen_unit.specs.ReferenceStatements.{keep_orders, number_orders, set_orders, loop_place}
 use Rattle.cw_gen_unit.specs.declared.begun.WayOn.{WayOn}
@@ -28,6 +29,15 @@ ended y line item b x = marked_at b.end (added (plain (way_orders y line item b.
 -- the loop of any body, whose beginning made the second orders of the first
 abbrev pub IsBegun : Layout → (line item : ℕ) → (loop : Piece → Piece) → (x y : MarkedOrders) → Begun → Type 0
 IsBegun y line item loop x z b = (body : Piece) → added (loop body) x ≡ ended y line item b (added body z)
+
+-- the same of outputs, unless the second has failed, and of the end of a loop
+pub record Begins (y : Layout) (line item : ℕ) (loop : Piece → Piece) (b : Begun) (x z : Output) : Type 0 where
+  pub held : z.failed ≡ false → x.failed ≡ false
+  pub is : z.failed ≡ false → IsBegun y line item loop (made x) (made z) b
+
+pub record Ends (y : Layout) (line item : ℕ) (b : Begun) (x z : Output) : Type 0 where
+  pub held : z.failed ≡ false → x.failed ≡ false
+  pub is : z.failed ≡ false → made z ≡ ended y line item b (made x)
 
 -- the values of a STEP element, and what follows the limit
 abbrev pub values_with : Scope → (item scale number : ℕ) → (first step limit : Expr) → List Order → Piece

@@ -1,20 +1,20 @@
 //! A FOR up to the mark of its body, and behind its body.
-ghost use Rattle.std.specs.Prelude.{◌≡◌, OnOk, IfOk};
+ghost use Rattle.std.specs.Prelude.{◌≡◌, IfOk};
 ghost use Rattle.cw_gen_expr.specs.Pieces.{plain};
-ghost use Rattle.cw_gen_expr.specs.Output.{made, added};
+ghost use Rattle.cw_gen_expr.specs.Output.{Adds};
 ghost use Rattle.cw_gen_expr.specs.ReferenceExpressions.{Scope, scope_with, at_line};
 ghost use Rattle.cw_gen_unit.specs.ReferenceStatements.{loop_place as spec_loop_place, simple_beginning, first_turn, stepped_piece};
 ghost use Rattle.cw_gen_unit.specs.ReferenceStatements.{ring_piece, elements_loop, only_step as spec_only_step, begun_loop};
 ghost use Rattle.cw_gen_unit.specs.SimpleLoops.{simple_step as spec_simple_step};
-ghost use Rattle.cw_gen_unit.specs.BegunLoops.{way_orders, ended, IsBegun};
+ghost use Rattle.cw_gen_unit.specs.BegunLoops.{way_orders, Begins, Ends};
 
-use crate::elements::{emit_elements, emit_first_turn};
-use crate::loops::{emit_keep, emit_set};
+use crate::elements::{put_elements, put_first_turn};
+use crate::loops::{put_keep, put_set};
 use crate::simple::{SimpleStep, only_step, simple_step};
-use crate::simple_orders::emit_simple_beginning;
-use cw_gen_expr::expressions::emit_address;
+use crate::simple_orders::put_simple_beginning;
 use cw_gen_expr::orders::{home, item};
 use cw_gen_expr::output::Output;
+use cw_gen_expr::tree::put_address;
 use cw_order::{Order, Place};
 use cw_unit::layout::{Layout, Sort};
 use cw_unit::unit::{Expr, Felem, Param, Ref, Unit};
@@ -52,25 +52,18 @@ fn loop_place(layout: &Layout, looped: u32) -> Place
 }
 
 /// Begins a loop without the library.
-fn begin_simple(
-    out: &mut Output,
-    layout: &Layout,
-    line: u16,
-    looped: u32,
-    x: SimpleStep,
-) -> Result<Begun, NoMemory>
-    ensures { IfOk result (λ begun. (s : Scope) → s.layout ≡ layout.now → s.line ≡ line
-        → IsBegun layout.now line looped (stepped_piece s looped
-        (λ end. plain (simple_beginning layout.now looped x end))) (made out.old) (made out.new) begun) }
+fn begin_simple(out: &mut Output, layout: &Layout, line: u16, looped: u32, x: SimpleStep) -> Begun
+    ensures { (s : Scope) → s.layout ≡ layout.now → s.line ≡ line
+        → Begins layout.now line looped (stepped_piece s looped (λ end. plain (simple_beginning layout.now looped x end))) result out.old out.new }
 {
-    let end = out.new_mark()?;
-    let start = out.new_mark()?;
-    emit_simple_beginning(out, layout, looped, x, end)?;
-    out.set_mark(start)?;
-    Ok(Begun {
+    let end = out.reserve();
+    let start = out.reserve();
+    put_simple_beginning(out, layout, looped, x, end);
+    out.put_mark(start);
+    Begun {
         end,
         way: WayOn::Step(start),
-    })
+    }
 }
 
 /// Begins a loop of one STEP element, whose address is kept.
@@ -85,22 +78,22 @@ fn begin_step(
     first: &Expr,
     step: &Expr,
     limit: &Expr,
-) -> Result<Begun, NoMemory>
-    ensures { IfOk result (λ begun. IsBegun layout.now line looped
+) -> Begun
+    ensures { Begins layout.now line looped
         (stepped_piece (at_line line (scope_with unit.now layout.now parameters.now)) looped
         (first_turn (at_line line (scope_with unit.now layout.now parameters.now)) looped scale first.now
-        step.now limit.now)) (made out.old) (made out.new) begun) }
+        step.now limit.now)) result out.old out.new }
 {
-    let end = out.new_mark()?;
-    let start = out.new_mark()?;
-    emit_first_turn(
+    let end = out.reserve();
+    let start = out.reserve();
+    put_first_turn(
         out, unit, layout, parameters, line, looped, scale, end, first, step, limit,
-    )?;
-    out.set_mark(start)?;
-    Ok(Begun {
+    );
+    out.put_mark(start);
+    Begun {
         end,
         way: WayOn::Step(start),
-    })
+    }
 }
 
 /// Begins a loop of other elements.
@@ -115,20 +108,19 @@ fn begin_ring(
     scale: u8,
     elements: &[Felem],
 ) -> Result<Begun, NoMemory>
-    ensures { IfOk result (λ begun. IsBegun layout.now line looped
-        (ring_piece (at_line line (scope_with unit.now layout.now parameters.now)) looped scale elements.now)
-        (made out.old) (made out.new) begun) }
+    ensures { IfOk result (λ begun. Begins layout.now line looped
+        (ring_piece (at_line line (scope_with unit.now layout.now parameters.now)) looped scale elements.now) begun out.old out.new) }
 {
-    let end = out.new_mark()?;
-    let start = out.new_mark()?;
-    let set = out.new_mark()?;
-    let ways = emit_elements(
+    let end = out.reserve();
+    let start = out.reserve();
+    let set = out.reserve();
+    let ways = put_elements(
         alloc, out, unit, layout, parameters, line, looped, scale, set, start, elements,
     )?;
-    out.push(Order::Jump(end))?;
-    out.set_mark(set)?;
-    emit_set(out, layout, line, looped)?;
-    out.set_mark(start)?;
+    out.put(Order::Jump(end));
+    out.put_mark(set);
+    put_set(out, layout, line, looped);
+    out.put_mark(start);
     Ok(Begun {
         end,
         way: WayOn::Ring(ways),
@@ -147,14 +139,14 @@ fn begin_elements(
     scale: u8,
     elements: &[Felem],
 ) -> Result<Begun, NoMemory>
-    ensures { IfOk result (λ begun. IsBegun layout.now line looped
+    ensures { IfOk result (λ begun. Begins layout.now line looped
         (elements_loop (at_line line (scope_with unit.now layout.now parameters.now))
-        (spec_only_step elements.now) looped scale elements.now) (made out.old) (made out.new) begun) }
+        (spec_only_step elements.now) looped scale elements.now) begun out.old out.new) }
 {
     match only_step(elements) {
-        Some((first, step, limit)) => begin_step(
+        Some((first, step, limit)) => Ok(begin_step(
             out, unit, layout, parameters, line, looped, scale, first, step, limit,
-        ),
+        )),
         None => begin_ring(
             alloc, out, unit, layout, parameters, line, looped, scale, elements,
         ),
@@ -173,16 +165,15 @@ pub fn begin_loop(
     reference: &Ref,
     elements: &[Felem],
 ) -> Result<Begun, NoMemory>
-    ensures { IfOk result (λ begun. IsBegun layout.now line looped
+    ensures { IfOk result (λ begun. Begins layout.now line looped
         (begun_loop (at_line line (scope_with unit.now layout.now parameters.now))
-        (spec_simple_step layout.now looped reference.now elements.now) looped reference.now elements.now)
-        (made out.old) (made out.new) begun) }
+        (spec_simple_step layout.now looped reference.now elements.now) looped reference.now elements.now) begun out.old out.new) }
 {
     match simple_step(layout, looped, reference, elements)? {
-        Some(x) => begin_simple(out, layout, line, looped, x),
+        Some(x) => Ok(begin_simple(out, layout, line, looped, x)),
         None => {
-            emit_address(out, unit, layout, parameters, line, &reference.at)?;
-            emit_keep(out, layout, looped, 0)?;
+            put_address(out, unit, layout, parameters, line, &reference.at);
+            put_keep(out, layout, looped, 0);
             begin_elements(
                 alloc,
                 out,
@@ -199,22 +190,14 @@ pub fn begin_loop(
 }
 
 /// Adds the orders behind the body.
-fn emit_way(
-    out: &mut Output,
-    layout: &Layout,
-    line: u16,
-    looped: u32,
-    way: WayOn,
-) -> Result<(), NoMemory>
-    ensures { OnOk result (made out.new ≡ added (plain (way_orders layout.now line looped way)) (made out.old)) }
+fn put_way(out: &mut Output, layout: &Layout, line: u16, looped: u32, way: WayOn)
+    ensures { Adds (plain (way_orders layout.now line looped way)) out.old out.new }
 {
     match way {
         WayOn::Ring(ways) => {
-            out.push(item(layout, looped, 3))?;
-            out.push(Order::Load)?;
-            out.push(Order::LoopWay(ways))
+            out.put_three(item(layout, looped, 3), Order::Load, Order::LoopWay(ways))
         }
-        WayOn::Step(start) => out.push(Order::NextStep {
+        WayOn::Step(start) => out.put(Order::NextStep {
             looped: loop_place(layout, looped),
             line,
             mark: start,
@@ -223,16 +206,10 @@ fn emit_way(
 }
 
 /// Ends a loop behind its body.
-pub fn end_loop(
-    out: &mut Output,
-    layout: &Layout,
-    line: u16,
-    looped: u32,
-    begun: Begun,
-) -> Result<(), NoMemory>
-    ensures { OnOk result (made out.new ≡ ended layout.now line looped begun (made out.old)) }
+pub fn end_loop(out: &mut Output, layout: &Layout, line: u16, looped: u32, begun: Begun)
+    ensures { Ends layout.now line looped begun out.old out.new }
 {
     let end = begun.end;
-    emit_way(out, layout, line, looped, begun.way)?;
-    out.set_mark(end)
+    put_way(out, layout, line, looped, begun.way);
+    out.put_mark(end);
 }

@@ -1,21 +1,20 @@
 //! Statements.
-ghost use Rattle.std.specs.Prelude.{◌≡◌, ◌+◌, ◌∷◌, ◌||◌, [], None, OnOk, IfOk, slice_get};
+ghost use Rattle.std.specs.Prelude.{◌≡◌, ℕ, ◌+◌, ◌∷◌, ◌||◌, [], Option, None, OnOk, IfOk, slice_get};
 ghost use Rattle.cw_unit.specs.declared.unit.Stmt.TheOpen as statement;
-ghost use Rattle.cw_gen_expr.specs.Pieces.{Piece, plain};
-ghost use Rattle.cw_gen_expr.specs.Output.{made, added};
-ghost use Rattle.cw_gen_expr.specs.ReferenceExpressions.{scope_with, store_orders};
+ghost use Rattle.cw_gen_expr.specs.Pieces.{plain, followed_by};
+ghost use Rattle.cw_gen_expr.specs.Output.{made, added, Adds};
+ghost use Rattle.cw_gen_expr.specs.ReferenceExpressions.{scope_with, at_line, expression_piece, store_orders};
 ghost use Rattle.cw_gen_expr.specs.UnitTables as tables;
-ghost use Rattle.cw_gen_unit.specs.ReferenceStatements.{begin_orders, after_statement_call, own_order as spec_own_order, goal_order as spec_goal_order};
-ghost use Rattle.cw_gen_unit.specs.ReferenceStatements.{jump_past, statement_step, statement_piece};
+ghost use Rattle.cw_gen_unit.specs.ReferenceStatements.{begin_orders, after_statement_call, own_order as spec_own_order, goal_order as spec_goal_order, jump_order as spec_jump_order};
+ghost use Rattle.cw_gen_unit.specs.ReferenceStatements.{jump_piece, jump_past, statement_step, statement_piece};
 ghost use Rattle.cw_gen_unit.specs.Endings.{is_empty as spec_is_empty, ends_behind as spec_ends_behind, comes_to_end};
 
 use crate::begun::{begin_loop, end_loop};
 use crate::switches::{owned_marks, switch_order};
-use cw_gen_expr::expressions::{
-    emit_address, emit_arguments, emit_call, emit_condition, emit_expression,
-};
+use cw_gen_expr::forms::put_call;
 use cw_gen_expr::orders::{all_words, place_of_control};
 use cw_gen_expr::output::Output;
+use cw_gen_expr::tree::{put_address, put_arguments, put_condition, put_expression};
 use cw_order::Order;
 use cw_unit::layout::Layout;
 use cw_unit::unit::{Arg, Dest, Expr, Field, Goal, Param, Ref, Stmt, Target, Unit};
@@ -23,27 +22,27 @@ use cw_word::NoMemory;
 use std::alloc::Global;
 
 /// Adds the start of a statement.
-fn emit_begin(out: &mut Output, line: u16) -> Result<(), NoMemory>
-    ensures { OnOk result (made out.new ≡ added (plain (begin_orders line)) (made out.old)) }
+fn put_begin(out: &mut Output, line: u16)
+    ensures { Adds (plain (begin_orders line)) out.old out.new }
 {
-    out.push(Order::Start(line))
+    out.put(Order::Start(line));
 }
 
-/// Adds the order that stores a word at an address, or a part of it.
-fn emit_store(out: &mut Output, field: &Option<Field>) -> Result<(), NoMemory>
-    ensures { OnOk result (made out.new ≡ added (plain (store_orders field.now)) (made out.old)) }
+/// The order that stores a word at an address, or a part of it.
+fn store_order(field: &Option<Field>) -> Order
+    ensures { result ∷ [] ≡ store_orders field.now }
 {
     match field {
-        None => out.push(Order::Store),
-        Some(part) => out.push(Order::StorePart {
+        None => Order::Store,
+        Some(part) => Order::StorePart {
             t: part.t,
             b: part.b,
-        }),
+        },
     }
 }
 
 /// Adds the orders of an assignment.
-fn emit_put(
+fn put_assignment(
     out: &mut Output,
     unit: &Unit,
     layout: &Layout,
@@ -51,20 +50,18 @@ fn emit_put(
     line: u16,
     reference: &Ref,
     e: &Expr,
-) -> Result<(), NoMemory>
-    ensures { OnOk result (made out.new ≡ added
-        (statement_step (scope_with unit.now layout.now parameters.now) None 0
-        (statement.Put line reference.now e.now)) (made out.old)) }
+)
+    ensures { Adds (statement_step (scope_with unit.now layout.now parameters.now) None 0 (statement.Put line reference.now e.now)) out.old out.new }
 {
-    emit_begin(out, line)?;
-    emit_expression(out, unit, layout, parameters, line, e, reference.f)?;
-    out.push(Order::Save)?;
-    emit_address(out, unit, layout, parameters, line, &reference.at)?;
-    emit_store(out, &reference.field)
+    put_begin(out, line);
+    put_expression(out, unit, layout, parameters, line, e, reference.f);
+    out.put(Order::Save);
+    put_address(out, unit, layout, parameters, line, &reference.at);
+    out.put(store_order(&reference.field));
 }
 
 /// Adds the orders of an assignment to bits.
-fn emit_put_bits(
+fn put_bits(
     out: &mut Output,
     unit: &Unit,
     layout: &Layout,
@@ -74,16 +71,14 @@ fn emit_put_bits(
     b: u8,
     reference: &Ref,
     e: &Expr,
-) -> Result<(), NoMemory>
-    ensures { OnOk result (made out.new ≡ added
-        (statement_step (scope_with unit.now layout.now parameters.now) None 0
-        (statement.PutBits line t b reference.now e.now)) (made out.old)) }
+)
+    ensures { Adds (statement_step (scope_with unit.now layout.now parameters.now) None 0 (statement.PutBits line t b reference.now e.now)) out.old out.new }
 {
-    emit_begin(out, line)?;
-    emit_expression(out, unit, layout, parameters, line, e, 0)?;
-    out.push(Order::Save)?;
-    emit_address(out, unit, layout, parameters, line, &reference.at)?;
-    out.push(Order::StorePart { t, b })
+    put_begin(out, line);
+    put_expression(out, unit, layout, parameters, line, e, 0);
+    out.put(Order::Save);
+    put_address(out, unit, layout, parameters, line, &reference.at);
+    out.put(Order::StorePart { t, b });
 }
 
 /// The mark of a label.
@@ -112,21 +107,92 @@ pub fn own_order(unit: &Unit, who: Option<u16>, label: u32, mark: u32) -> Order
     }
 }
 
-/// Adds the order that jumps to a label.
-fn emit_goal(out: &mut Output, unit: &Unit, who: Option<u16>, goal: Goal) -> Result<(), NoMemory>
-    ensures { OnOk result (made out.new ≡ added (plain (spec_goal_order unit.now who goal ∷ [])) (made out.old)) }
+/// The order that jumps to a goal.
+fn goal_order(unit: &Unit, who: Option<u16>, goal: Goal) -> Result<Order, NoMemory>
+    ensures { IfOk result (λ order. order ≡ spec_goal_order unit.now who goal) }
 {
     match goal {
         Goal::Own(label) => {
             let mark = label_mark(unit, label)?;
-            out.push(own_order(unit, who, label, mark))
+            Ok(own_order(unit, who, label, mark))
         }
-        Goal::Common(descriptor) => out.push(Order::GoCommon(descriptor)),
+        Goal::Common(descriptor) => Ok(Order::GoCommon(descriptor)),
+    }
+}
+
+/// The order of a jump, behind the index of its switch, if there is one.
+fn jump_order(
+    alloc: Global,
+    unit: &Unit,
+    layout: &Layout,
+    parameters: &[Param],
+    who: Option<u16>,
+    line: u16,
+    dest: &Dest,
+) -> Result<Order, NoMemory>
+    ensures { IfOk result (λ order. order ≡ spec_jump_order (at_line line (scope_with unit.now layout.now parameters.now)) who dest.now) }
+{
+    match dest {
+        Dest::Goal(goal) => goal_order(unit, who, *goal),
+        Dest::Special(control) => {
+            let place = place_of_control(parameters, *control)?;
+            Ok(Order::GoSpecial(place))
+        }
+        Dest::Switch(switch, _) => {
+            let marks = owned_marks(alloc, unit, who, *switch)?;
+            Ok(switch_order(marks, *switch, line))
+        }
+        Dest::CommonSwitch(descriptor, _) => Ok(Order::GoSwitchCommon {
+            descriptor: *descriptor,
+            line,
+        }),
+        Dest::SpecialSwitch(control, _) => {
+            let place = place_of_control(parameters, *control)?;
+            Ok(Order::GoSwitchSpecial { place, line })
+        }
+    }
+}
+
+/// Adds an order behind the value that it goes by.
+fn put_chosen(
+    out: &mut Output,
+    unit: &Unit,
+    layout: &Layout,
+    parameters: &[Param],
+    line: u16,
+    e: &Expr,
+    order: Order,
+)
+    ensures { Adds (followed_by (expression_piece (at_line line (scope_with unit.now layout.now parameters.now)) e.now 0) (plain (order ∷ []))) out.old out.new }
+{
+    put_expression(out, unit, layout, parameters, line, e, 0);
+    out.put(order);
+}
+
+/// Adds the order of a jump, behind the index of its switch, if there is one.
+fn put_jump(
+    out: &mut Output,
+    unit: &Unit,
+    layout: &Layout,
+    parameters: &[Param],
+    line: u16,
+    dest: &Dest,
+    order: Order,
+)
+    ensures { (who : Option ℕ) → order ≡ spec_jump_order (at_line line (scope_with unit.now layout.now parameters.now)) who dest.now
+        → Adds (jump_piece (at_line line (scope_with unit.now layout.now parameters.now)) who dest.now) out.old out.new }
+{
+    match dest {
+        Dest::Goal(_) => out.put(order),
+        Dest::Special(_) => out.put(order),
+        Dest::Switch(_, e) => put_chosen(out, unit, layout, parameters, line, e, order),
+        Dest::CommonSwitch(_, e) => put_chosen(out, unit, layout, parameters, line, e, order),
+        Dest::SpecialSwitch(_, e) => put_chosen(out, unit, layout, parameters, line, e, order),
     }
 }
 
 /// Adds the orders of a jump.
-fn emit_go(
+fn put_go(
     alloc: Global,
     out: &mut Output,
     unit: &Unit,
@@ -135,50 +201,28 @@ fn emit_go(
     who: Option<u16>,
     line: u16,
     dest: &Dest,
-) -> Result<(), NoMemory>
-    ensures { OnOk result (made out.new ≡ added
-        (statement_step (scope_with unit.now layout.now parameters.now) who 0 (statement.Go line dest.now))
-        (made out.old)) }
+)
+    ensures { Adds (statement_step (scope_with unit.now layout.now parameters.now) who 0 (statement.Go line dest.now)) out.old out.new }
 {
-    emit_begin(out, line)?;
-    match dest {
-        Dest::Goal(goal) => emit_goal(out, unit, who, *goal),
-        Dest::Special(control) => {
-            let place = place_of_control(parameters, *control)?;
-            out.push(Order::GoSpecial(place))
-        }
-        Dest::Switch(switch, e) => {
-            let marks = owned_marks(alloc, unit, who, *switch)?;
-            emit_expression(out, unit, layout, parameters, line, e, 0)?;
-            out.push(switch_order(marks, *switch, line))
-        }
-        Dest::CommonSwitch(descriptor, e) => {
-            emit_expression(out, unit, layout, parameters, line, e, 0)?;
-            out.push(Order::GoSwitchCommon {
-                descriptor: *descriptor,
-                line,
-            })
-        }
-        Dest::SpecialSwitch(control, e) => {
-            let place = place_of_control(parameters, *control)?;
-            emit_expression(out, unit, layout, parameters, line, e, 0)?;
-            out.push(Order::GoSwitchSpecial { place, line })
-        }
+    put_begin(out, line);
+    match jump_order(alloc, unit, layout, parameters, who, line, dest) {
+        Ok(order) => put_jump(out, unit, layout, parameters, line, dest, order),
+        Err(_) => out.fail(),
     }
 }
 
 /// Drops the answer of a call statement; WRITEBYTE has none.
-fn emit_after_call(out: &mut Output, target: &Target) -> Result<(), NoMemory>
-    ensures { OnOk result (made out.new ≡ added (plain (after_statement_call target.now)) (made out.old)) }
+fn put_after_call(out: &mut Output, target: &Target)
+    ensures { Adds (plain (after_statement_call target.now)) out.old out.new }
 {
     match target {
-        Target::Write => Ok(()),
-        _ => out.push(Order::Drop),
+        Target::Write => (),
+        _ => out.put(Order::Drop),
     }
 }
 
 /// Adds the orders of a call statement.
-fn emit_call_statement(
+fn put_call_statement(
     out: &mut Output,
     unit: &Unit,
     layout: &Layout,
@@ -186,19 +230,17 @@ fn emit_call_statement(
     line: u16,
     target: &Target,
     arguments: &[Arg],
-) -> Result<(), NoMemory>
-    ensures { OnOk result (made out.new ≡ added
-        (statement_step (scope_with unit.now layout.now parameters.now) None 0
-        (statement.Call line target.now arguments.now)) (made out.old)) }
+)
+    ensures { Adds (statement_step (scope_with unit.now layout.now parameters.now) None 0 (statement.Call line target.now arguments.now)) out.old out.new }
 {
-    emit_begin(out, line)?;
-    emit_arguments(out, unit, layout, parameters, line, arguments)?;
-    emit_call(out, unit, layout, parameters, line, target)?;
-    emit_after_call(out, target)
+    put_begin(out, line);
+    put_arguments(out, unit, layout, parameters, line, arguments);
+    put_call(out, unit, layout, parameters, line, target);
+    put_after_call(out, target);
 }
 
 /// Adds the orders of an ANSWER, in a procedure whose answer has this scale.
-fn emit_answer(
+fn put_answer(
     out: &mut Output,
     unit: &Unit,
     layout: &Layout,
@@ -206,18 +248,18 @@ fn emit_answer(
     answer: u8,
     line: u16,
     e: &Expr,
-) -> Result<(), NoMemory>
-    ensures { OnOk result (made out.new ≡ added
-        (statement_step (scope_with unit.now layout.now parameters.now) None answer
-        (statement.Answer line e.now)) (made out.old)) }
+)
+    ensures { Adds (statement_step (scope_with unit.now layout.now parameters.now) None answer (statement.Answer line e.now)) out.old out.new }
 {
-    let arguments = all_words(parameters)?;
-    emit_begin(out, line)?;
-    emit_expression(out, unit, layout, parameters, line, e, answer)?;
-    out.push(Order::Return {
-        arguments,
-        answers: true,
-    })
+    put_begin(out, line);
+    put_expression(out, unit, layout, parameters, line, e, answer);
+    match all_words(parameters) {
+        Ok(arguments) => out.put(Order::Return {
+            arguments,
+            answers: true,
+        }),
+        Err(_) => out.fail(),
+    }
 }
 
 /// Whether a statement has no orders: a list of none.
@@ -231,13 +273,11 @@ fn is_empty(statement: &Stmt) -> bool
 }
 
 /// Adds the jump past the second of two statements, where a run may come to the end of the first and the second has orders.
-fn emit_jump_past(out: &mut Output, ends: bool, second: &Stmt, end: u32) -> Result<(), NoMemory>
-    ensures { OnOk result (made out.new ≡ added (plain (jump_past ends second.now end)) (made out.old)) }
+fn put_jump_past(out: &mut Output, ends: bool, second: &Stmt, end: u32)
+    ensures { Adds (plain (jump_past ends second.now end)) out.old out.new }
 {
     if ends && !is_empty(second) {
-        out.push(Order::Jump(end))
-    } else {
-        Ok(())
+        out.put(Order::Jump(end));
     }
 }
 
@@ -257,6 +297,138 @@ fn one_ends(first: bool, second: bool) -> bool
 
 /// Adds the orders of a statement of a body: the segment's, or that of the procedure `who`, with these parameters and an answer of this
 /// scale. It answers whether a run may come to the end of the statement.
+fn put_statement(
+    alloc: Global,
+    out: &mut Output,
+    unit: &Unit,
+    layout: &Layout,
+    parameters: &[Param],
+    who: Option<u16>,
+    answer: u8,
+    statement: &Stmt,
+) -> bool
+    ensures orders { Adds (statement_piece (scope_with unit.now layout.now parameters.now) who answer statement.now) out.old out.new }
+    ensures ends { result ≡ comes_to_end statement.now }
+{
+    match statement {
+        Stmt::Put(line, reference, e) => {
+            put_assignment(out, unit, layout, parameters, *line, reference, e);
+            true
+        }
+        Stmt::PutBits(line, t, b, reference, e) => {
+            put_bits(out, unit, layout, parameters, *line, *t, *b, reference, e);
+            true
+        }
+        Stmt::Go(line, dest) => {
+            put_go(alloc, out, unit, layout, parameters, who, *line, dest);
+            false
+        }
+        Stmt::Call(line, target, arguments) => {
+            put_call_statement(
+                out,
+                unit,
+                layout,
+                parameters,
+                *line,
+                target,
+                arguments.as_slice(),
+            );
+            true
+        }
+        Stmt::Answer(line, e) => {
+            put_answer(out, unit, layout, parameters, answer, *line, e);
+            false
+        }
+        Stmt::If(line, condition, holds, fails) => {
+            put_begin(out, *line);
+            let end = out.reserve();
+            let other = out.reserve();
+            put_condition(
+                out, unit, layout, parameters, *line, condition, false, other,
+            );
+            let first = put_statement(
+                alloc,
+                out,
+                unit,
+                layout,
+                parameters,
+                who,
+                answer,
+                holds.get(),
+            );
+            put_jump_past(out, first, fails.get(), end);
+            out.put_mark(other);
+            let second = put_statement(
+                alloc,
+                out,
+                unit,
+                layout,
+                parameters,
+                who,
+                answer,
+                fails.get(),
+            );
+            out.put_mark(end);
+            one_ends(first, second)
+        }
+        Stmt::For(line, looped, reference, elements, body) => {
+            put_begin(out, *line);
+            match begin_loop(
+                alloc,
+                out,
+                unit,
+                layout,
+                parameters,
+                *line,
+                *looped,
+                reference,
+                elements.as_slice(),
+            ) {
+                Ok(begun) => {
+                    put_statement(
+                        alloc,
+                        out,
+                        unit,
+                        layout,
+                        parameters,
+                        who,
+                        answer,
+                        body.get(),
+                    );
+                    end_loop(out, layout, *line, *looped, begun);
+                    true
+                }
+                Err(_) => {
+                    out.fail();
+                    true
+                }
+            }
+        }
+        Stmt::Seq(statements) => {
+            let mut before = true;
+            for member in statements.as_slice() {
+                let ends = put_statement(alloc, out, unit, layout, parameters, who, answer, member);
+                before = ends_behind(before, member, ends);
+            }
+            before
+        }
+        Stmt::Mark(labels, statement) => {
+            out.put_labels(labels.as_slice());
+            put_statement(
+                alloc,
+                out,
+                unit,
+                layout,
+                parameters,
+                who,
+                answer,
+                statement.get(),
+            )
+        }
+    }
+}
+
+/// The same, or NoMemory.
 pub fn emit_statement(
     alloc: Global,
     out: &mut Output,
@@ -272,115 +444,7 @@ pub fn emit_statement(
         (made out.old)) }
     ensures ends { IfOk result (λ ends. ends ≡ comes_to_end statement.now) }
 {
-    match statement {
-        Stmt::Put(line, reference, e) => {
-            emit_put(out, unit, layout, parameters, *line, reference, e)?;
-            Ok(true)
-        }
-        Stmt::PutBits(line, t, b, reference, e) => {
-            emit_put_bits(out, unit, layout, parameters, *line, *t, *b, reference, e)?;
-            Ok(true)
-        }
-        Stmt::Go(line, dest) => {
-            emit_go(alloc, out, unit, layout, parameters, who, *line, dest)?;
-            Ok(false)
-        }
-        Stmt::Call(line, target, arguments) => {
-            emit_call_statement(
-                out,
-                unit,
-                layout,
-                parameters,
-                *line,
-                target,
-                arguments.as_slice(),
-            )?;
-            Ok(true)
-        }
-        Stmt::Answer(line, e) => {
-            emit_answer(out, unit, layout, parameters, answer, *line, e)?;
-            Ok(false)
-        }
-        Stmt::If(line, condition, holds, fails) => {
-            emit_begin(out, *line)?;
-            let end = out.new_mark()?;
-            let other = out.new_mark()?;
-            emit_condition(
-                out, unit, layout, parameters, *line, condition, false, other,
-            )?;
-            let first = emit_statement(
-                alloc,
-                out,
-                unit,
-                layout,
-                parameters,
-                who,
-                answer,
-                holds.get(),
-            )?;
-            emit_jump_past(out, first, fails.get(), end)?;
-            out.set_mark(other)?;
-            let second = emit_statement(
-                alloc,
-                out,
-                unit,
-                layout,
-                parameters,
-                who,
-                answer,
-                fails.get(),
-            )?;
-            out.set_mark(end)?;
-            Ok(one_ends(first, second))
-        }
-        Stmt::For(line, looped, reference, elements, body) => {
-            emit_begin(out, *line)?;
-            let begun = begin_loop(
-                alloc,
-                out,
-                unit,
-                layout,
-                parameters,
-                *line,
-                *looped,
-                reference,
-                elements.as_slice(),
-            )?;
-            emit_statement(
-                alloc,
-                out,
-                unit,
-                layout,
-                parameters,
-                who,
-                answer,
-                body.get(),
-            )?;
-            end_loop(out, layout, *line, *looped, begun)?;
-            Ok(true)
-        }
-        Stmt::Seq(statements) => {
-            let mut before = true;
-            for member in statements.as_slice() {
-                let ends = emit_statement(
-                    alloc, out, unit, layout, parameters, who, answer, member,
-                )?;
-                before = ends_behind(before, member, ends);
-            }
-            Ok(before)
-        }
-        Stmt::Mark(labels, statement) => {
-            out.set_labels(labels.as_slice())?;
-            emit_statement(
-                alloc,
-                out,
-                unit,
-                layout,
-                parameters,
-                who,
-                answer,
-                statement.get(),
-            )
-        }
-    }
+    let ends = put_statement(alloc, out, unit, layout, parameters, who, answer, statement);
+    out.outcome()?;
+    Ok(ends)
 }

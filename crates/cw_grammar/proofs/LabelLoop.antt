@@ -8,9 +8,9 @@ use Rattle.cw_grammar.specs.Tokens.{Item, same}
 use Rattle.cw_grammar.specs.Grammar.{starts}
 use Rattle.cw_grammar.specs.Rules.{raw_name, name}
 use Rattle.cw_grammar.specs.declared.stop.Stop.{Stop}
-use Rattle.cw_grammar.specs.declared.stop.Stop.TheVariants as stops
-use Rattle.cw_grammar.specs.Reading.{Fault, syntax_at, deep_at, Read, Fails, reads, take_one}
+use Rattle.cw_grammar.specs.Reading.{Fault, Read, Fails, reads, take_one}
 use Rattle.cw_grammar.specs.Labels.{labels_of}
+use Rattle.cw_grammar.proofs.Failing.{fails_where}
 use Rattle.cw_grammar.proofs.Took.{done, stopped, same_done, took, took_shorter}
 
 abbrev pub joined : List RawName → List RawName × List Item → List RawName × List Item
@@ -78,6 +78,4 @@ never (t ∷ us) h g f = go (same t.kind kinds.Name) refl
     go false e = let y : false ≡ true = (let x = h in rw e at x) in cc
 
 pub name_not_failed : (e : Stop) (A : Type 0) (ts : List Item) (total : Read A) → starts ts (kinds.Name ∷ []) ≡ true → Fails e (reads 0 name ts) → Fails e total
-name_not_failed stops.Memory A ts total h f = tt
-name_not_failed (stops.Syntax j) A ts total h f = absurd (never ts h (syntax_at j) f)
-name_not_failed (stops.Deep j) A ts total h f = absurd (never ts h (deep_at j) f)
+name_not_failed e A ts total h failed = fails_where e (reads 0 name ts) total (λ f is. absurd (never ts h f is)) failed

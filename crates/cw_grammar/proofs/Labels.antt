@@ -13,15 +13,20 @@ use Rattle.cw_grammar.specs.Rules.{raw_name}
 use Rattle.cw_grammar.specs.Statements.{stmt, simple, simple_behind, unnamed, with_label, stmt_tree}
 use Rattle.cw_grammar.specs.Table.{again_rule}
 use Rattle.cw_grammar.specs.declared.stop.Stop.{Stop}
-use Rattle.cw_grammar.specs.declared.stop.Stop.TheVariants as stops
 use Rattle.cw_grammar.specs.Reading.{syntax_at, deep_at, Read, Fails, ◌>>=◌, inside, reads}
 use Rattle.cw_grammar.specs.Labels.{labels_of, labels, unlabelled, unlabelled_simple}
 use Rattle.cw_grammar.proofs.Again.{again_step}
+use Rattle.cw_grammar.proofs.Failing.{fails_where}
 use Rattle.cw_grammar.proofs.Took.{same_done}
 
 -- a name with a colon behind it
 abbrev pub is_label : List Item → Bool
 is_label ts = starts ts (kinds.Name ∷ []) && starts (drop 1 ts) (kinds.Symbol symbols.Colon ∷ [])
+
+-- A token alone is no label.
+alone : (t : Item) (b : Bool) → same t.kind kinds.Name ≡ b → is_label (t ∷ []) ≡ false
+alone t true e = rw e refl
+alone t false e = rw e refl
 
 label_first : (n : ℕ) (p : Bool) (t c : Item) (us : List Item) → same t.kind kinds.Name ≡ true → same c.kind (kinds.Symbol symbols.Colon) ≡ true
     → reads n (again_rule (labelled p)) (t ∷ c ∷ us) ≡ (reads n (again (labelled p)) us >>= λ y. Ok (with_label (raw_name t) y.0, y.1))
@@ -85,11 +90,7 @@ no_label n p (t ∷ us) e = named (same t.kind kinds.Name) refl
 
 pub stmt_behind_labels : (n : ℕ) (p : Bool) (ts : List Item) → reads n (again (labelled p)) ts ≡ (reads n (unlabelled p) (labels_of ts).1 >>= λ y. Ok (stmt_tree (labels_of ts).0 y.0, y.1))
 stmt_behind_labels n p [] = no_label n p [] refl
-stmt_behind_labels n p (t ∷ []) = no_label n p (t ∷ []) (alone (same t.kind kinds.Name) refl)
-  where
-    alone : (b : Bool) → same t.kind kinds.Name ≡ b → is_label (t ∷ []) ≡ false
-    alone true e = rw e refl
-    alone false e = rw e refl
+stmt_behind_labels n p (t ∷ []) = no_label n p (t ∷ []) (alone t (same t.kind kinds.Name) refl)
 stmt_behind_labels n p (t ∷ c ∷ us) = named (stmt_behind_labels n p us) (same t.kind kinds.Name) refl
   where
     Goal : Type 0
@@ -152,11 +153,7 @@ simple_unlabelled n p (t ∷ us) e = named (same t.kind kinds.Name) refl
 
 pub simple_behind_labels : (n : ℕ) (p : Bool) (ts : List Item) → reads n (again (labelled_simple p)) ts ≡ (reads n (unlabelled_simple p) (labels_of ts).1 >>= λ y. Ok (((labels_of ts).0, y.0), y.1))
 simple_behind_labels n p [] = simple_unlabelled n p [] refl
-simple_behind_labels n p (t ∷ []) = simple_unlabelled n p (t ∷ []) (alone (same t.kind kinds.Name) refl)
-  where
-    alone : (b : Bool) → same t.kind kinds.Name ≡ b → is_label (t ∷ []) ≡ false
-    alone true e = rw e refl
-    alone false e = rw e refl
+simple_behind_labels n p (t ∷ []) = simple_unlabelled n p (t ∷ []) (alone t (same t.kind kinds.Name) refl)
 simple_behind_labels n p (t ∷ c ∷ us) = named (simple_behind_labels n p us) (same t.kind kinds.Name) refl
   where
     Goal : Type 0
@@ -187,22 +184,16 @@ split_is ts us ns e = same_done (ns_of (labels_of ts)) (ns, us) e
     ns_of x = x
 
 pub labels_not_failed : (e : Stop) (A : Type 0) (ts : List Item) (total : Read A) → Fails e (labels ts) → Fails e total
-labels_not_failed stops.Memory A ts total h = tt
-labels_not_failed (stops.Syntax j) A ts total h = absurd cc
-labels_not_failed (stops.Deep j) A ts total h = absurd cc
+labels_not_failed e A ts total failed = fails_where e (labels ts) total (λ f is. absurd cc) failed
 
 pub stmt_read : (n : ℕ) (p : Bool) (ts us vs : List Item) (ns : List RawName) (f : RawForm) → labels ts ≡ Ok (ns, us) → reads n (unlabelled p) us ≡ Ok (f, vs) → reads n (again (labelled p)) ts ≡ Ok (stmt_tree ns f, vs)
 stmt_read n p ts us vs ns f l h = stmt_behind_labels n p ts ∙ rw (split_is ts us ns l) (rw h refl)
 
 pub stmt_fails : (s : Stop) (n : ℕ) (p : Bool) (ts us : List Item) (ns : List RawName) → labels ts ≡ Ok (ns, us) → Fails s (reads n (unlabelled p) us) → Fails s (reads n (again (labelled p)) ts)
-stmt_fails stops.Memory n p ts us ns l h = tt
-stmt_fails (stops.Syntax j) n p ts us ns l h = stmt_behind_labels n p ts ∙ rw (split_is ts us ns l) (rw h refl)
-stmt_fails (stops.Deep j) n p ts us ns l h = stmt_behind_labels n p ts ∙ rw (split_is ts us ns l) (rw h refl)
+stmt_fails e n p ts us ns l failed = fails_where e (reads n (unlabelled p) us) (reads n (again (labelled p)) ts) (λ f is. stmt_behind_labels n p ts ∙ rw (split_is ts us ns l) (rw is refl)) failed
 
 pub simple_read : (n : ℕ) (p : Bool) (ts us vs : List Item) (ns : List RawName) (f : RawSimple) → labels ts ≡ Ok (ns, us) → reads n (unlabelled_simple p) us ≡ Ok (f, vs) → reads n (again (labelled_simple p)) ts ≡ Ok ((ns, f), vs)
 simple_read n p ts us vs ns f l h = simple_behind_labels n p ts ∙ rw (split_is ts us ns l) (rw h refl)
 
 pub simple_fails : (s : Stop) (n : ℕ) (p : Bool) (ts us : List Item) (ns : List RawName) → labels ts ≡ Ok (ns, us) → Fails s (reads n (unlabelled_simple p) us) → Fails s (reads n (again (labelled_simple p)) ts)
-simple_fails stops.Memory n p ts us ns l h = tt
-simple_fails (stops.Syntax j) n p ts us ns l h = simple_behind_labels n p ts ∙ rw (split_is ts us ns l) (rw h refl)
-simple_fails (stops.Deep j) n p ts us ns l h = simple_behind_labels n p ts ∙ rw (split_is ts us ns l) (rw h refl)
+simple_fails e n p ts us ns l failed = fails_where e (reads n (unlabelled_simple p) us) (reads n (again (labelled_simple p)) ts) (λ f is. simple_behind_labels n p ts ∙ rw (split_is ts us ns l) (rw is refl)) failed

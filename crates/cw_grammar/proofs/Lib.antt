@@ -6,6 +6,7 @@ pub mod Many
 pub mod Complete
 pub mod Passes
 pub mod Levels
+pub mod Failing
 pub mod Loop
 pub mod Whole
 pub mod Strict
@@ -15,13 +16,11 @@ pub mod Quotes
 pub mod Chain
 pub mod Longest
 pub mod Again
-pub mod Distribute
 pub mod Labels
 pub mod Places
 pub mod From
 pub mod Closed
 pub mod Took
-pub mod Ended
-pub mod Separated
 pub mod Flat
 pub mod LabelLoop
+pub mod Distribute

@@ -3,9 +3,9 @@ use Rattle.std.proofs.Common.{◌≡◌, ℕ, true, false, List, [], ◌∷◌, 
 use Rattle.std.proofs.lemmas.List.{append-nil}
 use Rattle.cw_grammar.specs.Tokens.{Item, code, same}
 use Rattle.cw_grammar.specs.declared.stop.Stop.{Stop}
-use Rattle.cw_grammar.specs.declared.stop.Stop.TheVariants as stops
 use Rattle.cw_grammar.specs.Grammar.{Sort, Value, Grammar, many, first, null, starts}
-use Rattle.cw_grammar.specs.Reading.{Read, Fails, syntax_at, deep_at, ◌>>=◌, read_with, reads, inside, Agains, turns, unbounded}
+use Rattle.cw_grammar.specs.Reading.{Read, Fails, ◌>>=◌, read_with, reads, inside, Agains, turns, unbounded}
+use Rattle.cw_grammar.proofs.Failing.{fails_where}
 use Rattle.cw_grammar.proofs.Many.{with_item, many_end, many_more}
 
 -- what was read before, and what is still read
@@ -30,10 +30,5 @@ ends n s g front ts total h so_far =
 
 pub fails : (e : Stop) (n : ℕ) (s : Sort) (g : Grammar s) (front : List (Value s)) (ts : List Item) (total : Read (List (Value s))) → null g ≡ false → starts ts (first g) ≡ true → Fails e (reads n g ts)
     → with_front front (reads n (many g) ts) ≡ total → Fails e total
-fails stops.Memory n s g front ts total z h e so_far = tt
-fails (stops.Syntax k) n s g front ts total z h e so_far =
-    let one : with_front front (reads n (many g) ts) ≡ Err (syntax_at k) = ap (λ (o : Read (List (Value s))). with_front front o) (many_more n s g ts z h) ∙ rw e refl in
-    sym so_far ∙ one
-fails (stops.Deep k) n s g front ts total z h e so_far =
-    let one : with_front front (reads n (many g) ts) ≡ Err (deep_at k) = ap (λ (o : Read (List (Value s))). with_front front o) (many_more n s g ts z h) ∙ rw e refl in
-    sym so_far ∙ one
+fails e n s g front ts total z h failed so_far =
+    fails_where e (reads n g ts) total (λ f is. sym so_far ∙ ap (λ (o : Read (List (Value s))). with_front front o) (many_more n s g ts z h) ∙ rw is refl) failed

@@ -30,9 +30,6 @@ bound ds e short =
 pub first_bound : (ds : List ℕ) (i : ℕ) → list_all is_ascii_digit ds ≡ true → length ds ≤ 12 → digits_value 10 (take i ds) < 1000000000000
 first_bound ds i e short = omega (arith, bound ds e short, digits_value-take-le 10 ds i (omega arith))
 
-pub digit_low : (ds : List ℕ) (i : ℕ) → list_all is_ascii_digit ds ≡ true → i < length ds → 48 ≤ get_or ds i 0
-digit_low ds i e h = omega (arith, digit_at ds i (AllDigits-from_test ds e) h)
-
 pub one_more : (ds : List ℕ) (i : ℕ) → list_all is_ascii_digit ds ≡ true → i < length ds
     → digits_value 10 (take (i + 1) ds) ≡ digits_value 10 (take i ds) * 10 + (get_or ds i 0 - 48)
 one_more ds i e h =

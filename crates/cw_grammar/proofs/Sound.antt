@@ -61,6 +61,25 @@ prepend t a b c e = ap (λ (z : List Item). t ∷ z) e
 rejoin : (ts u r v q : List Item) → ts ≡ u ++ r → r ≡ v ++ q → ts ≡ (u ++ v) ++ q
 rejoin ts u r v q e f = e ∙ ap (λ (z : List Item). u ++ z) f ∙ sym (append_assoc u v q)
 
+-- A fault of a part is one of the whole, if each front of the part, behind what was read before it, is one of the whole.
+fault_behind : (m n : ℕ) (s t : Sort) (g : Grammar s) (h : Grammar t) (ts u r : List Item) → ts ≡ u ++ r → ((v : List Item) → IsViablePrefix m s g v → IsViablePrefix n t h (u ++ v)) → ((v : List Item) → IsViablePrefix (suc m) s g v → IsViablePrefix (suc n) t h (u ++ v))
+    → (f : Fault) → Sound m s g r (Err f) → Sound n t h ts (Err f)
+fault_behind m n s t g h ts u r e here deeper (syntax_at k) p = record { text = u ++ p.text; rest = p.rest; parts = rejoin ts u r p.text p.rest e p.parts; left_is = p.left_is; is_front = here p.text p.is_front }
+fault_behind m n s t g h ts u r e here deeper (deep_at k) p =
+    record {
+      text = u ++ p.text;
+      opening = p.opening;
+      rest = p.rest;
+      parts = rejoin ts u r p.text (p.opening ∷ p.rest) e p.parts;
+      left_is = p.left_is;
+      is_front = here p.text p.is_front;
+      is_deep = rw append_assoc (deeper (p.text ++ p.opening ∷ []) p.is_deep);
+    }
+
+-- of the same tokens
+fault_of : (n : ℕ) (s t : Sort) (g : Grammar s) (h : Grammar t) (ts : List Item) → ((m : ℕ) (v : List Item) → IsViablePrefix m s g v → IsViablePrefix m t h v) → (f : Fault) → Sound n s g ts (Err f) → Sound n t h ts (Err f)
+fault_of n s t g h ts k f p = fault_behind n n s t g h ts [] ts refl (k n) (k (suc n)) f p
+
 sound_take : (n : ℕ) (k : TokenKind) (ts : List Item) → Sound n a_token (one k) ts (take_one k ts)
 sound_take n k [] = record { text = []; rest = []; parts = refl; left_is = refl; is_front = no_token }
 sound_take n k (t ∷ ts) =
@@ -71,62 +90,37 @@ sound_take n k (t ∷ ts) =
 
 sound_map : (n : ℕ) (s t : Sort) (f : Value s → Value t) (g : Grammar s) (ts : List Item) (o : Read (Value s)) → Sound n s g ts o → Sound n t (g ⇒ f) ts (o >>= λ x. Ok (f x.0, x.1))
 sound_map n s t f g ts (Ok x) h = record { text = h.text; parts = h.parts; derives = is_map h.derives }
-sound_map n s t f g ts (Err (syntax_at k)) h = record { text = h.text; rest = h.rest; parts = h.parts; left_is = h.left_is; is_front = of_map h.is_front }
-sound_map n s t f g ts (Err (deep_at k)) h = record { text = h.text; opening = h.opening; rest = h.rest; parts = h.parts; left_is = h.left_is; is_front = of_map h.is_front; is_deep = of_map h.is_deep }
+sound_map n s t f g ts (Err k) h = fault_of n s t g (g ⇒ f) ts (λ m v p. of_map p) k h
 
 sound_left : (n : ℕ) (s : Sort) (g h : Grammar s) (ts : List Item) (o : Read (Value s)) → Sound n s g ts o → Sound n s (g ∣ h) ts o
 sound_left n s g h ts (Ok x) p = record { text = p.text; parts = p.parts; derives = is_left p.derives }
-sound_left n s g h ts (Err (syntax_at k)) p = record { text = p.text; rest = p.rest; parts = p.parts; left_is = p.left_is; is_front = of_left p.is_front }
-sound_left n s g h ts (Err (deep_at k)) p = record { text = p.text; opening = p.opening; rest = p.rest; parts = p.parts; left_is = p.left_is; is_front = of_left p.is_front; is_deep = of_left p.is_deep }
+sound_left n s g h ts (Err k) p = fault_of n s s g (g ∣ h) ts (λ m v q. of_left q) k p
 
 sound_right : (n : ℕ) (s : Sort) (g h : Grammar s) (ts : List Item) (o : Read (Value s)) → Sound n s h ts o → Sound n s (g ∣ h) ts o
 sound_right n s g h ts (Ok x) p = record { text = p.text; parts = p.parts; derives = is_right p.derives }
-sound_right n s g h ts (Err (syntax_at k)) p = record { text = p.text; rest = p.rest; parts = p.parts; left_is = p.left_is; is_front = of_right p.is_front }
-sound_right n s g h ts (Err (deep_at k)) p = record { text = p.text; opening = p.opening; rest = p.rest; parts = p.parts; left_is = p.left_is; is_front = of_right p.is_front; is_deep = of_right p.is_deep }
+sound_right n s g h ts (Err k) p = fault_of n s s h (g ∣ h) ts (λ m v q. of_right q) k p
 
 -- the second part of a sequence, behind a text of the first
 sound_second : (n : ℕ) (s t : Sort) (g : Grammar s) (h : Grammar t) (ts u r : List Item) (x : Value s) → ts ≡ u ++ r → Derives n s g u x → (o : Read (Value t)) → Sound n t h r o
     → Sound n (a_pair s t) (g · h) ts (o >>= λ y. Ok ((x, y.0), y.1))
 sound_second n s t g h ts u r x e d (Ok y) p = record { text = u ++ p.text; parts = rejoin ts u r p.text y.1 e p.parts; derives = is_then d p.derives }
-sound_second n s t g h ts u r x e d (Err (syntax_at k)) p = record { text = u ++ p.text; rest = p.rest; parts = rejoin ts u r p.text p.rest e p.parts; left_is = p.left_is; is_front = of_second d p.is_front }
-sound_second n s t g h ts u r x e d (Err (deep_at k)) p =
-    record {
-      text = u ++ p.text;
-      opening = p.opening;
-      rest = p.rest;
-      parts = rejoin ts u r p.text (p.opening ∷ p.rest) e p.parts;
-      left_is = p.left_is;
-      is_front = of_second d p.is_front;
-      is_deep = rw append_assoc (of_second (derives_more d) p.is_deep);
-    }
+sound_second n s t g h ts u r x e d (Err k) p = fault_behind n n t (a_pair s t) h (g · h) ts u r e (λ v q. of_second d q) (λ v q. of_second (derives_more d) q) k p
 
 sound_then : (n : ℕ) (s t : Sort) (g : Grammar s) (h : Grammar t) (ts : List Item) (o : Read (Value s)) (next : List Item → Read (Value t)) → Sound n s g ts o → ((us : List Item) → Sound n t h us (next us))
     → Sound n (a_pair s t) (g · h) ts (o >>= λ x. next x.1 >>= λ y. Ok ((x.0, y.0), y.1))
 sound_then n s t g h ts (Ok x) next p q = sound_second n s t g h ts p.text x.1 x.0 p.parts p.derives (next x.1) (q x.1)
-sound_then n s t g h ts (Err (syntax_at k)) next p q = record { text = p.text; rest = p.rest; parts = p.parts; left_is = p.left_is; is_front = of_first p.is_front }
-sound_then n s t g h ts (Err (deep_at k)) next p q = record { text = p.text; opening = p.opening; rest = p.rest; parts = p.parts; left_is = p.left_is; is_front = of_first p.is_front; is_deep = of_first p.is_deep }
+sound_then n s t g h ts (Err k) next p q = fault_of n s (a_pair s t) g (g · h) ts (λ m v q. of_first q) k p
 
 -- more items behind an item
 sound_more : (n : ℕ) (s : Sort) (g : Grammar s) (ts u r : List Item) (x : Value s) → ts ≡ u ++ r → Derives n s g u x → (o : Read (List (Value s))) → Sound n (a_list s) (many g) r o
     → Sound n (a_list s) (many g) ts (o >>= λ y. Ok (x ∷ y.0, y.1))
 sound_more n s g ts u r x e d (Ok y) p = record { text = u ++ p.text; parts = rejoin ts u r p.text y.1 e p.parts; derives = is_more d p.derives }
-sound_more n s g ts u r x e d (Err (syntax_at k)) p = record { text = u ++ p.text; rest = p.rest; parts = rejoin ts u r p.text p.rest e p.parts; left_is = p.left_is; is_front = of_more d p.is_front }
-sound_more n s g ts u r x e d (Err (deep_at k)) p =
-    record {
-      text = u ++ p.text;
-      opening = p.opening;
-      rest = p.rest;
-      parts = rejoin ts u r p.text (p.opening ∷ p.rest) e p.parts;
-      left_is = p.left_is;
-      is_front = of_more d p.is_front;
-      is_deep = rw append_assoc (of_more (derives_more d) p.is_deep);
-    }
+sound_more n s g ts u r x e d (Err k) p = fault_behind n n (a_list s) (a_list s) (many g) (many g) ts u r e (λ v q. of_more d q) (λ v q. of_more (derives_more d) q) k p
 
 sound_items : (n : ℕ) (s : Sort) (g : Grammar s) (ts : List Item) (o : Read (Value s)) (next : List Item → Read (List (Value s))) → Sound n s g ts o → ((us : List Item) → Sound n (a_list s) (many g) us (next us))
     → Sound n (a_list s) (many g) ts (o >>= λ x. next x.1 >>= λ y. Ok (x.0 ∷ y.0, y.1))
 sound_items n s g ts (Ok x) next p q = sound_more n s g ts p.text x.1 x.0 p.parts p.derives (next x.1) (q x.1)
-sound_items n s g ts (Err (syntax_at k)) next p q = record { text = p.text; rest = p.rest; parts = p.parts; left_is = p.left_is; is_front = of_item p.is_front }
-sound_items n s g ts (Err (deep_at k)) next p q = record { text = p.text; opening = p.opening; rest = p.rest; parts = p.parts; left_is = p.left_is; is_front = of_item p.is_front; is_deep = of_item p.is_deep }
+sound_items n s g ts (Err k) next p q = fault_of n s (a_list s) g (many g) ts (λ m v q. of_item q) k p
 
 sound_repeat : (n : ℕ) (s : Sort) (g : Grammar s) (test : List Item → Bool) (item : List Item → Read (Value s)) → ((us : List Item) → Sound n s g us (item us)) → (k : ℕ) (ts : List Item)
     → Sound n (a_list s) (many g) ts (repeat k test item ts)
@@ -142,9 +136,7 @@ sound_inside : (n : ℕ) (s : Sort) (k : TokenKind) (r : Rule s) (t : Item) (ts 
 sound_inside zero s k r t ts e o h =
     rw h (record { text = []; opening = t; rest = ts; parts = refl; left_is = refl; is_front = no_token; is_deep = of_opens e no_token })
 sound_inside (suc n) s k r t ts e (Ok x) p = record { text = t ∷ p.text; parts = prepend t ts p.text x.1 p.parts; derives = is_opens e p.derives }
-sound_inside (suc n) s k r t ts e (Err (syntax_at m)) p = record { text = t ∷ p.text; rest = p.rest; parts = prepend t ts p.text p.rest p.parts; left_is = p.left_is; is_front = of_opens e p.is_front }
-sound_inside (suc n) s k r t ts e (Err (deep_at m)) p =
-    record { text = t ∷ p.text; opening = p.opening; rest = p.rest; parts = prepend t ts p.text (p.opening ∷ p.rest) p.parts; left_is = p.left_is; is_front = of_opens e p.is_front; is_deep = of_opens e p.is_deep }
+sound_inside (suc n) s k r t ts e (Err m) p = fault_behind n (suc n) s (a_pair a_token s) (rule r) (opens k r) (t ∷ ts) (t ∷ []) ts refl (λ v q. of_opens e q) (λ v q. of_opens e q) m p
 
 sound_opens : (n : ℕ) (s : Sort) (k : TokenKind) (r : Rule s) (inner : List Item → Read (Value s)) → ((us : List Item) → SoundInside n s r us (inner us)) → (ts : List Item)
     → Sound n (a_pair a_token s) (opens k r) ts (take_one k ts >>= λ x. inner x.1 >>= λ y. Ok ((x.0, y.0), y.1))
@@ -158,8 +150,7 @@ sound_opens n s k r inner q (t ∷ ts) =
 
 sound_again : (n : ℕ) (s : Sort) (a : Again s) (ts : List Item) (o : Read (Value s)) → Sound n s (again_rule a) ts o → Sound n s (again a) ts o
 sound_again n s a ts (Ok x) p = record { text = p.text; parts = p.parts; derives = is_again p.derives }
-sound_again n s a ts (Err (syntax_at k)) p = record { text = p.text; rest = p.rest; parts = p.parts; left_is = p.left_is; is_front = of_again p.is_front }
-sound_again n s a ts (Err (deep_at k)) p = record { text = p.text; opening = p.opening; rest = p.rest; parts = p.parts; left_is = p.left_is; is_front = of_again p.is_front; is_deep = of_again p.is_deep }
+sound_again n s a ts (Err k) p = fault_of n s s (again_rule a) (again a) ts (λ m v q. of_again q) k p
 
 abbrev pub SoundWithin : ℕ → Inside → Type 0
 SoundWithin n within = (s : Sort) (r : Rule s) (us : List Item) → SoundInside n s r us (within s r us)

@@ -32,24 +32,16 @@ took k (s ∷ ss) t us e = go (same s.kind k) refl
 pub took_shorter : (k : TokenKind) (ts : List Item) (t : Item) (us : List Item) → take_one k ts ≡ Ok (t, us) → length us + 1 ≡ length ts
 took_shorter k ts t us e = omega (arith, ap length (took k ts t us e).0)
 
+not_failed : (k : TokenKind) (us : List Item) → starts us (k ∷ []) ≡ true → (g : Fault) → take_one k us ≡ Err g → ⊥
+not_failed k [] h g f = cc
+not_failed k (u ∷ us) h g f = go (same u.kind k) refl
+  where
+    go : (b : Bool) → same u.kind k ≡ b → ⊥
+    go true e = let x = f in let y : done (u, us) ≡ Err g = rw e at x in cc
+    go false e = let x = h in let y : false ≡ true = rw e at x in cc
+
 -- A token of the kind is taken.
 pub is_taken : (e : Stop) (A : Type 0) (k : TokenKind) (ts : List Item) (total : Read A) → starts ts (k ∷ []) ≡ true → Fails e (take_one k ts) → Fails e total
 is_taken stops.Memory A k ts total h f = tt
-is_taken (stops.Syntax j) A k ts total h f = absurd (not_failed ts h (syntax_at j) f)
-  where
-    not_failed : (us : List Item) → starts us (k ∷ []) ≡ true → (g : Fault) → take_one k us ≡ Err g → ⊥
-    not_failed [] h g f = cc
-    not_failed (u ∷ us) h g f = go (same u.kind k) refl
-      where
-        go : (b : Bool) → same u.kind k ≡ b → ⊥
-        go true e = let x = f in let y : done (u, us) ≡ Err g = rw e at x in cc
-        go false e = let x = h in let y : false ≡ true = rw e at x in cc
-is_taken (stops.Deep j) A k ts total h f = absurd (not_failed ts h (deep_at j) f)
-  where
-    not_failed : (us : List Item) → starts us (k ∷ []) ≡ true → (g : Fault) → take_one k us ≡ Err g → ⊥
-    not_failed [] h g f = cc
-    not_failed (u ∷ us) h g f = go (same u.kind k) refl
-      where
-        go : (b : Bool) → same u.kind k ≡ b → ⊥
-        go true e = let x = f in let y : done (u, us) ≡ Err g = rw e at x in cc
-        go false e = let x = h in let y : false ≡ true = rw e at x in cc
+is_taken (stops.Syntax j) A k ts total h f = absurd (not_failed k ts h (syntax_at j) f)
+is_taken (stops.Deep j) A k ts total h f = absurd (not_failed k ts h (deep_at j) f)

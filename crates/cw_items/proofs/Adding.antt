@@ -2,27 +2,22 @@
 use Rattle.std.proofs.Common.{◌≡◌, ◌==◌, ◌&&◌, is_none, ◌<◌, ◌≤◌, ℕ, zero, suc, ◌+◌, List, [], ◌∷◌, ◌++◌, length, map, drop, get_or, Option, None, refl, sym, ap, ◌∙◌, append_assoc, append-nil, add-one, arith}
 use Rattle.std.proofs.lemmas.List.{drop_all}
 use Rattle.cw_tree.specs.declared.leaf.Position.{Position}
-use Rattle.cw_tree.specs.declared.leaf.RawLiteral.{RawLiteral}
 use Rattle.cw_tree.specs.declared.leaf.RawName.{RawName}
-use Rattle.cw_tree.specs.declared.leaf.RawNumber.{RawNumber}
-use Rattle.cw_tree.specs.declared.leaf.RawOctal.{RawOctal}
-use Rattle.cw_tree.specs.declared.leaf.RawType.{RawType}
 use Rattle.cw_tree.specs.declared.expression.RawExpr.TheVariants as expr
 use Rattle.cw_tree.specs.declared.expression.RawPrimary.TheVariants as primary
 use Rattle.cw_tree.specs.declared.expression.RawRef.TheVariants as ref
-use Rattle.cw_tree.specs.declared.expression.RawExpr.TheOpen as layer
-use Rattle.cw_tree.specs.declared.expression.RawExpr.{RawExpr, fold-roll-RawExpr}
-use Rattle.cw_tree.specs.declared.expression.RawPrimary.{RawPrimary, fold-roll-RawPrimary}
-use Rattle.cw_tree.specs.declared.expression.RawRef.{RawRef, fold-roll-RawRef}
-use Rattle.cw_tree.specs.declared.expression.RawCand.{RawCand, out-RawCand, fold_out-RawCand}
-use Rattle.cw_tree.specs.declared.expression.RawCmp.{RawCmp, out-RawCmp, fold_out-RawCmp}
-use Rattle.cw_tree.specs.declared.expression.RawCond.{RawCond, out-RawCond, fold_out-RawCond}
-use Rattle.cw_tree.specs.declared.expression.RawDiffer.{RawDiffer, out-RawDiffer, fold_out-RawDiffer}
-use Rattle.cw_tree.specs.declared.expression.RawMask.{RawMask, out-RawMask, fold_out-RawMask}
-use Rattle.cw_tree.specs.declared.expression.RawPrim.{RawPrim, out-RawPrim, fold_out-RawPrim}
-use Rattle.cw_tree.specs.declared.expression.RawSum.{RawSum, out-RawSum, fold_out-RawSum}
-use Rattle.cw_tree.specs.declared.expression.RawTerm.{RawTerm, out-RawTerm, fold_out-RawTerm}
-use Rattle.cw_tree.specs.declared.expression.RawUnion.{RawUnion, out-RawUnion, fold_out-RawUnion}
+use Rattle.cw_tree.specs.declared.expression.RawExpr.{RawExpr}
+use Rattle.cw_tree.specs.declared.expression.RawPrimary.{RawPrimary}
+use Rattle.cw_tree.specs.declared.expression.RawRef.{RawRef}
+use Rattle.cw_tree.specs.declared.expression.RawCand.{RawCand, out-RawCand}
+use Rattle.cw_tree.specs.declared.expression.RawCmp.{RawCmp, out-RawCmp}
+use Rattle.cw_tree.specs.declared.expression.RawCond.{RawCond, out-RawCond}
+use Rattle.cw_tree.specs.declared.expression.RawDiffer.{RawDiffer, out-RawDiffer}
+use Rattle.cw_tree.specs.declared.expression.RawMask.{RawMask, out-RawMask}
+use Rattle.cw_tree.specs.declared.expression.RawPrim.{RawPrim, out-RawPrim}
+use Rattle.cw_tree.specs.declared.expression.RawSum.{RawSum, out-RawSum}
+use Rattle.cw_tree.specs.declared.expression.RawTerm.{RawTerm, out-RawTerm}
+use Rattle.cw_tree.specs.declared.expression.RawUnion.{RawUnion, out-RawUnion}
 use Rattle.cw_facts.specs.declared.fact.Fact.{Fact, out-Fact, out-roll-Fact}
 use Rattle.cw_facts.specs.declared.fact.Fact.TheVariants as fact
 use Rattle.cw_facts.specs.declared.fact.Fact.TheOpen as fact_layer
@@ -30,7 +25,8 @@ use Rattle.cw_facts.specs.declared.fact.Form.{Form}
 use Rattle.cw_facts.specs.declared.fact.Form.TheVariants as form
 use Rattle.cw_facts.specs.declared.fact.Reading.{Reading}
 use Rattle.cw_facts.specs.declared.fact.Reading.TheVariants as reading
-use Rattle.cw_facts.specs.Uses.{Uses, uses_of, reading_of, each_for, indexed, argument_uses, expression_step, primary_step, reference_step, conjunction_step, comparison_step, condition_step, differ_step, mask_step, prim_step, sum_step, term_step, union_step, expression_uses, primary_uses, reference_uses, conjunction_uses, comparison_uses, condition_uses, differ_uses, mask_uses, prim_uses, sum_uses, term_uses, union_uses}
+use Rattle.cw_facts.specs.Uses.{Uses, uses_of, reading_of, each_for, indexed, argument_uses, expression_uses, primary_uses, reference_uses, conjunction_uses, comparison_uses, condition_uses, differ_uses, mask_uses, prim_uses, sum_uses, term_uses, union_uses}
+use Rattle.cw_facts.proofs.Layers.{of_choice, of_text, of_call, of_name, of_one, of_two, of_comparison, of_condition, of_conjunction, of_operands, of_term, of_differ, of_union, of_mask, of_prim}
 use Rattle.cw_items.specs.declared.thing.Owner.{Owner}
 use Rattle.cw_items.specs.declared.thing.Sort.TheVariants as sort
 use Rattle.cw_items.specs.declared.thing.Thing.{Thing}
@@ -38,81 +34,33 @@ use Rattle.cw_items.specs.Things.{thing, capped, fact_texts, texts}
 
 -- ---- the uses of each rule
 
-pub of_choice : (at : Position) (test : RawCond) (a b : RawExpr) (r : Reading) → expression_uses (expr.Choice at test a b) r ≡ condition_uses test reading.Value ++ (expression_uses a reading.Value ++ expression_uses b reading.Value)
-of_choice at test a b r = ap (λ (e : RawExpr). expression_uses e r) (sym (expr.rolls-Choice at test a b)) ∙ ap (λ (f : Uses). f r) (fold-roll-RawExpr Uses Uses Uses Uses Uses Uses Uses Uses Uses Uses Uses Uses expression_step primary_step reference_step conjunction_step comparison_step condition_step differ_step mask_step prim_step sum_step term_step union_step (layer.Choice at test a b))
-
-pub of_sum : (s : RawSum) (r : Reading) → expression_uses (expr.Sum s) r ≡ sum_uses s r
-of_sum s r = ap (λ (e : RawExpr). expression_uses e r) (sym (expr.rolls-Sum s)) ∙ ap (λ (f : Uses). f r) (fold-roll-RawExpr Uses Uses Uses Uses Uses Uses Uses Uses Uses Uses Uses Uses expression_step primary_step reference_step conjunction_step comparison_step condition_step differ_step mask_step prim_step sum_step term_step union_step (layer.Sum s))
-
-pub of_number : (n : RawNumber) (r : Reading) → primary_uses (primary.Number n) r ≡ []
-of_number n r = ap (λ (x : RawPrimary). primary_uses x r) (sym (primary.rolls-Number n)) ∙ ap (λ (f : Uses). f r) (fold-roll-RawPrimary Uses Uses Uses Uses Uses Uses Uses Uses Uses Uses Uses Uses expression_step primary_step reference_step conjunction_step comparison_step condition_step differ_step mask_step prim_step sum_step term_step union_step (layer.Number n))
-
-pub of_octal : (n : RawOctal) (r : Reading) → primary_uses (primary.Octal n) r ≡ []
-of_octal n r = ap (λ (x : RawPrimary). primary_uses x r) (sym (primary.rolls-Octal n)) ∙ ap (λ (f : Uses). f r) (fold-roll-RawPrimary Uses Uses Uses Uses Uses Uses Uses Uses Uses Uses Uses Uses expression_step primary_step reference_step conjunction_step comparison_step condition_step differ_step mask_step prim_step sum_step term_step union_step (layer.Octal n))
-
-pub of_literal : (c : RawLiteral) (r : Reading) → primary_uses (primary.Literal c) r ≡ []
-of_literal c r = ap (λ (x : RawPrimary). primary_uses x r) (sym (primary.rolls-Literal c)) ∙ ap (λ (f : Uses). f r) (fold-roll-RawPrimary Uses Uses Uses Uses Uses Uses Uses Uses Uses Uses Uses Uses expression_step primary_step reference_step conjunction_step comparison_step condition_step differ_step mask_step prim_step sum_step term_step union_step (layer.Literal c))
-
-pub of_text : (at : Position) (cs : List ℕ) (r : Reading) → primary_uses (primary.Text at cs) r ≡ fact.Text at (length cs) ∷ []
-of_text at cs r = ap (λ (x : RawPrimary). primary_uses x r) (sym (primary.rolls-Text at cs)) ∙ ap (λ (f : Uses). f r) (fold-roll-RawPrimary Uses Uses Uses Uses Uses Uses Uses Uses Uses Uses Uses Uses expression_step primary_step reference_step conjunction_step comparison_step condition_step differ_step mask_step prim_step sum_step term_step union_step (layer.Text at cs))
-
-pub of_location : (at : Position) (x : RawRef) (r : Reading) → primary_uses (primary.Location at x) r ≡ reference_uses x reading.Whole
-of_location at x r = ap (λ (x : RawPrimary). primary_uses x r) (sym (primary.rolls-Location at x)) ∙ ap (λ (f : Uses). f r) (fold-roll-RawPrimary Uses Uses Uses Uses Uses Uses Uses Uses Uses Uses Uses Uses expression_step primary_step reference_step conjunction_step comparison_step condition_step differ_step mask_step prim_step sum_step term_step union_step (layer.Location at x))
-
-pub of_forced : (t : RawType) (e : RawExpr) (r : Reading) → primary_uses (primary.Forced t e) r ≡ expression_uses e reading.Value
-of_forced t e r = ap (λ (x : RawPrimary). primary_uses x r) (sym (primary.rolls-Forced t e)) ∙ ap (λ (f : Uses). f r) (fold-roll-RawPrimary Uses Uses Uses Uses Uses Uses Uses Uses Uses Uses Uses Uses expression_step primary_step reference_step conjunction_step comparison_step condition_step differ_step mask_step prim_step sum_step term_step union_step (layer.Forced t e))
-
-pub of_bracket : (at : Position) (e : RawExpr) (r : Reading) → primary_uses (primary.Bracket at e) r ≡ expression_uses e reading.Value
-of_bracket at e r = ap (λ (x : RawPrimary). primary_uses x r) (sym (primary.rolls-Bracket at e)) ∙ ap (λ (f : Uses). f r) (fold-roll-RawPrimary Uses Uses Uses Uses Uses Uses Uses Uses Uses Uses Uses Uses expression_step primary_step reference_step conjunction_step comparison_step condition_step differ_step mask_step prim_step sum_step term_step union_step (layer.Bracket at e))
-
-pub of_ref : (x : RawRef) (r : Reading) → primary_uses (primary.Ref x) r ≡ reference_uses x r
-of_ref x r = ap (λ (x : RawPrimary). primary_uses x r) (sym (primary.rolls-Ref x)) ∙ ap (λ (f : Uses). f r) (fold-roll-RawPrimary Uses Uses Uses Uses Uses Uses Uses Uses Uses Uses Uses Uses expression_step primary_step reference_step conjunction_step comparison_step condition_step differ_step mask_step prim_step sum_step term_step union_step (layer.Ref x))
-
-pub of_call : (n : RawName) (es : List RawExpr) (r : Reading) → primary_uses (primary.Call n es) r ≡ uses_of n form.CallValue ++ argument_uses es
-of_call n es r = ap (λ (x : RawPrimary). primary_uses x r) (sym (primary.rolls-Call n es)) ∙ ap (λ (f : Uses). f r) (fold-roll-RawPrimary Uses Uses Uses Uses Uses Uses Uses Uses Uses Uses Uses Uses expression_step primary_step reference_step conjunction_step comparison_step condition_step differ_step mask_step prim_step sum_step term_step union_step (layer.Call n es))
-
-pub of_name : (n : RawName) (r : Reading) → reference_uses (ref.Name n) r ≡ uses_of n (form.Reference r 0)
-of_name n r = ap (λ (x : RawRef). reference_uses x r) (sym (ref.rolls-Name n)) ∙ ap (λ (f : Uses). f r) (fold-roll-RawRef Uses Uses Uses Uses Uses Uses Uses Uses Uses Uses Uses Uses expression_step primary_step reference_step conjunction_step comparison_step condition_step differ_step mask_step prim_step sum_step term_step union_step (layer.Name n))
-
-pub of_one : (n : RawName) (e : RawExpr) (r : Reading) → reference_uses (ref.One n e) r ≡ uses_of n (form.Reference (indexed r) 1) ++ expression_uses e reading.Value
-of_one n e r = ap (λ (x : RawRef). reference_uses x r) (sym (ref.rolls-One n e)) ∙ ap (λ (f : Uses). f r) (fold-roll-RawRef Uses Uses Uses Uses Uses Uses Uses Uses Uses Uses Uses Uses expression_step primary_step reference_step conjunction_step comparison_step condition_step differ_step mask_step prim_step sum_step term_step union_step (layer.One n e))
-
-pub of_two : (n : RawName) (e : RawExpr) (g : RawExpr) (r : Reading) → reference_uses (ref.Two n e g) r ≡ uses_of n (form.Reference (indexed r) 2) ++ (expression_uses e reading.Value ++ expression_uses g reading.Value)
-of_two n e g r = ap (λ (x : RawRef). reference_uses x r) (sym (ref.rolls-Two n e g)) ∙ ap (λ (f : Uses). f r) (fold-roll-RawRef Uses Uses Uses Uses Uses Uses Uses Uses Uses Uses Uses Uses expression_step primary_step reference_step conjunction_step comparison_step condition_step differ_step mask_step prim_step sum_step term_step union_step (layer.Two n e g))
-
-pub of_bare : (at : Position) (e : RawExpr) (r : Reading) → reference_uses (ref.Bare at e) r ≡ expression_uses e reading.Value
-of_bare at e r = ap (λ (x : RawRef). reference_uses x r) (sym (ref.rolls-Bare at e)) ∙ ap (λ (f : Uses). f r) (fold-roll-RawRef Uses Uses Uses Uses Uses Uses Uses Uses Uses Uses Uses Uses expression_step primary_step reference_step conjunction_step comparison_step condition_step differ_step mask_step prim_step sum_step term_step union_step (layer.Bare at e))
-
-pub of_comparison : (e : RawCmp) (r : Reading) → comparison_uses e r ≡ sum_uses (out-RawCmp e).left reading.Value ++ sum_uses (out-RawCmp e).right reading.Value
-of_comparison e r = ap (λ (f : Uses). f r) (fold_out-RawCmp Uses Uses Uses Uses Uses Uses Uses Uses Uses Uses Uses Uses expression_step primary_step reference_step conjunction_step comparison_step condition_step differ_step mask_step prim_step sum_step term_step union_step e)
-
 -- the uses of some parts, each wanted for the same
 abbrev pub IsEach : {X : Type 0} → Uses → (X → Uses) → List X → Type 0
 IsEach whole part xs = (r : Reading) → (s : Reading) × (whole r ≡ each_for s (map part xs))
 
 pub of_each_condition : (e : RawCond) → IsEach (condition_uses e) conjunction_uses (out-RawCond e).operands
-of_each_condition e r = (reading.Value, ap (λ (f : Uses). f r) (fold_out-RawCond Uses Uses Uses Uses Uses Uses Uses Uses Uses Uses Uses Uses expression_step primary_step reference_step conjunction_step comparison_step condition_step differ_step mask_step prim_step sum_step term_step union_step e))
+of_each_condition e r = (reading.Value, of_condition e r)
 
 pub of_each_conjunction : (e : RawCand) → IsEach (conjunction_uses e) comparison_uses (out-RawCand e).operands
-of_each_conjunction e r = (reading.Value, ap (λ (f : Uses). f r) (fold_out-RawCand Uses Uses Uses Uses Uses Uses Uses Uses Uses Uses Uses Uses expression_step primary_step reference_step conjunction_step comparison_step condition_step differ_step mask_step prim_step sum_step term_step union_step e))
+of_each_conjunction e r = (reading.Value, of_conjunction e r)
 
 pub of_each_sum : (e : RawSum) → IsEach (sum_uses e) term_uses (out-RawSum e).operands
-of_each_sum e r = (reading_of r (length (map term_uses (out-RawSum e).operands) == 1 && is_none (out-RawSum e).sign), ap (λ (f : Uses). f r) (fold_out-RawSum Uses Uses Uses Uses Uses Uses Uses Uses Uses Uses Uses Uses expression_step primary_step reference_step conjunction_step comparison_step condition_step differ_step mask_step prim_step sum_step term_step union_step e))
+of_each_sum e r = (reading_of r (length (map term_uses (out-RawSum e).operands) == 1 && is_none (out-RawSum e).sign), of_operands e r)
 
 pub of_each_term : (e : RawTerm) → IsEach (term_uses e) differ_uses (out-RawTerm e).operands
-of_each_term e r = (reading_of r (length (map differ_uses (out-RawTerm e).operands) == 1), ap (λ (f : Uses). f r) (fold_out-RawTerm Uses Uses Uses Uses Uses Uses Uses Uses Uses Uses Uses Uses expression_step primary_step reference_step conjunction_step comparison_step condition_step differ_step mask_step prim_step sum_step term_step union_step e))
+of_each_term e r = (reading_of r (length (map differ_uses (out-RawTerm e).operands) == 1), of_term e r)
 
 pub of_each_differ : (e : RawDiffer) → IsEach (differ_uses e) union_uses (out-RawDiffer e).operands
-of_each_differ e r = (reading_of r (length (map union_uses (out-RawDiffer e).operands) == 1), ap (λ (f : Uses). f r) (fold_out-RawDiffer Uses Uses Uses Uses Uses Uses Uses Uses Uses Uses Uses Uses expression_step primary_step reference_step conjunction_step comparison_step condition_step differ_step mask_step prim_step sum_step term_step union_step e))
+of_each_differ e r = (reading_of r (length (map union_uses (out-RawDiffer e).operands) == 1), of_differ e r)
 
 pub of_each_union : (e : RawUnion) → IsEach (union_uses e) mask_uses (out-RawUnion e).operands
-of_each_union e r = (reading_of r (length (map mask_uses (out-RawUnion e).operands) == 1), ap (λ (f : Uses). f r) (fold_out-RawUnion Uses Uses Uses Uses Uses Uses Uses Uses Uses Uses Uses Uses expression_step primary_step reference_step conjunction_step comparison_step condition_step differ_step mask_step prim_step sum_step term_step union_step e))
+of_each_union e r = (reading_of r (length (map mask_uses (out-RawUnion e).operands) == 1), of_union e r)
 
 pub of_each_mask : (e : RawMask) → IsEach (mask_uses e) prim_uses (out-RawMask e).operands
-of_each_mask e r = (reading_of r (length (map prim_uses (out-RawMask e).operands) == 1), ap (λ (f : Uses). f r) (fold_out-RawMask Uses Uses Uses Uses Uses Uses Uses Uses Uses Uses Uses Uses expression_step primary_step reference_step conjunction_step comparison_step condition_step differ_step mask_step prim_step sum_step term_step union_step e))
+of_each_mask e r = (reading_of r (length (map prim_uses (out-RawMask e).operands) == 1), of_mask e r)
 
-pub of_prim : (e : RawPrim) (r : Reading) → (s : Reading) × (prim_uses e r ≡ primary_uses (out-RawPrim e).primary s)
-of_prim e r = (reading_of r (length (out-RawPrim e).bits == 0), ap (λ (f : Uses). f r) (fold_out-RawPrim Uses Uses Uses Uses Uses Uses Uses Uses Uses Uses Uses Uses expression_step primary_step reference_step conjunction_step comparison_step condition_step differ_step mask_step prim_step sum_step term_step union_step e))
+pub of_primary : (e : RawPrim) (r : Reading) → (s : Reading) × (prim_uses e r ≡ primary_uses (out-RawPrim e).primary s)
+of_primary e r = (reading_of r (length (out-RawPrim e).bits == 0), of_prim e r)
 
 -- ---- their strings
 

@@ -15,14 +15,13 @@ use Rattle.cw_tree.specs.declared.statement.RawParam.{RawParam}
 use Rattle.cw_tree.specs.declared.statement.RawDecl.TheVariants as decl
 use Rattle.cw_tree.specs.declared.statement.RawForm.TheVariants as form
 use Rattle.cw_tree.specs.declared.statement.RawSimple.TheVariants as simple
-use Rattle.cw_tree.specs.declared.statement.RawDecl.TheOpen as layer
-use Rattle.cw_tree.specs.declared.statement.RawDecl.TheOpen.{RawForm-F, RawSimple-F}
-use Rattle.cw_tree.specs.declared.statement.RawDecl.{RawDecl, RawDecl-F, roll-RawDecl, map-RawDecl, fold-roll-RawDecl}
-use Rattle.cw_tree.specs.declared.statement.RawForm.{RawForm, roll-RawForm, map-RawForm, fold-roll-RawForm}
-use Rattle.cw_tree.specs.declared.statement.RawSimple.{RawSimple, roll-RawSimple, map-RawSimple, fold-roll-RawSimple}
-use Rattle.cw_tree.specs.declared.statement.RawBlock.{RawBlock, out-RawBlock, fold_out-RawBlock}
-use Rattle.cw_tree.specs.declared.statement.RawProc.{RawProc, out-RawProc, fold_out-RawProc}
-use Rattle.cw_tree.specs.declared.statement.RawStmt.{RawStmt, out-RawStmt, fold_out-RawStmt}
+use Rattle.cw_tree.specs.declared.statement.RawDecl.{RawDecl}
+use Rattle.cw_tree.specs.declared.statement.RawForm.{RawForm}
+use Rattle.cw_tree.specs.declared.statement.RawSimple.{RawSimple}
+use Rattle.cw_tree.specs.declared.statement.RawBlock.{RawBlock, out-RawBlock}
+use Rattle.cw_tree.specs.declared.statement.RawProc.{RawProc, out-RawProc}
+use Rattle.cw_tree.specs.declared.statement.RawStmt.{RawStmt, out-RawStmt}
+use Rattle.cw_tree.proofs.Statements.{StatementSteps, statement_steps, of_block-out, of_declaration-Data, of_declaration-Overlay, of_declaration-Proc, of_declaration-Switch, of_form-For, of_form-If-None, of_form-If-Some, of_form-Simple, of_procedure-out, of_simple-Answer, of_simple-Assign, of_simple-AssignBits, of_simple-Block, of_simple-Call, of_simple-Empty, of_simple-Goto, of_simple-GotoSwitch, of_statement-out}
 use Rattle.cw_facts.specs.declared.fact.Reading.TheVariants as reading
 use Rattle.cw_facts.specs.Uses.{expression_uses, condition_uses, reference_uses, argument_uses}
 use Rattle.cw_scope.specs.declared.resolve.Named.{Named}
@@ -67,32 +66,8 @@ all_joined part xs i o o0 o1 h e = sym (append-nil o1) ∙ ap (λ l. o1 ++ joine
 module _ (named : Named) where
   -- ---- of a layer whose parts are trees
 
-  rolled_declaration : (x : RawDecl-F RawDecl RawForm RawSimple RawBlock RawProc RawStmt) (o : Option Owner)
-      → declaration_things named (roll-RawDecl x) o ≡ declaration_step named (map-RawDecl RawDecl RawForm RawSimple RawBlock RawProc RawStmt
-      Things Things Things Things Things Things
-      (declaration_things named) (form_things named) (simple_things named) (block_things named) (procedure_things named) (statement_things named) x) o
-  rolled_declaration x o =
-      ap (λ (f : Things). f o)
-      (fold-roll-RawDecl Things Things Things Things Things Things
-      (declaration_step named) (form_step named) (simple_step named) (block_step named) (procedure_step named) (statement_step named) x)
-
-  rolled_form : (x : RawForm-F RawDecl RawForm RawSimple RawBlock RawProc RawStmt) (o : Option Owner)
-      → form_things named (roll-RawForm x) o ≡ form_step named (map-RawForm RawDecl RawForm RawSimple RawBlock RawProc RawStmt
-      Things Things Things Things Things Things
-      (declaration_things named) (form_things named) (simple_things named) (block_things named) (procedure_things named) (statement_things named) x) o
-  rolled_form x o =
-      ap (λ (f : Things). f o)
-      (fold-roll-RawForm Things Things Things Things Things Things
-      (declaration_step named) (form_step named) (simple_step named) (block_step named) (procedure_step named) (statement_step named) x)
-
-  rolled_simple : (x : RawSimple-F RawDecl RawForm RawSimple RawBlock RawProc RawStmt) (o : Option Owner)
-      → simple_things named (roll-RawSimple x) o ≡ simple_step named (map-RawSimple RawDecl RawForm RawSimple RawBlock RawProc RawStmt
-      Things Things Things Things Things Things
-      (declaration_things named) (form_things named) (simple_things named) (block_things named) (procedure_things named) (statement_things named) x) o
-  rolled_simple x o =
-      ap (λ (f : Things). f o)
-      (fold-roll-RawSimple Things Things Things Things Things Things
-      (declaration_step named) (form_step named) (simple_step named) (block_step named) (procedure_step named) (statement_step named) x)
+  abbrev steps : StatementSteps Things Things Things Things Things Things
+  steps = statement_steps (declaration_step named) (form_step named) (simple_step named) (block_step named) (procedure_step named) (statement_step named)
 
   -- ---- declarations
 
@@ -100,25 +75,25 @@ module _ (named : Named) where
       → o1 ≡ o0 ++ declaration_things named d o
   data_more d o x o0 o1 is =
       as_whole (declaration_things named d o) (data_things o None x) o0 o1
-      (ap (λ (y : RawDecl). declaration_things named y o) (is ∙ sym (decl.rolls-Data x)) ∙ rolled_declaration (layer.Data x) o)
+      (ap (λ (y : RawDecl). declaration_things named y o) is ∙ ap (λ (z : Things). z o) (of_declaration-Data steps x))
 
   pub overlay_more : (d : RawDecl) (o : Option Owner) (at : Position) (b : RawBase) (x : RawData) (k : Base) (o0 o1 : List Thing) → d ≡ decl.Overlay at b x
       → k ≡ base_at named b
       → o1 ≡ o0 ++ data_things o (Some k) x → o1 ≡ o0 ++ declaration_things named d o
   overlay_more d o at b x k o0 o1 is at_base =
       as_whole (declaration_things named d o) (data_things o (Some k) x) o0 o1
-      (ap (λ (y : RawDecl). declaration_things named y o) (is ∙ sym (decl.rolls-Overlay at b x)) ∙ rolled_declaration (layer.Overlay at b x) o
+      (ap (λ (y : RawDecl). declaration_things named y o) is ∙ ap (λ (z : Things). z o) (of_declaration-Overlay steps at b x)
       ∙ ap (λ y. data_things o (Some y) x) (sym at_base))
 
   pub switch_stores : (d : RawDecl) (o : Option Owner) (at : Position) (n : RawName) (labels : List RawName) → d ≡ decl.Switch at n labels → declaration_things named d o ≡ []
   switch_stores d o at n labels is =
-      ap (λ (y : RawDecl). declaration_things named y o) (is ∙ sym (decl.rolls-Switch at n labels)) ∙ rolled_declaration (layer.Switch at n labels) o
+      ap (λ (y : RawDecl). declaration_things named y o) is ∙ ap (λ (z : Things). z o) (of_declaration-Switch steps at n labels)
 
   pub procedure_more : (d : RawDecl) (o : Option Owner) (p p' : RawProc) (o0 o1 : List Thing) → d ≡ decl.Proc p → p' ≡ p → o1 ≡ o0 ++ procedure_things named p' o
       → o1 ≡ o0 ++ declaration_things named d o
   procedure_more d o p p' o0 o1 is same =
       as_whole (declaration_things named d o) (procedure_things named p' o) o0 o1
-      (ap (λ (y : RawDecl). declaration_things named y o) (is ∙ sym (decl.rolls-Proc p)) ∙ rolled_declaration (layer.Proc p) o
+      (ap (λ (y : RawDecl). declaration_things named y o) is ∙ ap (λ (z : Things). z o) (of_declaration-Proc steps p)
       ∙ ap (λ (y : RawProc). procedure_things named y o) (sym same))
 
   pub owned_more : (p : RawProc) (around : Option Owner) (recursive : Bool) (s : RawStmt) (params : List RawParam) (o0 o1 o2 : List Thing)
@@ -132,8 +107,7 @@ module _ (named : Named) where
       two_parts (parameters_things (own recursive) params) (statement_things named s (own recursive)) o0 o1 o2 e1 e2
       ∙ ap (λ y. o0 ++ (parameters_things (own y) params ++ statement_things named s (own y))) r
       ∙ ap₂ (λ (l : List RawParam) (y : RawStmt). o0 ++ (parameters_things here l ++ statement_things named y here)) ps b
-      ∙ ap (λ l. o0 ++ l) (sym (ap (λ (f : Things). f around) (fold_out-RawProc Things Things Things Things Things Things
-      (declaration_step named) (form_step named) (simple_step named) (block_step named) (procedure_step named) (statement_step named) p)))
+      ∙ ap (λ l. o0 ++ l) (sym (ap (λ (f : Things). f around) (of_procedure-out steps p)))
 
   -- ---- statements
 
@@ -141,15 +115,14 @@ module _ (named : Named) where
       → o1 ≡ o0 ++ statement_things named s o
   statement_more s o f o0 o1 same =
       as_whole (statement_things named s o) (form_things named f o) o0 o1
-      (ap (λ (g : Things). g o) (fold_out-RawStmt Things Things Things Things Things Things
-      (declaration_step named) (form_step named) (simple_step named) (block_step named) (procedure_step named) (statement_step named) s)
+      (ap (λ (g : Things). g o) (of_statement-out steps s)
       ∙ ap (λ (y : RawForm). form_things named y o) (sym same))
 
   pub simple_more : (f : RawForm) (o : Option Owner) (s s' : RawSimple) (o0 o1 : List Thing) → f ≡ form.Simple s → s' ≡ s → o1 ≡ o0 ++ simple_things named s' o
       → o1 ≡ o0 ++ form_things named f o
   simple_more f o s s' o0 o1 is same =
       as_whole (form_things named f o) (simple_things named s' o) o0 o1
-      (ap (λ (y : RawForm). form_things named y o) (is ∙ sym (form.rolls-Simple s)) ∙ rolled_form (layer.Simple s) o
+      (ap (λ (y : RawForm). form_things named y o) is ∙ ap (λ (z : Things). z o) (of_form-Simple steps s)
       ∙ ap (λ (y : RawSimple). simple_things named y o) (sym same))
 
   tested : (o : Option Owner) (test test' : RawCond) (s s' : RawSimple) (o0 o1 o2 : List Thing) → test' ≡ test → s' ≡ s
@@ -166,8 +139,7 @@ module _ (named : Named) where
   if_more f o at test test' labels s s' second o0 o1 o2 is none ht hs e1 e2 =
       tested o test test' s s' o0 o1 o2 ht hs e1 e2
       ∙ ap (λ l. o0 ++ (texts o (condition_uses test reading.Value) ++ l)) (sym (append-nil (simple_things named s o)))
-      ∙ ap (λ l. o0 ++ l) (sym (ap (λ (y : RawForm). form_things named y o) (is ∙ ap (form.If at test labels s) none ∙ sym (form.rolls-If at test labels s None))
-      ∙ rolled_form (layer.If at test labels s None) o))
+      ∙ ap (λ l. o0 ++ l) (sym (ap (λ (y : RawForm). form_things named y o) (is ∙ ap (form.If at test labels s) none) ∙ ap (λ (z : Things). z o) (of_form-If-None steps at test labels s)))
 
   pub if_else_more : (f : RawForm) (o : Option Owner) (at : Position) (test test' : RawCond) (labels : List RawName) (s s' : RawSimple) (second : Option RawStmt)
       (x x' : RawStmt) (o0 o1 o2 o3 : List Thing)
@@ -180,8 +152,7 @@ module _ (named : Named) where
       two_parts (t ++ first) (statement_things named x o) o0 o2 o3 (tested o test test' s s' o0 o1 o2 ht hs e1 e2)
       (e3 ∙ ap (λ (y : RawStmt). o2 ++ statement_things named y o) hx)
       ∙ ap (λ l. o0 ++ l) (append_assoc t first (statement_things named x o))
-      ∙ ap (λ l. o0 ++ l) (sym (ap (λ (y : RawForm). form_things named y o) (is ∙ ap (form.If at test labels s) some ∙ sym (form.rolls-If at test labels s (Some x)))
-      ∙ rolled_form (layer.If at test labels s (Some x)) o))
+      ∙ ap (λ l. o0 ++ l) (sym (ap (λ (y : RawForm). form_things named y o) (is ∙ ap (form.If at test labels s) some) ∙ ap (λ (z : Things). z o) (of_form-If-Some steps at test labels s x)))
 
   pub for_more : (f : RawForm) (o : Option Owner) (at : Position) (v v' : RawRef) (es es' : List RawFelem) (b b' : RawStmt) (o0 o1 o2 o3 o4 : List Thing)
       → f ≡ form.For at v es b → v' ≡ v → es' ≡ es → b' ≡ b → o1 ≡ o0 ++ thing sort.Loop at o None 4 ∷ [] → o2 ≡ o1 ++ texts o (reference_uses v' reading.Whole)
@@ -195,27 +166,21 @@ module _ (named : Named) where
       let e3' = e3 ∙ ap (λ (y : List RawFelem). o2 ++ felems_things y o) hes in
       let e4' = e4 ∙ ap (λ (y : RawStmt). o3 ++ statement_things named y o) hb in
       two_parts word (variable ++ (values ++ body)) o0 o1 o4 e1 (two_parts variable (values ++ body) o1 o2 o4 e2' (two_parts values body o2 o3 o4 e3' e4'))
-      ∙ ap (λ l. o0 ++ l) (sym (ap (λ (y : RawForm). form_things named y o) (is ∙ sym (form.rolls-For at v es b)) ∙ rolled_form (layer.For at v es b) o))
+      ∙ ap (λ l. o0 ++ l) (sym (ap (λ (y : RawForm). form_things named y o) is ∙ ap (λ (z : Things). z o) (of_form-For steps at v es b)))
 
   -- ---- simple statements
 
-  of_simple : (s : RawSimple) (x : RawSimple-F RawDecl RawForm RawSimple RawBlock RawProc RawStmt) (o : Option Owner) → s ≡ roll-RawSimple x
-      → simple_things named s o ≡ simple_step named (map-RawSimple RawDecl RawForm RawSimple RawBlock RawProc RawStmt
-      Things Things Things Things Things Things
-      (declaration_things named) (form_things named) (simple_things named) (block_things named) (procedure_things named) (statement_things named) x) o
-  of_simple s x o is = ap (λ (y : RawSimple). simple_things named y o) is ∙ rolled_simple x o
-
   pub empty_stores : (s : RawSimple) (o : Option Owner) → s ≡ simple.Empty → simple_things named s o ≡ []
-  empty_stores s o is = of_simple s layer.Empty o (is ∙ sym simple.rolls-Empty)
+  empty_stores s o is = ap (λ (y : RawSimple). simple_things named y o) is ∙ ap (λ (z : Things). z o) (of_simple-Empty steps)
 
   pub goto_stores : (s : RawSimple) (o : Option Owner) (at : Position) (n : RawName) → s ≡ simple.Goto at n → simple_things named s o ≡ []
-  goto_stores s o at n is = of_simple s (layer.Goto at n) o (is ∙ sym (simple.rolls-Goto at n))
+  goto_stores s o at n is = ap (λ (y : RawSimple). simple_things named y o) is ∙ ap (λ (z : Things). z o) (of_simple-Goto steps at n)
 
   pub assign_more : (s : RawSimple) (o : Option Owner) (r r' : RawRef) (e e' : RawExpr) (o0 o1 : List Thing) → s ≡ simple.Assign r e → r' ≡ r → e' ≡ e
       → o1 ≡ o0 ++ texts o (reference_uses r' reading.Target ++ expression_uses e' reading.Value) → o1 ≡ o0 ++ simple_things named s o
   assign_more s o r r' e e' o0 o1 is hr he =
       as_whole (simple_things named s o) (texts o (reference_uses r' reading.Target ++ expression_uses e' reading.Value)) o0 o1
-      (of_simple s (layer.Assign r e) o (is ∙ sym (simple.rolls-Assign r e))
+      (ap (λ (y : RawSimple). simple_things named y o) is ∙ ap (λ (z : Things). z o) (of_simple-Assign steps r e)
       ∙ ap₂ (λ (x : RawRef) (y : RawExpr). texts o (reference_uses x reading.Target ++ expression_uses y reading.Value)) (sym hr) (sym he))
 
   pub assign_bits_more : (s : RawSimple) (o : Option Owner) (bits : RawBits) (r r' : RawRef) (e e' : RawExpr) (o0 o1 : List Thing) → s ≡ simple.AssignBits bits r e → r' ≡ r
@@ -223,32 +188,32 @@ module _ (named : Named) where
       → o1 ≡ o0 ++ texts o (reference_uses r' reading.Whole ++ expression_uses e' reading.Value) → o1 ≡ o0 ++ simple_things named s o
   assign_bits_more s o bits r r' e e' o0 o1 is hr he =
       as_whole (simple_things named s o) (texts o (reference_uses r' reading.Whole ++ expression_uses e' reading.Value)) o0 o1
-      (of_simple s (layer.AssignBits bits r e) o (is ∙ sym (simple.rolls-AssignBits bits r e))
+      (ap (λ (y : RawSimple). simple_things named y o) is ∙ ap (λ (z : Things). z o) (of_simple-AssignBits steps bits r e)
       ∙ ap₂ (λ (x : RawRef) (y : RawExpr). texts o (reference_uses x reading.Whole ++ expression_uses y reading.Value)) (sym hr) (sym he))
 
   pub goto_switch_more : (s : RawSimple) (o : Option Owner) (at : Position) (n : RawName) (e e' : RawExpr) (o0 o1 : List Thing) → s ≡ simple.GotoSwitch at n e → e' ≡ e
       → o1 ≡ o0 ++ texts o (expression_uses e' reading.Value) → o1 ≡ o0 ++ simple_things named s o
   goto_switch_more s o at n e e' o0 o1 is he =
       as_whole (simple_things named s o) (texts o (expression_uses e' reading.Value)) o0 o1
-      (of_simple s (layer.GotoSwitch at n e) o (is ∙ sym (simple.rolls-GotoSwitch at n e)) ∙ ap (λ (y : RawExpr). texts o (expression_uses y reading.Value)) (sym he))
+      (ap (λ (y : RawSimple). simple_things named y o) is ∙ ap (λ (z : Things). z o) (of_simple-GotoSwitch steps at n e) ∙ ap (λ (y : RawExpr). texts o (expression_uses y reading.Value)) (sym he))
 
   pub call_statement_more : (s : RawSimple) (o : Option Owner) (n : RawName) (es es' : List RawExpr) (o0 o1 : List Thing) → s ≡ simple.Call n es → es' ≡ es
       → o1 ≡ o0 ++ texts o (argument_uses es') → o1 ≡ o0 ++ simple_things named s o
   call_statement_more s o n es es' o0 o1 is same =
       as_whole (simple_things named s o) (texts o (argument_uses es')) o0 o1
-      (of_simple s (layer.Call n es) o (is ∙ sym (simple.rolls-Call n es)) ∙ ap (λ (l : List RawExpr). texts o (argument_uses l)) (sym same))
+      (ap (λ (y : RawSimple). simple_things named y o) is ∙ ap (λ (z : Things). z o) (of_simple-Call steps n es) ∙ ap (λ (l : List RawExpr). texts o (argument_uses l)) (sym same))
 
   pub answer_more : (s : RawSimple) (o : Option Owner) (at : Position) (e e' : RawExpr) (o0 o1 : List Thing) → s ≡ simple.Answer at e → e' ≡ e
       → o1 ≡ o0 ++ texts o (expression_uses e' reading.Value) → o1 ≡ o0 ++ simple_things named s o
   answer_more s o at e e' o0 o1 is he =
       as_whole (simple_things named s o) (texts o (expression_uses e' reading.Value)) o0 o1
-      (of_simple s (layer.Answer at e) o (is ∙ sym (simple.rolls-Answer at e)) ∙ ap (λ (y : RawExpr). texts o (expression_uses y reading.Value)) (sym he))
+      (ap (λ (y : RawSimple). simple_things named y o) is ∙ ap (λ (z : Things). z o) (of_simple-Answer steps at e) ∙ ap (λ (y : RawExpr). texts o (expression_uses y reading.Value)) (sym he))
 
   pub block_more : (s : RawSimple) (o : Option Owner) (b b' : RawBlock) (o0 o1 : List Thing) → s ≡ simple.Block b → b' ≡ b → o1 ≡ o0 ++ block_things named b' o
       → o1 ≡ o0 ++ simple_things named s o
   block_more s o b b' o0 o1 is same =
       as_whole (simple_things named s o) (block_things named b' o) o0 o1
-      (of_simple s (layer.Block b) o (is ∙ sym (simple.rolls-Block b)) ∙ ap (λ (y : RawBlock). block_things named y o) (sym same))
+      (ap (λ (y : RawSimple). simple_things named y o) is ∙ ap (λ (z : Things). z o) (of_simple-Block steps b) ∙ ap (λ (y : RawBlock). block_things named y o) (sym same))
 
   -- the declarations of a block, and then its statements
   pub block_done : (b : RawBlock) (o : Option Owner) (ds : List RawDecl) (ss : List RawStmt) (i j : ℕ) (o0 o1 o2 : List Thing) → ds ≡ (out-RawBlock b).decls
@@ -261,5 +226,4 @@ module _ (named : Named) where
       two_parts (joined (map (declaration_things named) ds) o) (joined (map (statement_things named) ss) o) o0 o1 o2
       (all_joined (declaration_things named) ds i o o0 o1 hi e1) (all_joined (statement_things named) ss j o o1 o2 hj e2)
       ∙ ap₂ (λ (xs : List RawDecl) (ys : List RawStmt). o0 ++ (joined (map (declaration_things named) xs) o ++ joined (map (statement_things named) ys) o)) hd hs
-      ∙ ap (λ l. o0 ++ l) (sym (ap (λ (f : Things). f o) (fold_out-RawBlock Things Things Things Things Things Things
-      (declaration_step named) (form_step named) (simple_step named) (block_step named) (procedure_step named) (statement_step named) b)))
+      ∙ ap (λ l. o0 ++ l) (sym (ap (λ (f : Things). f o) (of_block-out steps b)))

@@ -128,7 +128,7 @@ fn judge_simple(
             whole_expression(alloc, e.get(), named, scale_of(r.get(), named), first)
         }
         RawSimple::AssignBits(bits, r, e) => {
-            judge_bits(bits, first);
+            judge_bits(bits.get(), first);
             whole_reference(alloc, r.get(), named, first)?;
             whole_expression(alloc, e.get(), named, 0, first)
         }

@@ -16,7 +16,7 @@ use Rattle.cw_unit.specs.ValidStorage.{IsStorable}
 use Rattle.cw_unit.specs.HasLayout.{HasLayout}
 use Rattle.cw_unit.proofs.Families.{Root, root_at, root_alone, base_family, inside_family, inside_frame}
 use Rattle.cw_layout.specs.Tables.{TellsExtents, frame_at, grown_frame, sort_with, grown_frames}
-use Rattle.cw_layout.proofs.Passes.{IsAt, position, positions_next, position_read, roots_past, roots_few, extent_next, frame_next, length_taken, families_length, families_next, family_if}
+use Rattle.cw_layout.proofs.Passes.{IsAt, position, home_read, positions_length, positions_next, position_read, roots_past, roots_few, extent_next, frame_next, length_taken, families_length, families_next, family_if}
 
 pub found : (u : SourceUnit) (k : ℕ) (i : Item) → IsAt u k i → slice_get u.items k ≡ Some i
 found u k i at = slice_get_read u.items (length u.items) k i refl at.within at.read
@@ -55,6 +55,11 @@ base_place u k i b h at e =
       family = ap (λ r. roots_in u (take r u.items)) same.0;
       offset = let s = same.1 in omega (arith, s);
     }
+
+pub base_within : (u : SourceUnit) (k : ℕ) (i : Item) (b : ℕ × ℕ) (homes : List (ℕ × ℕ)) → HasLayout u → IsAt u k i → base_of_home u i.home ≡ Some b → homes ≡ positions_from 0 u (take k u.items) → b.0 < length homes
+base_within u k i b homes h at based e =
+    let len : length homes ≡ k = ap length e ∙ positions_length 0 u (take k u.items) ∙ length_taken u.items k (omega (arith, at.within)) in
+    omega (arith, len, (base_place u k i b h at based).before)
 
 pub next_by_base : (u : SourceUnit) (k : ℕ) (i : Item) (b : ℕ × ℕ) (homes homes' : List (ℕ × ℕ)) → HasLayout u → IsAt u k i → base_of_home u i.home ≡ Some b → homes ≡ positions_from 0 u (take k u.items)
     → homes' ≡ homes ++ ((get_or homes b.0 (0, 0)).0, (get_or homes b.0 (0, 0)).1 + b.1) ∷ [] → homes' ≡ positions_from 0 u (take (k + 1) u.items)
@@ -154,6 +159,9 @@ family_within u k i h at =
     let few = roots_few u (root_of u k) u.items in
     let within = slice_get_within u.items (root_of u k) root.item root.found in
     omega (arith, few, within)
+
+pub family_index : (u : SourceUnit) (k : ℕ) (i : Item) (homes : List (ℕ × ℕ)) → IsStorable u → IsAt u k i → homes ≡ positions_from 0 u u.items → (get_or homes k (0, 0)).0 < length u.items
+family_index u k i homes h at e = omega (arith, ap (λ (p : ℕ × ℕ). p.0) (home_read u k homes at.within e), family_within u k i h at)
 
 -- ---- frames
 

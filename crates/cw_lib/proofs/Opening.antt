@@ -1,70 +1,22 @@
 -- What stands in the bytes of a file that is opened as a library.
-use Rattle.std.proofs.Common.{◌≡◌, ◌≢◌, ℕ, ◌+◌, ◌-◌, ◌<◌, ◌≤◌, min, Bool, true, false, not, cond, ltb, eqb, eq-eqb, List, [], ◌∷◌, ◌++◌, length, take, drop, Some, None, refl, sym, ap, subst, ◌∙◌, append_assoc, arith, inl, inr, ◌⊎◌}
-use Rattle.std.specs.Str.{bytes_eq}
+use Rattle.std.proofs.Common.{◌≡◌, ℕ, ◌+◌, ◌-◌, ◌<◌, Bool, true, false, cond, ltb, eqb, eq-eqb, List, [], ◌∷◌, ◌++◌, length, drop, Some, None, refl, sym, ap, subst, ◌∙◌, append_assoc, arith}
 use Rattle.std.proofs.lemmas.Bool.{ltb-true, eqb-true}
-use Rattle.std.proofs.lemmas.List.{append-nil, take-append-drop, length-append, length_push, length-drop, drop-drop, take_all, nil_from_length}
-use Rattle.std.proofs.lemmas.Slice.Eq.{bytes_eq-Decides}
-use Rattle.byteorder.specs.Endian.{little_number, little_bytes}
+use Rattle.std.proofs.lemmas.List.{append-nil, length-append, length_push, nil_from_length}
+use Rattle.byteorder.specs.Endian.{little_number}
 use Rattle.cw_fields.specs.Fields.{each, word_bytes, word_in, number_in}
 use Rattle.cw_fields.specs.Spelling.{IsBytes}
-use Rattle.cw_fields.proofs.Formats.{IsBytes-drop, two_back}
+use Rattle.cw_fields.proofs.Formats.{IsBytes-drop}
 use Rattle.cw_fields.proofs.Spelled.{reads_word}
 use Rattle.cw_view.specs.declared.fault.ObjFault.{ObjFault}
 use Rattle.cw_view.specs.ObjectFormat.{IsFirstObjectFault}
 use Rattle.cw_lib.specs.declared.fault.LibFault.{LibFault}
 use Rattle.cw_lib.specs.declared.fault.LibFault.TheVariants.{Truncated, BadField, BadMember, Trailing}
 use Rattle.cw_lib.specs.declared.library.Lib.{Lib}
-use Rattle.cw_lib.specs.LibraryFormat.{Bytes, mark, header, start, IsNumber, IsMember, member_bytes, front_bytes, IsLibrary, FailsBehind, no_length, cut, no_object, trailing, IsFirstLibraryFault, no_number, bad_number, behind}
+use Rattle.cw_lib.specs.LibraryFormat.{Bytes, header, start, IsNumber, IsMember, member_bytes, front_bytes, IsLibrary, FailsBehind, no_length, cut, no_object, trailing, IsFirstLibraryFault, no_number, bad_number, behind}
 use Rattle.cw_lib.specs.Reading.{first_member, members_in, members_of, IsBehindMember, FailsMember, Reaches, IsLibOf}
 use Rattle.cw_lib.proofs.Members.{reads_member, IsCut, in_length, in_member, is_cut, rest_fits, members_again, AllByRecursion-push, each-push}
 
 -- ---- the mark and the version
-
-pub tail_is : (bytes : Bytes) (k : ℕ) → take (length bytes - k) (drop k bytes) ≡ drop k bytes
-tail_is bytes k = take_all (length bytes - k) (drop k bytes) (omega (arith, length-drop k bytes))
-
-tt_ff : true ≡ false → ⊥
-tt_ff e = cc
-
-ff : false ≡ true → ⊥
-ff e = cc
-
-eq_by : (b r : Bool) → r ≡ not b → r ≡ false → b ≡ true
-eq_by true r e h = refl
-eq_by false r e h = absurd (tt_ff (sym e ∙ h))
-
-ne_by : (b r : Bool) → r ≡ not b → r ≡ true → b ≡ true → ⊥
-ne_by b r e h t = ff (ap not (sym t) ∙ sym e ∙ h)
-
-pub differ : (xs ys : Bytes) (r : Bool) → r ≡ not (bytes_eq xs ys) → r ≡ true → xs ≡ ys → ⊥
-differ xs ys r e h same = ne_by (bytes_eq xs ys) r e h ((bytes_eq-Decides xs ys).1 same)
-
-pub agree : (xs ys : Bytes) (r : Bool) → r ≡ not (bytes_eq xs ys) → r ≡ false → xs ≡ ys
-agree xs ys r e h = (bytes_eq-Decides xs ys).0 (eq_by (bytes_eq xs ys) r e h)
-
-take_short : (n : ℕ) (xs : Bytes) (m : ℕ) → m ≤ length xs → (m ≡ n) ⊎ ((m ≡ length xs) × (length xs ≤ n)) → take n xs ≡ take m xs
-take_short n xs m le (inl e) = ap (λ k. take k xs) (sym e)
-take_short n xs m le (inr h) = take_all n xs h.1 ∙ sym (take_all m xs (omega (arith, h.0)))
-
-min_is : (a n : ℕ) → n ≡ min a 4 → (n ≤ a) × ((n ≡ 4) ⊎ ((n ≡ a) × (a ≤ 4))) × (n ≤ 4) × ((n ≡ a) ⊎ ((n ≡ 4) × (4 ≤ a)))
-min_is a n e = (omega arith, grind arith, omega arith, grind arith)
-
-pub other_mark : (bytes : Bytes) (n : ℕ) → n ≡ min (length bytes) 4 → (take n bytes ≡ take n mark → ⊥) → take 4 bytes ≢ take (length bytes) mark
-other_mark bytes n e other same =
-    let m = min_is (length bytes) n e in
-    other (sym (take_short 4 bytes n m.0 m.1) ∙ same ∙ take_short (length bytes) mark n m.2 m.3)
-
-pub same_mark : (bytes : Bytes) (n : ℕ) → n ≡ min (length bytes) 4 → take n bytes ≡ take n mark → take 4 bytes ≡ take (length bytes) mark
-same_mark bytes n e same =
-    let m = min_is (length bytes) n e in
-    take_short 4 bytes n m.0 m.1 ∙ same ∙ sym (take_short (length bytes) mark n m.2 m.3)
-
-pub header_is : (bytes : Bytes) (v : ℕ) → IsBytes bytes → 6 ≤ length bytes → take 4 bytes ≡ take (length bytes) mark → v ≡ little_number 2 (drop 4 bytes) → bytes ≡ header v ++ drop 6 bytes
-header_is bytes v fits long same is =
-    let all : take (length bytes) mark ≡ mark = take_all (length bytes) mark (omega arith) in
-    let two : take 2 (drop 4 bytes) ≡ little_bytes 2 v = two_back (drop 4 bytes) (omega (arith, length-drop 4 bytes)) (IsBytes-drop 4 bytes fits) ∙ ap (little_bytes 2) (sym is) in
-    let rest : drop 4 bytes ≡ little_bytes 2 v ++ drop 6 bytes = sym (take-append-drop 2 (drop 4 bytes)) ∙ ap (λ r. take 2 (drop 4 bytes) ++ r) (drop-drop 2 4 bytes) ∙ ap (λ r. r ++ drop 6 bytes) two in
-    sym (take-append-drop 4 bytes) ∙ ap (λ r. r ++ drop 4 bytes) (same ∙ all) ∙ ap (λ r. mark ++ r) rest
 
 pub first_version : (bytes : Bytes) (v : ℕ) → bytes ≡ header v ++ drop 6 bytes → v ≡ 1 → bytes ≡ header 1 ++ drop 6 bytes
 first_version bytes v e one = e ∙ ap (λ w. header w ++ drop 6 bytes) one
@@ -132,7 +84,7 @@ place_of_rest : (bytes front rest : Bytes) → bytes ≡ front ++ rest → lengt
 place_of_rest bytes front rest e = omega (arith, ap length e, length-append front rest)
 
 some_left : (rest : Bytes) (b : Bool) → eqb (length rest) 0 ≡ b → b ≡ false → length rest ≡ 0 → ⊥
-some_left rest b is e none = tt_ff (sym (eq-eqb (length rest) 0 none) ∙ is ∙ e)
+some_left rest b is e none = let never : true ≡ false = sym (eq-eqb (length rest) 0 none) ∙ is ∙ e in cc
 
 pub fails_trailing : (bytes : Bytes) (n : ℕ) (rest : Bytes) → IsNumber n → Reaches bytes n n rest → eqb (length rest) 0 ≡ false → IsFirstLibraryFault bytes (Trailing (length bytes - length rest))
 fails_trailing bytes n [] number h some = absurd (some_left [] (eqb 0 0) refl some refl)

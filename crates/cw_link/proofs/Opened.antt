@@ -11,7 +11,7 @@ use Rattle.cw_view.specs.declared.view.View.{View}
 use Rattle.cw_fields.specs.Fields.{Reader, whole}
 use Rattle.cw_view.specs.Payloads.{descriptor_bytes, FitsDescriptor, family_bytes, FitsFamily}
 use Rattle.cw_view.specs.Reading.{descriptor_in, family_in}
-use Rattle.cw_view.specs.ObjectFormat.{Record, SegmentName, Descriptor, StorageFamily, StoredItem, PresetWord, Code, Relocation, Definition, BodyFacts, Statement, End, FitsRecord, IsFront, payloads, payload_if, one_family, families_of, one_descriptor, descriptor_count, is_placed, is_allowed, facts_of}
+use Rattle.cw_view.specs.ObjectFormat.{Record, Descriptor, StorageFamily, FitsRecord, IsFront, payloads, payload_if, one_family, families_of, one_descriptor, descriptor_count, is_placed, is_allowed, facts_of}
 use Rattle.cw_fields.proofs.Formats.{whole_again}
 use Rattle.cw_view.proofs.Forms.{reads_family}
 use Rattle.cw_view.proofs.Descriptors.{reads_descriptor}
@@ -31,30 +31,12 @@ values-append read [] qs = refl
 values-append read (p ∷ ps) qs = ap (kept (whole read p)) (values-append read ps qs) ∙ kept-append (whole read p) (values_in read ps) (values_in read qs)
 
 family-read : (r : Record) → FitsRecord r → values_in family_in (payload_if 3 r) ≡ one_family r
-family-read (SegmentName x) f = refl
-family-read (Descriptor x) f = refl
 family-read (StorageFamily x) f = ap (λ o. kept o []) (whole_again family_bytes FitsFamily family_in reads_family x f)
-family-read (StoredItem x) f = refl
-family-read (PresetWord x) f = refl
-family-read (Code x) f = refl
-family-read (Relocation x) f = refl
-family-read (Definition x) f = refl
-family-read (BodyFacts x) f = refl
-family-read (Statement x) f = refl
-family-read End f = refl
+family-read _ f = refl
 
 desc-read : (r : Record) → FitsRecord r → length (values_in descriptor_in (payload_if 2 r)) ≡ one_descriptor r
-desc-read (SegmentName x) f = refl
 desc-read (Descriptor x) f = ap (λ o. length (kept o [])) (whole_again descriptor_bytes FitsDescriptor descriptor_in reads_descriptor x f)
-desc-read (StorageFamily x) f = refl
-desc-read (StoredItem x) f = refl
-desc-read (PresetWord x) f = refl
-desc-read (Code x) f = refl
-desc-read (Relocation x) f = refl
-desc-read (Definition x) f = refl
-desc-read (BodyFacts x) f = refl
-desc-read (Statement x) f = refl
-desc-read End f = refl
+desc-read _ f = refl
 
 families-are : (v : ℕ) (rs : List Record) → IsFront v rs → values_in family_in (payloads 3 rs) ≡ families_of rs
 families-are v [] h = refl
@@ -89,17 +71,8 @@ none-own : (n : ℕ) → All (IsOwn n) []
 none-own n k d lt = absurd (omega (arith, lt))
 
 one-own : (before : List Record) (r : Record) → is_allowed (facts_of before) r ≡ true → All (IsOwn (descriptor_count before)) (one_family r)
-one-own before (SegmentName x) h = none-own (descriptor_count before)
-one-own before (Descriptor x) h = none-own (descriptor_count before)
 one-own before (StorageFamily x) h = all-one (descriptor_count before) x (placed-sort (descriptor_count before) x.extent x.sort h)
-one-own before (StoredItem x) h = none-own (descriptor_count before)
-one-own before (PresetWord x) h = none-own (descriptor_count before)
-one-own before (Code x) h = none-own (descriptor_count before)
-one-own before (Relocation x) h = none-own (descriptor_count before)
-one-own before (Definition x) h = none-own (descriptor_count before)
-one-own before (BodyFacts x) h = none-own (descriptor_count before)
-one-own before (Statement x) h = none-own (descriptor_count before)
-one-own before End h = none-own (descriptor_count before)
+one-own before _ h = none-own (descriptor_count before)
 
 more-own : (n m : ℕ) (fs : List Family) → n ≤ m → All (IsOwn n) fs → All (IsOwn m) fs
 more-own n m fs le h = λ k d lt. more-sort n m (get_or fs k d).sort le (h k d lt)

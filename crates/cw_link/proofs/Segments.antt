@@ -34,6 +34,10 @@ code_within views g start end view lt is h =
     let more = end_above (start + length (contents_of view).code) (map contents_of (drop (g + 1) views)) in
     omega (arith, e, more, h)
 
+pub code_fits : (views : List View) (g start end most : ℕ) (view : View) (code : List ℕ) → g < length views → view ≡ get_or views g view → code_end start (map contents_of (drop g views)) ≡ end
+    → code ≡ (contents_of view).code → end ≤ most → start + length code ≤ most
+code_fits views g start end most view code lt is h same short = omega (arith, code_within views g start end view lt is h, ap length same, short)
+
 -- ---- how long code is
 
 told-plus : (a n m : ℕ) → min (min a m + n) m ≡ min (a + n) m

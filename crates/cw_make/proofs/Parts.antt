@@ -3,12 +3,8 @@ use Rattle.std.proofs.Common.{◌≡◌, ◌≤◌, ℕ, List, [], ◌∷◌, �
 use Rattle.std.proofs.lemmas.List.{drop_all}
 use Rattle.cw_tree.specs.declared.leaf.Position.{Position}
 use Rattle.cw_tree.specs.declared.leaf.RawName.{RawName}
-use Rattle.cw_tree.specs.declared.expression.RawExpr.{RawExpr}
 use Rattle.cw_tree.specs.declared.expression.RawRef.{RawRef}
 use Rattle.cw_tree.specs.declared.expression.RawCond.{RawCond}
-use Rattle.cw_tree.specs.declared.expression.RawBits.{RawBits}
-use Rattle.cw_tree.specs.declared.items.RawBase.{RawBase}
-use Rattle.cw_tree.specs.declared.items.RawData.{RawData}
 use Rattle.cw_tree.specs.declared.statement.RawFelem.{RawFelem}
 use Rattle.cw_tree.specs.declared.statement.RawDecl.TheVariants as decl
 use Rattle.cw_tree.specs.declared.statement.RawForm.TheVariants as form
@@ -38,18 +34,14 @@ module _ (named : Named) (numbers : Numbers) where
   in_declaration : (x : RawDecl-F RawDecl RawForm RawSimple RawBlock RawProc RawStmt) → declaration_procs named numbers (roll-RawDecl x) ≡ declaration_layer x
   unfolding declaration_procs form_procs simple_procs block_procs procedure_procs statement_procs
   in_declaration (layer.Data d) = para-roll-RawDecl Procs Procs Procs Procs Procs Procs (declaration_step named numbers) (form_step named numbers) (simple_step named numbers) (block_step named numbers) (procedure_step named numbers) (statement_step named numbers) (layer.Data d)
-  in_declaration (layer.Overlay at b d) = para-roll-RawDecl Procs Procs Procs Procs Procs Procs (declaration_step named numbers) (form_step named numbers) (simple_step named numbers) (block_step named numbers) (procedure_step named numbers) (statement_step named numbers) (layer.Overlay at b d)
-  in_declaration (layer.Switch at n labels) = para-roll-RawDecl Procs Procs Procs Procs Procs Procs (declaration_step named numbers) (form_step named numbers) (simple_step named numbers) (block_step named numbers) (procedure_step named numbers) (statement_step named numbers) (layer.Switch at n labels)
-  in_declaration (layer.Proc p) = para-roll-RawDecl Procs Procs Procs Procs Procs Procs (declaration_step named numbers) (form_step named numbers) (simple_step named numbers) (block_step named numbers) (procedure_step named numbers) (statement_step named numbers) (layer.Proc p)
+  in_declaration x = para-roll-RawDecl Procs Procs Procs Procs Procs Procs (declaration_step named numbers) (form_step named numbers) (simple_step named numbers) (block_step named numbers) (procedure_step named numbers) (statement_step named numbers) x
 
-  pub of_data : (d : RawData) → declaration_procs named numbers (decl.Data d) ≡ []
-  of_data d = ap (declaration_procs named numbers) (sym (decl.rolls-Data d)) ∙ in_declaration (layer.Data d)
-
-  pub of_overlay : (at : Position) (b : RawBase) (d : RawData) → declaration_procs named numbers (decl.Overlay at b d) ≡ []
-  of_overlay at b d = ap (declaration_procs named numbers) (sym (decl.rolls-Overlay at b d)) ∙ in_declaration (layer.Overlay at b d)
-
-  pub of_switch : (at : Position) (n : RawName) (labels : List RawName) → declaration_procs named numbers (decl.Switch at n labels) ≡ []
-  of_switch at n labels = ap (declaration_procs named numbers) (sym (decl.rolls-Switch at n labels)) ∙ in_declaration (layer.Switch at n labels)
+  pub declaration_alone : (d : RawDecl) → ((p : RawProc) → d ≡ decl.Proc p → ⊥) → declaration_procs named numbers d ≡ []
+  declaration_alone d other = ap (declaration_procs named numbers) (sym (roll-out-RawDecl d)) ∙ go (out-RawDecl d) (roll-out-RawDecl d)
+    where
+      go : (x : RawDecl-F RawDecl RawForm RawSimple RawBlock RawProc RawStmt) → roll-RawDecl x ≡ d → declaration_procs named numbers (roll-RawDecl x) ≡ []
+      go (layer.Proc p) is = absurd (other p (sym is ∙ decl.rolls-Proc p))
+      go x is = in_declaration x
 
   pub of_proc : (p : RawProc) → declaration_procs named numbers (decl.Proc p) ≡ proc_of named numbers p ∷ procedure_procs named numbers p
   of_proc p = ap (declaration_procs named numbers) (sym (decl.rolls-Proc p)) ∙ in_declaration (layer.Proc p)
@@ -65,10 +57,9 @@ module _ (named : Named) (numbers : Numbers) where
 
   in_form : (x : RawForm-F RawDecl RawForm RawSimple RawBlock RawProc RawStmt) → form_procs named numbers (roll-RawForm x) ≡ form_layer x
   unfolding declaration_procs form_procs simple_procs block_procs procedure_procs statement_procs
-  in_form (layer.Simple s) = para-roll-RawForm Procs Procs Procs Procs Procs Procs (declaration_step named numbers) (form_step named numbers) (simple_step named numbers) (block_step named numbers) (procedure_step named numbers) (statement_step named numbers) (layer.Simple s)
   in_form (layer.If at test labels first None) = para-roll-RawForm Procs Procs Procs Procs Procs Procs (declaration_step named numbers) (form_step named numbers) (simple_step named numbers) (block_step named numbers) (procedure_step named numbers) (statement_step named numbers) (layer.If at test labels first None)
   in_form (layer.If at test labels first (Some s)) = para-roll-RawForm Procs Procs Procs Procs Procs Procs (declaration_step named numbers) (form_step named numbers) (simple_step named numbers) (block_step named numbers) (procedure_step named numbers) (statement_step named numbers) (layer.If at test labels first (Some s))
-  in_form (layer.For at variable elems body) = para-roll-RawForm Procs Procs Procs Procs Procs Procs (declaration_step named numbers) (form_step named numbers) (simple_step named numbers) (block_step named numbers) (procedure_step named numbers) (statement_step named numbers) (layer.For at variable elems body)
+  in_form x = para-roll-RawForm Procs Procs Procs Procs Procs Procs (declaration_step named numbers) (form_step named numbers) (simple_step named numbers) (block_step named numbers) (procedure_step named numbers) (statement_step named numbers) x
 
   pub of_simple_form : (x : RawSimple) → form_procs named numbers (form.Simple x) ≡ simple_procs named numbers x
   of_simple_form x = ap (form_procs named numbers) (sym (form.rolls-Simple x)) ∙ in_form (layer.Simple x)
@@ -90,34 +81,14 @@ module _ (named : Named) (numbers : Numbers) where
   in_simple : (x : RawSimple-F RawDecl RawForm RawSimple RawBlock RawProc RawStmt) → simple_procs named numbers (roll-RawSimple x) ≡ simple_layer x
   unfolding declaration_procs form_procs simple_procs block_procs procedure_procs statement_procs
   in_simple layer.Empty = para-roll-RawSimple Procs Procs Procs Procs Procs Procs (declaration_step named numbers) (form_step named numbers) (simple_step named numbers) (block_step named numbers) (procedure_step named numbers) (statement_step named numbers) layer.Empty
-  in_simple (layer.Assign r e) = para-roll-RawSimple Procs Procs Procs Procs Procs Procs (declaration_step named numbers) (form_step named numbers) (simple_step named numbers) (block_step named numbers) (procedure_step named numbers) (statement_step named numbers) (layer.Assign r e)
-  in_simple (layer.AssignBits bits r e) = para-roll-RawSimple Procs Procs Procs Procs Procs Procs (declaration_step named numbers) (form_step named numbers) (simple_step named numbers) (block_step named numbers) (procedure_step named numbers) (statement_step named numbers) (layer.AssignBits bits r e)
-  in_simple (layer.Goto at n) = para-roll-RawSimple Procs Procs Procs Procs Procs Procs (declaration_step named numbers) (form_step named numbers) (simple_step named numbers) (block_step named numbers) (procedure_step named numbers) (statement_step named numbers) (layer.Goto at n)
-  in_simple (layer.GotoSwitch at n e) = para-roll-RawSimple Procs Procs Procs Procs Procs Procs (declaration_step named numbers) (form_step named numbers) (simple_step named numbers) (block_step named numbers) (procedure_step named numbers) (statement_step named numbers) (layer.GotoSwitch at n e)
-  in_simple (layer.Call n es) = para-roll-RawSimple Procs Procs Procs Procs Procs Procs (declaration_step named numbers) (form_step named numbers) (simple_step named numbers) (block_step named numbers) (procedure_step named numbers) (statement_step named numbers) (layer.Call n es)
-  in_simple (layer.Answer at e) = para-roll-RawSimple Procs Procs Procs Procs Procs Procs (declaration_step named numbers) (form_step named numbers) (simple_step named numbers) (block_step named numbers) (procedure_step named numbers) (statement_step named numbers) (layer.Answer at e)
-  in_simple (layer.Block b) = para-roll-RawSimple Procs Procs Procs Procs Procs Procs (declaration_step named numbers) (form_step named numbers) (simple_step named numbers) (block_step named numbers) (procedure_step named numbers) (statement_step named numbers) (layer.Block b)
+  in_simple x = para-roll-RawSimple Procs Procs Procs Procs Procs Procs (declaration_step named numbers) (form_step named numbers) (simple_step named numbers) (block_step named numbers) (procedure_step named numbers) (statement_step named numbers) x
 
-  pub of_empty : simple_procs named numbers simple.Empty ≡ []
-  of_empty = ap (simple_procs named numbers) (sym simple.rolls-Empty) ∙ in_simple layer.Empty
-
-  pub of_assign : (r : RawRef) (e : RawExpr) → simple_procs named numbers (simple.Assign r e) ≡ []
-  of_assign r e = ap (simple_procs named numbers) (sym (simple.rolls-Assign r e)) ∙ in_simple (layer.Assign r e)
-
-  pub of_assign_bits : (b : RawBits) (r : RawRef) (e : RawExpr) → simple_procs named numbers (simple.AssignBits b r e) ≡ []
-  of_assign_bits b r e = ap (simple_procs named numbers) (sym (simple.rolls-AssignBits b r e)) ∙ in_simple (layer.AssignBits b r e)
-
-  pub of_goto : (at : Position) (n : RawName) → simple_procs named numbers (simple.Goto at n) ≡ []
-  of_goto at n = ap (simple_procs named numbers) (sym (simple.rolls-Goto at n)) ∙ in_simple (layer.Goto at n)
-
-  pub of_goto_switch : (at : Position) (n : RawName) (e : RawExpr) → simple_procs named numbers (simple.GotoSwitch at n e) ≡ []
-  of_goto_switch at n e = ap (simple_procs named numbers) (sym (simple.rolls-GotoSwitch at n e)) ∙ in_simple (layer.GotoSwitch at n e)
-
-  pub of_call : (n : RawName) (es : List RawExpr) → simple_procs named numbers (simple.Call n es) ≡ []
-  of_call n es = ap (simple_procs named numbers) (sym (simple.rolls-Call n es)) ∙ in_simple (layer.Call n es)
-
-  pub of_answer : (at : Position) (e : RawExpr) → simple_procs named numbers (simple.Answer at e) ≡ []
-  of_answer at e = ap (simple_procs named numbers) (sym (simple.rolls-Answer at e)) ∙ in_simple (layer.Answer at e)
+  pub simple_alone : (s : RawSimple) → ((b : RawBlock) → s ≡ simple.Block b → ⊥) → simple_procs named numbers s ≡ []
+  simple_alone s other = ap (simple_procs named numbers) (sym (roll-out-RawSimple s)) ∙ go (out-RawSimple s) (roll-out-RawSimple s)
+    where
+      go : (x : RawSimple-F RawDecl RawForm RawSimple RawBlock RawProc RawStmt) → roll-RawSimple x ≡ s → simple_procs named numbers (roll-RawSimple x) ≡ []
+      go (layer.Block b) is = absurd (other b (sym is ∙ simple.rolls-Block b))
+      go x is = in_simple x
 
   pub of_inner_block : (b : RawBlock) → simple_procs named numbers (simple.Block b) ≡ block_procs named numbers b
   of_inner_block b = ap (simple_procs named numbers) (sym (simple.rolls-Block b)) ∙ in_simple (layer.Block b)
@@ -195,7 +166,7 @@ module _ (named : Named) (numbers : Numbers) where
       ∙ ap (λ ps. o0 ++ ps) (sym (of_if_else at test labels first x))
       ∙ ap (λ y. o0 ++ form_procs named numbers (form.If at test labels first y)) (sym es) ∙ ap (λ y. o0 ++ form_procs named numbers y) (sym ef)
 
-pub nothing_more : {X : Type 0} (f : X → Procs) (x y : X) (o : Procs) → x ≡ y → f y ≡ [] → o ≡ o ++ f x
-nothing_more f x y o e n = sym (append-nil o) ∙ ap (λ l. o ++ l) (sym n) ∙ ap (λ z. o ++ f z) (sym e)
+pub nothing_more : (procs o : Procs) → procs ≡ [] → o ≡ o ++ procs
+nothing_more procs o none = sym (append-nil o) ∙ ap (λ l. o ++ l) (sym none)
 
-pub ruleset parts = (of_data, of_overlay, of_switch, of_proc, of_simple_form, of_if, of_if_else, of_for, of_empty, of_assign, of_assign_bits, of_goto, of_goto_switch, of_call, of_answer, of_inner_block, of_procedure, of_statement)
+pub ruleset parts = (of_proc, of_simple_form, of_if, of_if_else, of_for, of_inner_block, of_procedure, of_statement)

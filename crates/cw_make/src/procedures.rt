@@ -220,14 +220,8 @@ fn simple_procs(
     ensures { OnOk result (out.new ≡ out.old ++ simple_procs named.now numbers.now s.now) }
 {
     match s {
-        RawSimple::Empty => Ok(()),
-        RawSimple::Assign(..) => Ok(()),
-        RawSimple::AssignBits(..) => Ok(()),
-        RawSimple::Goto(..) => Ok(()),
-        RawSimple::GotoSwitch(..) => Ok(()),
-        RawSimple::Call(..) => Ok(()),
-        RawSimple::Answer(..) => Ok(()),
         RawSimple::Block(block) => block_procs(alloc, block.get(), named, numbers, out),
+        _ => Ok(()),
     }
 }
 
@@ -263,14 +257,12 @@ fn declaration_procs(
     ensures { OnOk result (out.new ≡ out.old ++ declaration_procs named.now numbers.now d.now) }
 {
     match d {
-        RawDecl::Data(_) => Ok(()),
-        RawDecl::Overlay(..) => Ok(()),
-        RawDecl::Switch(..) => Ok(()),
         RawDecl::Proc(procedure) => {
             let made = proc_of(alloc, named, numbers, procedure.get())?;
             out.push(made)?;
             procedure_procs(alloc, procedure.get(), named, numbers, out)
         }
+        _ => Ok(()),
     }
 }
 

@@ -13,13 +13,14 @@ use Rattle.cw_tree.specs.declared.expression.RawPrimary.TheVariants as primary
 use Rattle.cw_tree.specs.declared.expression.RawRef.TheVariants as ref
 use Rattle.cw_tree.specs.declared.expression.RawCond.{RawCond}
 use Rattle.cw_tree.specs.declared.expression.RawSum.{RawSum}
-use Rattle.cw_tree.specs.declared.expression.RawExpr.{RawExpr, fold-roll-RawExpr}
-use Rattle.cw_tree.specs.declared.expression.RawPrimary.{RawPrimary, fold-roll-RawPrimary}
-use Rattle.cw_tree.specs.declared.expression.RawRef.{RawRef, fold-roll-RawRef}
+use Rattle.cw_tree.specs.declared.expression.RawExpr.{RawExpr}
+use Rattle.cw_tree.specs.declared.expression.RawPrimary.{RawPrimary}
+use Rattle.cw_tree.specs.declared.expression.RawRef.{RawRef}
 use Rattle.cw_tree.specs.declared.segment.RawIps.{RawIps}
 use Rattle.cw_tree.specs.declared.segment.RawIps.TheVariants as inner
 use Rattle.cw_tree.specs.declared.segment.RawPs.{RawPs}
 use Rattle.cw_tree.specs.declared.segment.RawPs.TheVariants as ps
+use Rattle.cw_tree.proofs.Expressions.{of_expression-Choice, of_expression-Sum, of_primary-Bracket, of_primary-Call, of_primary-Forced, of_primary-Literal, of_primary-Location, of_primary-Number, of_primary-Octal, of_primary-Ref, of_primary-Text, of_reference-Bare, of_reference-Name, of_reference-One, of_reference-Two}
 use Rattle.cw_scope.specs.declared.resolve.Named.{Named}
 use Rattle.cw_amount.specs.Amounts.{octal_word}
 use Rattle.cw_scale.specs.Kinds.{fraction_of, signature_of}
@@ -35,83 +36,54 @@ use Rattle.cw_unit.specs.declared.unit.Arg.TheVariants as args
 use Rattle.cw_unit.specs.declared.unit.Target.{Target}
 use Rattle.cw_make_expr.specs.Nodes.{number, constant, string, call, force, locate, choice, reference, place_argument, whole_part_if}
 use Rattle.cw_make_expr.specs.Parts.{Numbers, within, item_here, params_of}
-use Rattle.cw_make_expr.specs.Made.{Made, Placed, simply, plainly, place_read, place_of_name, indexed_place, twice_indexed_place, value_of, argument_for, arguments_for, target, arguments, expression_step, primary_step, reference_step, conjunction_step, comparison_step, condition_step, differ_step, mask_step, prim_step, sum_step, term_step, union_step, expression_made, primary_made, reference_made, condition_made, sum_made}
+use Rattle.cw_make_expr.specs.Made.{Made, simply, plainly, place_read, place_of_name, indexed_place, twice_indexed_place, value_of, argument_for, arguments_for, target, arguments, reference_step, expression_made, primary_made, reference_made, condition_made, sum_made}
+use Rattle.cw_make_expr.proofs.Layers.{steps}
 
 module _ (named : Named) (numbers : Numbers) where
   pub of_choice : (at : Position) (test : RawCond) (a : RawExpr) (b : RawExpr) → expression_made named numbers (expression.Choice at test a b) ≡ simply (choice (condition_made named numbers test) ((expression_made named numbers a).made false) ((expression_made named numbers b).made false))
-  of_choice at test a b = ap (expression_made named numbers) (sym (expression.rolls-Choice at test a b)) ∙ fold-roll-RawExpr Made Made Placed Cond Cond Cond Made Made Made Made Made Made
-      (expression_step named numbers) (primary_step named numbers) (reference_step named numbers) (conjunction_step named numbers) (comparison_step named numbers) (condition_step named numbers)
-      (differ_step named numbers) (mask_step named numbers) (prim_step named numbers) (sum_step named numbers) (term_step named numbers) (union_step named numbers) (layer.Choice at test a b)
+  of_choice at test a b = of_expression-Choice (steps named numbers) at test a b
 
   pub of_sum : (x : RawSum) → expression_made named numbers (expression.Sum x) ≡ sum_made named numbers x
-  of_sum x = ap (expression_made named numbers) (sym (expression.rolls-Sum x)) ∙ fold-roll-RawExpr Made Made Placed Cond Cond Cond Made Made Made Made Made Made
-      (expression_step named numbers) (primary_step named numbers) (reference_step named numbers) (conjunction_step named numbers) (comparison_step named numbers) (condition_step named numbers)
-      (differ_step named numbers) (mask_step named numbers) (prim_step named numbers) (sum_step named numbers) (term_step named numbers) (union_step named numbers) (layer.Sum x)
+  of_sum x = of_expression-Sum (steps named numbers) x
 
   pub of_number : (n : RawNumber) → primary_made named numbers (primary.Number n) ≡ simply (number n.number)
-  of_number n = ap (primary_made named numbers) (sym (primary.rolls-Number n)) ∙ fold-roll-RawPrimary Made Made Placed Cond Cond Cond Made Made Made Made Made Made
-      (expression_step named numbers) (primary_step named numbers) (reference_step named numbers) (conjunction_step named numbers) (comparison_step named numbers) (condition_step named numbers)
-      (differ_step named numbers) (mask_step named numbers) (prim_step named numbers) (sum_step named numbers) (term_step named numbers) (union_step named numbers) (layer.Number n)
+  of_number n = of_primary-Number (steps named numbers) n
 
   pub of_octal : (n : RawOctal) → primary_made named numbers (primary.Octal n) ≡ simply (constant (signed (within 65535 (octal_word n.number.number))))
-  of_octal n = ap (primary_made named numbers) (sym (primary.rolls-Octal n)) ∙ fold-roll-RawPrimary Made Made Placed Cond Cond Cond Made Made Made Made Made Made
-      (expression_step named numbers) (primary_step named numbers) (reference_step named numbers) (conjunction_step named numbers) (comparison_step named numbers) (condition_step named numbers)
-      (differ_step named numbers) (mask_step named numbers) (prim_step named numbers) (sum_step named numbers) (term_step named numbers) (union_step named numbers) (layer.Octal n)
+  of_octal n = of_primary-Octal (steps named numbers) n
 
   pub of_literal : (x : RawLiteral) → primary_made named numbers (primary.Literal x) ≡ simply (constant (signed x.byte))
-  of_literal x = ap (primary_made named numbers) (sym (primary.rolls-Literal x)) ∙ fold-roll-RawPrimary Made Made Placed Cond Cond Cond Made Made Made Made Made Made
-      (expression_step named numbers) (primary_step named numbers) (reference_step named numbers) (conjunction_step named numbers) (comparison_step named numbers) (condition_step named numbers)
-      (differ_step named numbers) (mask_step named numbers) (prim_step named numbers) (sum_step named numbers) (term_step named numbers) (union_step named numbers) (layer.Literal x)
+  of_literal x = of_primary-Literal (steps named numbers) x
 
   pub of_text : (at : Position) (xs : List ℕ) → primary_made named numbers (primary.Text at xs) ≡ simply (string (item_here numbers at.token))
-  of_text at xs = ap (primary_made named numbers) (sym (primary.rolls-Text at xs)) ∙ fold-roll-RawPrimary Made Made Placed Cond Cond Cond Made Made Made Made Made Made
-      (expression_step named numbers) (primary_step named numbers) (reference_step named numbers) (conjunction_step named numbers) (comparison_step named numbers) (condition_step named numbers)
-      (differ_step named numbers) (mask_step named numbers) (prim_step named numbers) (sum_step named numbers) (term_step named numbers) (union_step named numbers) (layer.Text at xs)
+  of_text at xs = of_primary-Text (steps named numbers) at xs
 
   pub of_location : (at : Position) (r : RawRef) → primary_made named numbers (primary.Location at r) ≡ simply (locate (reference_made named numbers r).place)
-  of_location at r = ap (primary_made named numbers) (sym (primary.rolls-Location at r)) ∙ fold-roll-RawPrimary Made Made Placed Cond Cond Cond Made Made Made Made Made Made
-      (expression_step named numbers) (primary_step named numbers) (reference_step named numbers) (conjunction_step named numbers) (comparison_step named numbers) (condition_step named numbers)
-      (differ_step named numbers) (mask_step named numbers) (prim_step named numbers) (sum_step named numbers) (term_step named numbers) (union_step named numbers) (layer.Location at r)
+  of_location at r = of_primary-Location (steps named numbers) at r
 
   pub of_forced : (t : RawType) (e : RawExpr) → primary_made named numbers (primary.Forced t e) ≡ simply (force (fraction_of t) ((expression_made named numbers e).made false))
-  of_forced t e = ap (primary_made named numbers) (sym (primary.rolls-Forced t e)) ∙ fold-roll-RawPrimary Made Made Placed Cond Cond Cond Made Made Made Made Made Made
-      (expression_step named numbers) (primary_step named numbers) (reference_step named numbers) (conjunction_step named numbers) (comparison_step named numbers) (condition_step named numbers)
-      (differ_step named numbers) (mask_step named numbers) (prim_step named numbers) (sum_step named numbers) (term_step named numbers) (union_step named numbers) (layer.Forced t e)
+  of_forced t e = of_primary-Forced (steps named numbers) t e
 
   pub of_bracket : (at : Position) (e : RawExpr) → primary_made named numbers (primary.Bracket at e) ≡ plainly ((expression_made named numbers e).made false)
-  of_bracket at e = ap (primary_made named numbers) (sym (primary.rolls-Bracket at e)) ∙ fold-roll-RawPrimary Made Made Placed Cond Cond Cond Made Made Made Made Made Made
-      (expression_step named numbers) (primary_step named numbers) (reference_step named numbers) (conjunction_step named numbers) (comparison_step named numbers) (condition_step named numbers)
-      (differ_step named numbers) (mask_step named numbers) (prim_step named numbers) (sum_step named numbers) (term_step named numbers) (union_step named numbers) (layer.Bracket at e)
+  of_bracket at e = of_primary-Bracket (steps named numbers) at e
 
   pub of_ref : (r : RawRef) → primary_made named numbers (primary.Ref r) ≡ (record { made = λ operand. (reference_made named numbers r).value; handed = (reference_made named numbers r).handed })
-  of_ref r = ap (primary_made named numbers) (sym (primary.rolls-Ref r)) ∙ fold-roll-RawPrimary Made Made Placed Cond Cond Cond Made Made Made Made Made Made
-      (expression_step named numbers) (primary_step named numbers) (reference_step named numbers) (conjunction_step named numbers) (comparison_step named numbers) (condition_step named numbers)
-      (differ_step named numbers) (mask_step named numbers) (prim_step named numbers) (sum_step named numbers) (term_step named numbers) (union_step named numbers) (layer.Ref r)
+  of_ref r = of_primary-Ref (steps named numbers) r
 
   pub of_call : (n : RawName) (es : List RawExpr) → primary_made named numbers (primary.Call n es) ≡ simply (call (target named numbers n) (arguments named numbers n (map (expression_made named numbers) es)))
-  of_call n es = ap (primary_made named numbers) (sym (primary.rolls-Call n es)) ∙ fold-roll-RawPrimary Made Made Placed Cond Cond Cond Made Made Made Made Made Made
-      (expression_step named numbers) (primary_step named numbers) (reference_step named numbers) (conjunction_step named numbers) (comparison_step named numbers) (condition_step named numbers)
-      (differ_step named numbers) (mask_step named numbers) (prim_step named numbers) (sum_step named numbers) (term_step named numbers) (union_step named numbers) (layer.Call n es)
+  of_call n es = of_primary-Call (steps named numbers) n es
 
   pub of_name : (n : RawName) → reference_made named numbers (ref.Name n) ≡ reference_step named numbers (layer.Name n)
-  of_name n = ap (reference_made named numbers) (sym (ref.rolls-Name n)) ∙ fold-roll-RawRef Made Made Placed Cond Cond Cond Made Made Made Made Made Made
-      (expression_step named numbers) (primary_step named numbers) (reference_step named numbers) (conjunction_step named numbers) (comparison_step named numbers) (condition_step named numbers)
-      (differ_step named numbers) (mask_step named numbers) (prim_step named numbers) (sum_step named numbers) (term_step named numbers) (union_step named numbers) (layer.Name n)
+  of_name n = of_reference-Name (steps named numbers) n
 
   pub of_indexed : (n : RawName) (e : RawExpr) → reference_made named numbers (ref.One n e) ≡ place_read (indexed_place named numbers n ((expression_made named numbers e).made false))
-  of_indexed n e = ap (reference_made named numbers) (sym (ref.rolls-One n e)) ∙ fold-roll-RawRef Made Made Placed Cond Cond Cond Made Made Made Made Made Made
-      (expression_step named numbers) (primary_step named numbers) (reference_step named numbers) (conjunction_step named numbers) (comparison_step named numbers) (condition_step named numbers)
-      (differ_step named numbers) (mask_step named numbers) (prim_step named numbers) (sum_step named numbers) (term_step named numbers) (union_step named numbers) (layer.One n e)
+  of_indexed n e = of_reference-One (steps named numbers) n e
 
   pub of_twice_indexed : (n : RawName) (a : RawExpr) (b : RawExpr) → reference_made named numbers (ref.Two n a b) ≡ place_read (twice_indexed_place named numbers n ((expression_made named numbers a).made false) ((expression_made named numbers b).made false))
-  of_twice_indexed n a b = ap (reference_made named numbers) (sym (ref.rolls-Two n a b)) ∙ fold-roll-RawRef Made Made Placed Cond Cond Cond Made Made Made Made Made Made
-      (expression_step named numbers) (primary_step named numbers) (reference_step named numbers) (conjunction_step named numbers) (comparison_step named numbers) (condition_step named numbers)
-      (differ_step named numbers) (mask_step named numbers) (prim_step named numbers) (sum_step named numbers) (term_step named numbers) (union_step named numbers) (layer.Two n a b)
+  of_twice_indexed n a b = of_reference-Two (steps named numbers) n a b
 
   pub of_bare : (at : Position) (e : RawExpr) → reference_made named numbers (ref.Bare at e) ≡ place_read (reference (roll-Spot (unit_layer.Bare ((expression_made named numbers e).made false))) 0 None)
-  of_bare at e = ap (reference_made named numbers) (sym (ref.rolls-Bare at e)) ∙ fold-roll-RawRef Made Made Placed Cond Cond Cond Made Made Made Made Made Made
-      (expression_step named numbers) (primary_step named numbers) (reference_step named numbers) (conjunction_step named numbers) (comparison_step named numbers) (condition_step named numbers)
-      (differ_step named numbers) (mask_step named numbers) (prim_step named numbers) (sum_step named numbers) (term_step named numbers) (union_step named numbers) (layer.Bare at e)
+  of_bare at e = of_reference-Bare (steps named numbers) at e
 
   -- ---- the tree that a function makes of each
 

@@ -3,15 +3,16 @@ use Rattle.std.proofs.Common.{◌≡◌, ℕ, ◌≤◌, ◌<◌, Bool, true, fa
 use Rattle.std.specs.Prelude.{◌==◌}
 use Rattle.cw_tree.specs.declared.leaf.RawSign.{RawSign}
 use Rattle.cw_tree.specs.declared.leaf.RawFactorSign.{RawFactorSign}
-use Rattle.cw_tree.specs.declared.expression.RawCand.{RawCand, out-RawCand, fold_out-RawCand}
-use Rattle.cw_tree.specs.declared.expression.RawCmp.{RawCmp, out-RawCmp, fold_out-RawCmp}
-use Rattle.cw_tree.specs.declared.expression.RawCond.{RawCond, out-RawCond, fold_out-RawCond}
-use Rattle.cw_tree.specs.declared.expression.RawDiffer.{RawDiffer, out-RawDiffer, fold_out-RawDiffer}
-use Rattle.cw_tree.specs.declared.expression.RawMask.{RawMask, out-RawMask, fold_out-RawMask}
-use Rattle.cw_tree.specs.declared.expression.RawPrim.{RawPrim, out-RawPrim, fold_out-RawPrim}
-use Rattle.cw_tree.specs.declared.expression.RawSum.{RawSum, out-RawSum, fold_out-RawSum}
-use Rattle.cw_tree.specs.declared.expression.RawTerm.{RawTerm, out-RawTerm, fold_out-RawTerm}
-use Rattle.cw_tree.specs.declared.expression.RawUnion.{RawUnion, out-RawUnion, fold_out-RawUnion}
+use Rattle.cw_tree.specs.declared.expression.RawCand.{RawCand, out-RawCand}
+use Rattle.cw_tree.specs.declared.expression.RawCmp.{RawCmp, out-RawCmp}
+use Rattle.cw_tree.specs.declared.expression.RawCond.{RawCond, out-RawCond}
+use Rattle.cw_tree.specs.declared.expression.RawDiffer.{RawDiffer, out-RawDiffer}
+use Rattle.cw_tree.specs.declared.expression.RawMask.{RawMask, out-RawMask}
+use Rattle.cw_tree.specs.declared.expression.RawPrim.{RawPrim, out-RawPrim}
+use Rattle.cw_tree.specs.declared.expression.RawSum.{RawSum, out-RawSum}
+use Rattle.cw_tree.specs.declared.expression.RawTerm.{RawTerm, out-RawTerm}
+use Rattle.cw_tree.specs.declared.expression.RawUnion.{RawUnion, out-RawUnion}
+use Rattle.cw_tree.proofs.Expressions.{ExpressionSteps, expression_steps, of_comparison-out, of_condition-out, of_conjunction-out, of_differ-out, of_mask-out, of_prim-out, of_sum-out, of_term-out, of_union-out}
 use Rattle.cw_scope.specs.declared.resolve.Named.{Named}
 use Rattle.cw_unit.specs.declared.unit.LogicOp.{LogicOp}
 use Rattle.cw_unit.specs.declared.unit.LogicOp.TheVariants as logic_op
@@ -19,36 +20,40 @@ use Rattle.cw_unit.specs.declared.unit.Expr.{Expr}
 use Rattle.cw_unit.specs.declared.unit.Cond.{Cond}
 use Rattle.cw_make_expr.specs.Nodes.{nothing, no_condition, comparison, comparator, whole_part_if}
 use Rattle.cw_make_expr.specs.Parts.{Numbers}
-use Rattle.cw_make_expr.specs.Made.{Made, Placed, operand_for, logic_from, logic_of, factors_from, term_of, terms_from, signed_term, is_alone, sum_from, sum_of, prim_of, all_from, any_from, all_of, any_of, expression_step, primary_step, reference_step, conjunction_step, comparison_step, condition_step, differ_step, mask_step, prim_step, sum_step, term_step, union_step, primary_made, conjunction_made, comparison_made, condition_made, differ_made, mask_made, prim_made, sum_made, term_made, union_made}
+use Rattle.cw_make_expr.specs.Made.{Made, Placed, operand_for, logic_from, logic_of, factors_from, term_of, terms_from, signed_term, is_alone, sum_from, sum_of, prim_of, all_of, any_of, expression_step, primary_step, reference_step, conjunction_step, comparison_step, condition_step, differ_step, mask_step, prim_step, sum_step, term_step, union_step, primary_made, conjunction_made, comparison_made, condition_made, differ_made, mask_made, prim_made, sum_made, term_made, union_made}
 use Rattle.cw_scale.proofs.Turns.{behind_first, first_and_rest, no_item, length_map, none_more}
+
+-- what is made of the parts
+abbrev pub steps : Named → Numbers → ExpressionSteps Made Made Placed Cond Cond Cond Made Made Made Made Made Made
+steps named numbers = expression_steps (expression_step named numbers) (primary_step named numbers) (reference_step named numbers) (conjunction_step named numbers) (comparison_step named numbers) (condition_step named numbers) (differ_step named numbers) (mask_step named numbers) (prim_step named numbers) (sum_step named numbers) (term_step named numbers) (union_step named numbers)
 
 module _ (named : Named) (numbers : Numbers) where
   pub condition-layer : (x : RawCond) → condition_made named numbers x ≡ any_of (map (conjunction_made named numbers) (out-RawCond x).operands)
-  condition-layer = fold_out-RawCond Made Made Placed Cond Cond Cond Made Made Made Made Made Made (expression_step named numbers) (primary_step named numbers) (reference_step named numbers) (conjunction_step named numbers) (comparison_step named numbers) (condition_step named numbers) (differ_step named numbers) (mask_step named numbers) (prim_step named numbers) (sum_step named numbers) (term_step named numbers) (union_step named numbers)
+  condition-layer = of_condition-out (steps named numbers)
 
   pub conjunction-layer : (x : RawCand) → conjunction_made named numbers x ≡ all_of (map (comparison_made named numbers) (out-RawCand x).operands)
-  conjunction-layer = fold_out-RawCand Made Made Placed Cond Cond Cond Made Made Made Made Made Made (expression_step named numbers) (primary_step named numbers) (reference_step named numbers) (conjunction_step named numbers) (comparison_step named numbers) (condition_step named numbers) (differ_step named numbers) (mask_step named numbers) (prim_step named numbers) (sum_step named numbers) (term_step named numbers) (union_step named numbers)
+  conjunction-layer = of_conjunction-out (steps named numbers)
 
   pub comparison-layer : (x : RawCmp) → comparison_made named numbers x ≡ comparison (comparator (out-RawCmp x).operator.op) ((sum_made named numbers (out-RawCmp x).left).made false) ((sum_made named numbers (out-RawCmp x).right).made false)
-  comparison-layer = fold_out-RawCmp Made Made Placed Cond Cond Cond Made Made Made Made Made Made (expression_step named numbers) (primary_step named numbers) (reference_step named numbers) (conjunction_step named numbers) (comparison_step named numbers) (condition_step named numbers) (differ_step named numbers) (mask_step named numbers) (prim_step named numbers) (sum_step named numbers) (term_step named numbers) (union_step named numbers)
+  comparison-layer = of_comparison-out (steps named numbers)
 
   pub sum-layer : (x : RawSum) → sum_made named numbers x ≡ sum_of (out-RawSum x).sign (map (term_made named numbers) (out-RawSum x).operands) (out-RawSum x).operators
-  sum-layer = fold_out-RawSum Made Made Placed Cond Cond Cond Made Made Made Made Made Made (expression_step named numbers) (primary_step named numbers) (reference_step named numbers) (conjunction_step named numbers) (comparison_step named numbers) (condition_step named numbers) (differ_step named numbers) (mask_step named numbers) (prim_step named numbers) (sum_step named numbers) (term_step named numbers) (union_step named numbers)
+  sum-layer = of_sum-out (steps named numbers)
 
   pub term-layer : (x : RawTerm) → term_made named numbers x ≡ term_of (map (differ_made named numbers) (out-RawTerm x).operands) (out-RawTerm x).operators
-  term-layer = fold_out-RawTerm Made Made Placed Cond Cond Cond Made Made Made Made Made Made (expression_step named numbers) (primary_step named numbers) (reference_step named numbers) (conjunction_step named numbers) (comparison_step named numbers) (condition_step named numbers) (differ_step named numbers) (mask_step named numbers) (prim_step named numbers) (sum_step named numbers) (term_step named numbers) (union_step named numbers)
+  term-layer = of_term-out (steps named numbers)
 
   pub differ-layer : (x : RawDiffer) → differ_made named numbers x ≡ logic_of logic_op.Differ (map (union_made named numbers) (out-RawDiffer x).operands)
-  differ-layer = fold_out-RawDiffer Made Made Placed Cond Cond Cond Made Made Made Made Made Made (expression_step named numbers) (primary_step named numbers) (reference_step named numbers) (conjunction_step named numbers) (comparison_step named numbers) (condition_step named numbers) (differ_step named numbers) (mask_step named numbers) (prim_step named numbers) (sum_step named numbers) (term_step named numbers) (union_step named numbers)
+  differ-layer = of_differ-out (steps named numbers)
 
   pub union-layer : (x : RawUnion) → union_made named numbers x ≡ logic_of logic_op.Union (map (mask_made named numbers) (out-RawUnion x).operands)
-  union-layer = fold_out-RawUnion Made Made Placed Cond Cond Cond Made Made Made Made Made Made (expression_step named numbers) (primary_step named numbers) (reference_step named numbers) (conjunction_step named numbers) (comparison_step named numbers) (condition_step named numbers) (differ_step named numbers) (mask_step named numbers) (prim_step named numbers) (sum_step named numbers) (term_step named numbers) (union_step named numbers)
+  union-layer = of_union-out (steps named numbers)
 
   pub mask-layer : (x : RawMask) → mask_made named numbers x ≡ logic_of logic_op.Mask (map (prim_made named numbers) (out-RawMask x).operands)
-  mask-layer = fold_out-RawMask Made Made Placed Cond Cond Cond Made Made Made Made Made Made (expression_step named numbers) (primary_step named numbers) (reference_step named numbers) (conjunction_step named numbers) (comparison_step named numbers) (condition_step named numbers) (differ_step named numbers) (mask_step named numbers) (prim_step named numbers) (sum_step named numbers) (term_step named numbers) (union_step named numbers)
+  mask-layer = of_mask-out (steps named numbers)
 
   pub prim-layer : (x : RawPrim) → prim_made named numbers x ≡ prim_of (out-RawPrim x).bits (primary_made named numbers (out-RawPrim x).primary)
-  prim-layer = fold_out-RawPrim Made Made Placed Cond Cond Cond Made Made Made Made Made Made (expression_step named numbers) (primary_step named numbers) (reference_step named numbers) (conjunction_step named numbers) (comparison_step named numbers) (condition_step named numbers) (differ_step named numbers) (mask_step named numbers) (prim_step named numbers) (sum_step named numbers) (term_step named numbers) (union_step named numbers)
+  prim-layer = of_prim-out (steps named numbers)
 
 -- ---- operands of one rule
 
@@ -63,23 +68,17 @@ logic_end op f all first operand inside i s0 s n e le ei e0 h =
     ∙ ap (λ z. logic_from op z (map f (behind_first all))) (e0 ∙ ap (λ b. (f first).made b) (ei ∙ ap (λ k. operand_for (k == 0) operand) (sym (length_map f (behind_first all)))))
     ∙ ap (λ l. (logic_of op (map f l)).made operand) (sym (first_and_rest all first n e))
 
-pub any_none : {A : Type 0} (f : A → Cond) (all : List A) → length all < 1 → no_condition ≡ any_of (map f all)
-any_none f all h = ap (λ l. any_of (map f l)) (sym (no_item all h))
+-- conditions with AND or with OR between any two
+module _ (from : Cond → List Cond → Cond) (joined : List Cond → Cond) (begun : (c : Cond) (cs : List Cond) → joined (c ∷ cs) ≡ from c cs) (done : (c : Cond) → from c [] ≡ c) (none : no_condition ≡ joined []) where
+  pub conditions_none : {A : Type 0} (f : A → Cond) (all : List A) → length all < 1 → no_condition ≡ joined (map f all)
+  conditions_none f all h = none ∙ ap (λ l. joined (map f l)) (sym (no_item all h))
 
-pub any_end : {A : Type 0} (f : A → Cond) (all : List A) (first : A) (i : ℕ) (s0 s : Cond) → 1 ≤ length all → first ≡ get_or all 0 first → length (behind_first all) ≤ i → s0 ≡ f first
-    → any_from s (map f (drop i (behind_first all))) ≡ any_from s0 (map f (behind_first all)) → s ≡ any_of (map f all)
-any_end f all first i s0 s n e le e0 h =
-    none_more any_from (λ z. refl) f (behind_first all) i s (any_from s0 (map f (behind_first all))) le h
-    ∙ ap (λ z. any_from z (map f (behind_first all))) e0 ∙ ap (λ l. any_of (map f l)) (sym (first_and_rest all first n e))
-
-pub all_none : {A : Type 0} (f : A → Cond) (all : List A) → length all < 1 → no_condition ≡ all_of (map f all)
-all_none f all h = ap (λ l. all_of (map f l)) (sym (no_item all h))
-
-pub all_end : {A : Type 0} (f : A → Cond) (all : List A) (first : A) (i : ℕ) (s0 s : Cond) → 1 ≤ length all → first ≡ get_or all 0 first → length (behind_first all) ≤ i → s0 ≡ f first
-    → all_from s (map f (drop i (behind_first all))) ≡ all_from s0 (map f (behind_first all)) → s ≡ all_of (map f all)
-all_end f all first i s0 s n e le e0 h =
-    none_more all_from (λ z. refl) f (behind_first all) i s (all_from s0 (map f (behind_first all))) le h
-    ∙ ap (λ z. all_from z (map f (behind_first all))) e0 ∙ ap (λ l. all_of (map f l)) (sym (first_and_rest all first n e))
+  pub conditions_end : {A : Type 0} (f : A → Cond) (all : List A) (first : A) (i : ℕ) (s0 s : Cond) → 1 ≤ length all → first ≡ get_or all 0 first → length (behind_first all) ≤ i → s0 ≡ f first
+      → from s (map f (drop i (behind_first all))) ≡ from s0 (map f (behind_first all)) → s ≡ joined (map f all)
+  conditions_end f all first i s0 s n e le e0 h =
+      none_more from done f (behind_first all) i s (from s0 (map f (behind_first all))) le h
+      ∙ ap (λ z. from z (map f (behind_first all))) e0 ∙ sym (begun (f first) (map f (behind_first all)))
+      ∙ ap (λ l. joined (map f l)) (sym (first_and_rest all first n e))
 
 pub term_none : {A : Type 0} (f : A → Made) (all : List A) (signs : List RawFactorSign) (operand : Bool) → length all < 1 → nothing ≡ (term_of (map f all) signs).made operand
 term_none f all signs operand h = ap (λ l. (term_of (map f l) signs).made operand) (sym (no_item all h))

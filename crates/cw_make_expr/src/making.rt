@@ -401,7 +401,7 @@ fn make_primary(
         }
         RawPrimary::Forced(scale, e) => {
             let inner = make_expression(alloc, named, numbers, e.get(), false)?;
-            force(alloc, fraction_of(scale), inner)
+            force(alloc, fraction_of(scale.get()), inner)
         }
         RawPrimary::Bracket(_, e) => {
             let inner = make_expression(alloc, named, numbers, e.get(), false)?;

@@ -11,11 +11,11 @@ use Rattle.cw_tree.specs.declared.statement.RawFelem.{RawFelem}
 use Rattle.cw_tree.specs.declared.statement.RawFelem.TheVariants as felem
 use Rattle.cw_tree.specs.declared.statement.RawForm.TheVariants as form
 use Rattle.cw_tree.specs.declared.statement.RawSimple.TheVariants as simple
-use Rattle.cw_tree.specs.declared.statement.RawDecl.TheOpen as layer
-use Rattle.cw_tree.specs.declared.statement.RawForm.{RawForm, fold-roll-RawForm}
-use Rattle.cw_tree.specs.declared.statement.RawSimple.{RawSimple, fold-roll-RawSimple}
-use Rattle.cw_tree.specs.declared.statement.RawBlock.{RawBlock, out-RawBlock, fold_out-RawBlock}
-use Rattle.cw_tree.specs.declared.statement.RawStmt.{RawStmt, out-RawStmt, fold_out-RawStmt}
+use Rattle.cw_tree.specs.declared.statement.RawForm.{RawForm}
+use Rattle.cw_tree.specs.declared.statement.RawSimple.{RawSimple}
+use Rattle.cw_tree.specs.declared.statement.RawBlock.{RawBlock, out-RawBlock}
+use Rattle.cw_tree.specs.declared.statement.RawStmt.{RawStmt, out-RawStmt}
+use Rattle.cw_tree.proofs.Statements.{StatementSteps, statement_steps, of_block-out, of_form-For, of_form-If-None, of_form-If-Some, of_form-Simple, of_simple-Answer, of_simple-Assign, of_simple-AssignBits, of_simple-Block, of_simple-Call, of_simple-Empty, of_simple-Goto, of_simple-GotoSwitch, of_statement-out}
 use Rattle.cw_scope.specs.declared.resolve.Named.{Named}
 use Rattle.cw_unit.specs.declared.unit.Cond.{Cond}
 use Rattle.cw_unit.specs.declared.unit.Ref.{Ref}
@@ -40,81 +40,56 @@ pub none_more_made : {X Y : Type 0} (f : X → Y) (xs : List X) (i : ℕ) (a end
 none_more_made f xs i a end h k = sym (append-nil a) ∙ ap (λ l. a ++ map f l) (sym (drop_all i xs h)) ∙ k
 
 module _ (named : Named) (numbers : Numbers) where
+  abbrev steps : StatementSteps Stmt Stmt Stmt Stmt Stmt Stmt
+  steps = statement_steps (declaration_step named numbers) (form_step named numbers) (simple_step named numbers) (block_step named numbers) (procedure_step named numbers) (statement_step named numbers)
+
   of_simple_form : (s : RawSimple) → form_of named numbers (form.Simple s) ≡ simple_of named numbers s
-  of_simple_form s = ap (form_of named numbers) (sym (form.rolls-Simple s)) ∙ fold-roll-RawForm Stmt Stmt Stmt Stmt Stmt Stmt
-      (declaration_step named numbers) (form_step named numbers) (simple_step named numbers) (block_step named numbers) (procedure_step named numbers)
-      (statement_step named numbers) (layer.Simple s)
+  of_simple_form s = of_form-Simple steps s
 
   of_if : (at : Position) (test : RawCond) (labels : List RawName) (first : RawSimple)
       → form_of named numbers (form.If at test labels first None) ≡ conditional (line_of at) (condition_of named numbers test)
       (marked numbers labels (simple_of named numbers first)) (row [])
-  of_if at test labels first = ap (form_of named numbers) (sym (form.rolls-If at test labels first None)) ∙ fold-roll-RawForm Stmt Stmt Stmt Stmt Stmt Stmt
-      (declaration_step named numbers) (form_step named numbers) (simple_step named numbers) (block_step named numbers) (procedure_step named numbers)
-      (statement_step named numbers) (layer.If at test labels first None)
+  of_if at test labels first = of_form-If-None steps at test labels first
 
   of_if_else : (at : Position) (test : RawCond) (labels : List RawName) (first : RawSimple) (s : RawStmt)
       → form_of named numbers (form.If at test labels first (Some s)) ≡ conditional (line_of at) (condition_of named numbers test)
       (marked numbers labels (simple_of named numbers first)) (statement_of named numbers s)
-  of_if_else at test labels first s = ap (form_of named numbers) (sym (form.rolls-If at test labels first (Some s))) ∙ fold-roll-RawForm Stmt Stmt Stmt Stmt Stmt Stmt
-      (declaration_step named numbers) (form_step named numbers) (simple_step named numbers) (block_step named numbers) (procedure_step named numbers)
-      (statement_step named numbers) (layer.If at test labels first (Some s))
+  of_if_else at test labels first s = of_form-If-Some steps at test labels first s
 
   of_for : (at : Position) (variable : RawRef) (elems : List RawFelem) (body : RawStmt)
       → form_of named numbers (form.For at variable elems body) ≡ repetition (line_of at) (item_here numbers at.token) (reference_of named numbers variable)
       (map (felem_of named numbers) elems) (statement_of named numbers body)
-  of_for at variable elems body = ap (form_of named numbers) (sym (form.rolls-For at variable elems body)) ∙ fold-roll-RawForm Stmt Stmt Stmt Stmt Stmt Stmt
-      (declaration_step named numbers) (form_step named numbers) (simple_step named numbers) (block_step named numbers) (procedure_step named numbers)
-      (statement_step named numbers) (layer.For at variable elems body)
+  of_for at variable elems body = of_form-For steps at variable elems body
 
   of_empty : simple_of named numbers simple.Empty ≡ row []
-  of_empty = ap (simple_of named numbers) (sym simple.rolls-Empty) ∙ fold-roll-RawSimple Stmt Stmt Stmt Stmt Stmt Stmt
-      (declaration_step named numbers) (form_step named numbers) (simple_step named numbers) (block_step named numbers) (procedure_step named numbers)
-      (statement_step named numbers) layer.Empty
+  of_empty = of_simple-Empty steps
 
   of_assign : (r : RawRef) (e : RawExpr) → simple_of named numbers (simple.Assign r e) ≡ assignment named numbers r e
-  of_assign r e = ap (simple_of named numbers) (sym (simple.rolls-Assign r e)) ∙ fold-roll-RawSimple Stmt Stmt Stmt Stmt Stmt Stmt
-      (declaration_step named numbers) (form_step named numbers) (simple_step named numbers) (block_step named numbers) (procedure_step named numbers)
-      (statement_step named numbers) (layer.Assign r e)
+  of_assign r e = of_simple-Assign steps r e
 
   of_assign_bits : (b : RawBits) (r : RawRef) (e : RawExpr) → simple_of named numbers (simple.AssignBits b r e) ≡ bits_assignment named numbers b r e
-  of_assign_bits b r e = ap (simple_of named numbers) (sym (simple.rolls-AssignBits b r e)) ∙ fold-roll-RawSimple Stmt Stmt Stmt Stmt Stmt Stmt
-      (declaration_step named numbers) (form_step named numbers) (simple_step named numbers) (block_step named numbers) (procedure_step named numbers)
-      (statement_step named numbers) (layer.AssignBits b r e)
+  of_assign_bits b r e = of_simple-AssignBits steps b r e
 
   of_goto : (at : Position) (n : RawName) → simple_of named numbers (simple.Goto at n) ≡ jump named numbers at n
-  of_goto at n = ap (simple_of named numbers) (sym (simple.rolls-Goto at n)) ∙ fold-roll-RawSimple Stmt Stmt Stmt Stmt Stmt Stmt
-      (declaration_step named numbers) (form_step named numbers) (simple_step named numbers) (block_step named numbers) (procedure_step named numbers)
-      (statement_step named numbers) (layer.Goto at n)
+  of_goto at n = of_simple-Goto steps at n
 
   of_goto_switch : (at : Position) (n : RawName) (e : RawExpr) → simple_of named numbers (simple.GotoSwitch at n e) ≡ switch_jump named numbers at n e
-  of_goto_switch at n e = ap (simple_of named numbers) (sym (simple.rolls-GotoSwitch at n e)) ∙ fold-roll-RawSimple Stmt Stmt Stmt Stmt Stmt Stmt
-      (declaration_step named numbers) (form_step named numbers) (simple_step named numbers) (block_step named numbers) (procedure_step named numbers)
-      (statement_step named numbers) (layer.GotoSwitch at n e)
+  of_goto_switch at n e = of_simple-GotoSwitch steps at n e
 
   of_call : (n : RawName) (es : List RawExpr) → simple_of named numbers (simple.Call n es) ≡ call_statement named numbers n es
-  of_call n es = ap (simple_of named numbers) (sym (simple.rolls-Call n es)) ∙ fold-roll-RawSimple Stmt Stmt Stmt Stmt Stmt Stmt
-      (declaration_step named numbers) (form_step named numbers) (simple_step named numbers) (block_step named numbers) (procedure_step named numbers)
-      (statement_step named numbers) (layer.Call n es)
+  of_call n es = of_simple-Call steps n es
 
   of_answer : (at : Position) (e : RawExpr) → simple_of named numbers (simple.Answer at e) ≡ answer named numbers at e
-  of_answer at e = ap (simple_of named numbers) (sym (simple.rolls-Answer at e)) ∙ fold-roll-RawSimple Stmt Stmt Stmt Stmt Stmt Stmt
-      (declaration_step named numbers) (form_step named numbers) (simple_step named numbers) (block_step named numbers) (procedure_step named numbers)
-      (statement_step named numbers) (layer.Answer at e)
+  of_answer at e = of_simple-Answer steps at e
 
   of_inner_block : (b : RawBlock) → simple_of named numbers (simple.Block b) ≡ block_of named numbers b
-  of_inner_block b = ap (simple_of named numbers) (sym (simple.rolls-Block b)) ∙ fold-roll-RawSimple Stmt Stmt Stmt Stmt Stmt Stmt
-      (declaration_step named numbers) (form_step named numbers) (simple_step named numbers) (block_step named numbers) (procedure_step named numbers)
-      (statement_step named numbers) (layer.Block b)
+  of_inner_block b = of_simple-Block steps b
 
   of_block : (b : RawBlock) → block_of named numbers b ≡ row (map (statement_of named numbers) (out-RawBlock b).stmts)
-  of_block = fold_out-RawBlock Stmt Stmt Stmt Stmt Stmt Stmt
-      (declaration_step named numbers) (form_step named numbers) (simple_step named numbers) (block_step named numbers) (procedure_step named numbers)
-      (statement_step named numbers)
+  of_block = of_block-out steps
 
   of_statement : (s : RawStmt) → statement_of named numbers s ≡ marked numbers (out-RawStmt s).labels (form_of named numbers (out-RawStmt s).form)
-  of_statement = fold_out-RawStmt Stmt Stmt Stmt Stmt Stmt Stmt
-      (declaration_step named numbers) (form_step named numbers) (simple_step named numbers) (block_step named numbers) (procedure_step named numbers)
-      (statement_step named numbers)
+  of_statement = of_statement-out steps
 
   -- ---- what is made of the parts is the tree of the whole
 

@@ -101,7 +101,7 @@ fn make_simple(
         RawSimple::Empty => Boxed::new(alloc, row(List::new(alloc))),
         RawSimple::Assign(r, e) => assignment(alloc, named, numbers, r.get(), e.get()),
         RawSimple::AssignBits(bits, r, e) => {
-            bits_assignment(alloc, named, numbers, bits, r.get(), e.get())
+            bits_assignment(alloc, named, numbers, bits.get(), r.get(), e.get())
         }
         RawSimple::Goto(at, name) => Boxed::new(alloc, jump(named, numbers, at, name)),
         RawSimple::GotoSwitch(at, name, index) => {

@@ -10,7 +10,7 @@ use Rattle.cw_fields.specs.Fields.{Reader, whole, text_bytes, IsWord}
 use Rattle.cw_view.specs.Payloads.{preset_bytes, FitsPreset}
 use Rattle.cw_fields.specs.Names.{name_in}
 use Rattle.cw_view.specs.Reading.{preset_in}
-use Rattle.cw_view.specs.ObjectFormat.{Record, SegmentName, Descriptor, StorageFamily, StoredItem, PresetWord, Code, Relocation, Definition, BodyFacts, Statement, End, FitsRecord, IsFront, IsObject, payloads, payload_if}
+use Rattle.cw_view.specs.ObjectFormat.{Record, PresetWord, FitsRecord, IsFront, IsObject, payloads, payload_if}
 use Rattle.cw_fields.proofs.Spelled.{reads_name}
 use Rattle.cw_view.proofs.Forms.{reads_preset}
 use Rattle.cw_view.proofs.Whole.{begins}
@@ -39,17 +39,8 @@ values-fit F r [] qs h k = k
 values-fit F r (p ∷ ps) qs h k = kept-fits F (whole r p) (values_in r ps) (values_in r (ps ++ qs)) h (λ g. values-fit F r ps qs g k)
 
 preset-read : (r : Record) → FitsRecord r → AllByRecursion FitsPreset (values_in preset_in (payload_if 5 r))
-preset-read (SegmentName x) f = tt
-preset-read (Descriptor x) f = tt
-preset-read (StorageFamily x) f = tt
-preset-read (StoredItem x) f = tt
 preset-read (PresetWord x) f = subst (AllByRecursion FitsPreset) (sym (one-back preset_bytes FitsPreset preset_in reads_preset x f)) (f, tt)
-preset-read (Code x) f = tt
-preset-read (Relocation x) f = tt
-preset-read (Definition x) f = tt
-preset-read (BodyFacts x) f = tt
-preset-read (Statement x) f = tt
-preset-read End f = tt
+preset-read _ f = tt
 
 presets-fit : (v : ℕ) (rs : List Record) → IsFront v rs → AllByRecursion FitsPreset (values_in preset_in (payloads 5 rs))
 presets-fit v [] f = tt

@@ -1,6 +1,5 @@
 -- The payload of a descriptor that fits is short.
-use Rattle.std.proofs.Common.{◌≡◌, ℕ, suc, ◌+◌, ◌*◌, ◌<◌, ◌≤◌, ℤ, List, [], ◌∷◌, ◌++◌, length, Option, Some, None, refl, inl, inr, ◌⊎◌, arith}
-use Rattle.std.specs.Prelude.{IfSome}
+use Rattle.std.proofs.Common.{◌≡◌, ℕ, suc, ◌+◌, ◌*◌, ◌<◌, ◌≤◌, List, [], ◌∷◌, ◌++◌, length, Option, Some, None, inl, inr, ◌⊎◌, arith}
 use Rattle.std.specs.List.{AllByRecursion}
 use Rattle.std.proofs.lemmas.List.{length-append}
 use Rattle.cw_unit.specs.declared.descriptor.Scale.{Scale}
@@ -12,7 +11,7 @@ use Rattle.cw_unit.specs.declared.descriptor.Spec.{Spec, out-Spec}
 use Rattle.cw_unit.specs.declared.descriptor.SpecParam.{SpecParam, SpecParam-F, out-SpecParam}
 use Rattle.cw_unit.specs.declared.descriptor.SpecParam.TheOpen as takes
 use Rattle.cw_fields.specs.Fields.{each, optional_bytes, text_bytes, IsLong, word_bytes}
-use Rattle.cw_view.specs.Payloads.{scale_bytes, plain_layer_bytes, plain_parameter_bytes, FitsPlainParameter, spec_bytes, FitsSpec, layer_bytes, FitsLayer, parameter_bytes, FitsParameter, bound_bytes, FitsBounds, element_bytes, FitsElement, body_number, body_bytes, FitsBody, overlay_bytes, descriptor_bytes, FitsDescriptor}
+use Rattle.cw_view.specs.Payloads.{scale_bytes, plain_layer_bytes, plain_parameter_bytes, FitsPlainParameter, spec_bytes, FitsSpec, layer_bytes, FitsLayer, parameter_bytes, FitsParameter, bound_bytes, FitsBounds, element_bytes, FitsElement, body_bytes, FitsBody, overlay_bytes, descriptor_bytes, FitsDescriptor}
 
 each-short : {X : Type 0} (spell : X → List ℕ) (F : X → Type 0) (k : ℕ) → ((x : X) → F x → length (spell x) ≤ k) → (xs : List X) → AllByRecursion F xs → length (each spell xs) ≤ length xs * k
 each-short spell F k one [] h = omega arith
@@ -23,13 +22,8 @@ answer-short None = omega arith
 answer-short (Some s) = omega arith
 
 plain-short : (p : SpecParam-F SpecParam Spec) → length (plain_layer_bytes p) ≤ 3
-plain-short (takes.Value s) = omega arith
-plain-short (takes.Location s) = omega arith
-plain-short (takes.Array s) = omega arith
-plain-short (takes.Table width) = omega arith
 plain-short takes.Label = omega arith
-plain-short takes.Switch = omega arith
-plain-short (takes.Proc s) = omega arith
+plain-short _ = omega arith
 
 -- a specification, by the longest of its parameters
 spec-short : (spell : SpecParam → List ℕ) (F : SpecParam → Type 0) (k : ℕ) → ((p : SpecParam) → F p → length (spell p) ≤ k) → (s : Spec) → FitsSpec F s → length (spec_bytes spell s) ≤ 4 + length (out-Spec s).params * k
@@ -39,16 +33,11 @@ spec-short spell F k one s h =
     omega (arith, total, answer-short (out-Spec s).answer, each-short spell F k one params h.2)
 
 layer-short : (p : SpecParam-F SpecParam Spec) → FitsLayer p → length (layer_bytes p) ≤ 800
-layer-short (takes.Value s) h = omega arith
-layer-short (takes.Location s) h = omega arith
-layer-short (takes.Array s) h = omega arith
-layer-short (takes.Table width) h = omega arith
-layer-short takes.Label h = omega arith
-layer-short takes.Switch h = omega arith
 layer-short (takes.Proc s) h =
     let count : length (out-Spec s).params < 256 = h.1 in
     let whole : length (spec_bytes plain_parameter_bytes s) ≤ 4 + length (out-Spec s).params * 3 = spec-short plain_parameter_bytes FitsPlainParameter 3 (λ p _. plain-short (out-SpecParam p)) s h in
     omega (arith, whole, count)
+layer-short _ h = omega arith
 
 element-short : (e : ElemDesc) → FitsElement e → length (element_bytes e) ≤ 38
 element-short e h =

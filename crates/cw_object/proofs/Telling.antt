@@ -1,5 +1,5 @@
 -- What the bytes of an object tell: that of a unit tells the unit, and a view what its bytes tell.
-use Rattle.std.proofs.Common.{◌≡◌, ℕ, ◌+◌, ◌<◌, ◌≤◌, ◌⊎◌, true, false, List, [], ◌∷◌, ◌++◌, length, map, drop, Bool, IsTrue, Option, Some, None, refl, sym, ap, ◌∙◌, arith}
+use Rattle.std.proofs.Common.{◌≡◌, ℕ, ◌+◌, ◌<◌, ◌≤◌, true, false, List, [], ◌∷◌, ◌++◌, length, map, drop, refl, sym, ap, ◌∙◌, arith}
 use Rattle.std.specs.Prelude.{Ok}
 use Rattle.std.specs.List.{AllByRecursion}
 use Rattle.std.proofs.lemmas.Bool.Decides.{nat_tests}
@@ -7,14 +7,13 @@ use Rattle.std.proofs.lemmas.List.{append-nil}
 use Rattle.cw_word.specs.Name.{IsName}
 use Rattle.cw_unit.specs.declared.unit.Unit.{Unit as SourceUnit}
 use Rattle.cw_unit.specs.declared.layout.Layout.{Layout}
-use Rattle.cw_unit.specs.declared.layout.Body.{Body}
 use Rattle.cw_tmpl.specs.declared.assembling.Code.{Code as MadeCode}
 use Rattle.cw_view.specs.declared.view.View.{View}
-use Rattle.cw_fields.specs.Fields.{Reader, whole, text_bytes}
+use Rattle.cw_fields.specs.Fields.{Reader, text_bytes}
 use Rattle.cw_view.specs.Payloads.{descriptor_bytes, FitsDescriptor, family_bytes, FitsFamily, preset_bytes, FitsPreset, relocation_bytes, FitsRelocation, definition_bytes, FitsDefinition, body_facts_bytes, FitsBodyFacts}
 use Rattle.cw_fields.specs.Names.{name_in}
 use Rattle.cw_view.specs.Reading.{descriptor_in, family_in, preset_in, relocation_in, definition_in, body_facts_in}
-use Rattle.cw_view.specs.ObjectFormat.{Record, SegmentName, Descriptor, StorageFamily, StoredItem, PresetWord, Code, Relocation, Definition, BodyFacts, Statement, End, kind_of, last_kind, can_follow, code_of, code_or, IsFront, IsObjectOf, IsObject, payloads, payload_if}
+use Rattle.cw_view.specs.ObjectFormat.{Record, SegmentName, Descriptor, StorageFamily, StoredItem, PresetWord, Code, Relocation, Definition, BodyFacts, Statement, End, kind_of, last_kind, can_follow, code_of, code_or, IsFront, IsObjectOf, payloads, payload_if}
 use Rattle.cw_view.specs.Splitting.{payloads_in}
 use Rattle.cw_view.specs.Fronts.{AnswersOpen}
 use Rattle.cw_fields.specs.Spelling.{Reads}
@@ -24,10 +23,9 @@ use Rattle.cw_view.proofs.Forms.{reads_family, reads_preset, reads_relocation, r
 use Rattle.cw_view.proofs.Descriptors.{reads_descriptor}
 use Rattle.cw_view.proofs.Splits.{all_payloads}
 use Rattle.cw_view.proofs.Whole.{begins}
-use Rattle.cw_link.specs.Contents.{Contents, kept, values_in, first_body, contents_of}
-use Rattle.cw_obj.specs.ReferenceObject.{definitions_of, body_of, object_records, object_bytes}
+use Rattle.cw_link.specs.Contents.{kept, values_in, first_body, contents_of}
+use Rattle.cw_obj.specs.ReferenceObject.{definitions_of, body_of, object_records}
 use Rattle.cw_obj.specs.Writable.{AllFrom, by_one, the_same, IsListed, IsKept, IsSet, IsFilled, behind_word, IsDefined, behind_number, IsWritable, onto, WritesObjects, TellsUnits}
-use Rattle.cw_object.specs.IsWritable.{is_writable}
 use Rattle.cw_object.specs.ObjectContents.{payloads_of, first_text, contents_in, object_with, contents_with, TellsItsUnit}
 use Rattle.cw_object.proofs.Written.{writable}
 
@@ -81,17 +79,8 @@ low-before : (v last kind : ℕ) → can_follow v last kind ≡ true → kind �
 low-before v last kind h le = grind (arith, nat_tests)
 
 no-code : (r : Record) (code : List ℕ) → kind_of r < 6 → (payload_if 6 r ≡ []) × (code_or code r ≡ code)
-no-code (SegmentName x) code h = (refl, refl)
-no-code (Descriptor x) code h = (refl, refl)
-no-code (StorageFamily x) code h = (refl, refl)
-no-code (StoredItem x) code h = (refl, refl)
-no-code (PresetWord x) code h = (refl, refl)
 no-code (Code x) code h = absurd (omega (arith, h))
-no-code (Relocation x) code h = (refl, refl)
-no-code (Definition x) code h = (refl, refl)
-no-code (BodyFacts x) code h = (refl, refl)
-no-code (Statement x) code h = (refl, refl)
-no-code End code h = (refl, refl)
+no-code _ code h = (refl, refl)
 
 -- before the code there is none
 none-yet : (v : ℕ) (rs : List Record) → IsFront v rs → last_kind rs < 6 → payloads 6 rs ≡ []

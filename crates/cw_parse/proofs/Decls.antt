@@ -9,12 +9,12 @@ use Rattle.cw_tree.specs.declared.statement.RawDecl.{RawDecl}
 use Rattle.cw_tree.specs.declared.statement.RawDecl.TheVariants as decl_tree
 use Rattle.cw_grammar.specs.Tokens.{Item}
 use Rattle.cw_grammar.specs.declared.stop.Stop.{Stop}
-use Rattle.cw_grammar.specs.declared.stop.Stop.TheVariants as stops
 use Rattle.cw_grammar.specs.Grammar.{Sort, a_from, an_option, a_type, a_data, a_decl, Value, Grammar, ◌·◌, ◌∣◌, ◌⇒◌, starts, first}
 use Rattle.cw_grammar.specs.Rules.{number_type, int, sint, octal, symbol, ◌<*◌}
 use Rattle.cw_grammar.specs.Statements.{from, singles, arrays, decl, worded_decl, proc_behind, data_table, overlay, ptag}
 use Rattle.cw_grammar.specs.Reading.{Read, ◌>>=◌, Fails, Fault, syntax_at, deep_at, applied, read, reads, Gives}
 use Rattle.cw_grammar.proofs.From.{from_reads, applied_map, from_first, from_other, first_one, second_of, some_applied}
+use Rattle.cw_grammar.proofs.Failing.{fails_where}
 use Rattle.cw_grammar.proofs.Flat.{flat, any_levels, flat_ok, flat_fails}
 use Rattle.cw_parse_items.proofs.Typed.{decl_singles, decl_arrays, decl_proc}
 use Rattle.cw_parse.proofs.Flat.{singles_flat, arrays_flat, worded_flat}
@@ -65,9 +65,7 @@ pub data_ok : (n : ℕ) (ts vs : List Item) (o : Read RawData) (d : RawData) →
 data_ok n ts vs o d e f = e ∙ rw f refl
 
 pub data_fails : (s : Stop) (n : ℕ) (ts : List Item) (o : Read RawData) → reads n (decl false) ts ≡ data_decl o → Fails s o → Fails s (reads n (decl false) ts)
-data_fails stops.Memory n ts o e f = tt
-data_fails (stops.Syntax j) n ts o e f = e ∙ rw f refl
-data_fails (stops.Deep j) n ts o e f = e ∙ rw f refl
+data_fails s n ts o e failed = fails_where s o (reads n (decl false) ts) (λ f is. e ∙ rw is refl) failed
 
 pub decl_starts : (p : Bool) (ts : List Item) (b : Bool) → starts ts (first (decl p)) ≡ b → starts ts (first (decl p <* symbol symbols.Semicolon)) ≡ b
 unfolding decl number_type worded_decl data_table overlay proc_behind ptag
@@ -80,6 +78,4 @@ type_any_fails s n ts h = flat_fails n a_type number_type ts s refl h
 
 pub outer_type_fails : (s : Stop) (n : ℕ) (ts : List Item) → starts ts (first number_type) ≡ true → Fails s (reads 0 number_type ts) → Fails s (reads n (decl false) ts)
 unfolding decl number_type
-outer_type_fails stops.Memory n ts t h = tt
-outer_type_fails (stops.Syntax j) n ts t h = let k = type_any_fails (stops.Syntax j) n ts h in rw t (rw k refl)
-outer_type_fails (stops.Deep j) n ts t h = let k = type_any_fails (stops.Deep j) n ts h in rw t (rw k refl)
+outer_type_fails s n ts t failed = fails_where s (reads n number_type ts) (reads n (decl false) ts) (λ f is. rw t (rw is refl)) (type_any_fails s n ts failed)

@@ -165,6 +165,11 @@ fn bits_assignment(
 ) -> Result<RawSimple, NoMemory>
     ensures { IfOk result (λ x. x ≡ AssignBits bits target value) }
 {
+    // (in an option first: the prover knows what the width holds where a type of the function holds it unboxed)
+    let bits = match Some(bits) {
+        Some(bits) => Boxed::new(alloc, bits)?,
+        None => return Err(NoMemory),
+    };
     let target = Boxed::new(alloc, target)?;
     let value = Boxed::new(alloc, value)?;
     Ok(RawSimple::AssignBits(bits, target, value))

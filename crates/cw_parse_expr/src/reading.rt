@@ -1,9 +1,9 @@
 //! Expressions, conditions and references from left to right.
 ghost use Rattle.cw_grammar.specs.Tokens.{behind};
 ghost use Rattle.cw_grammar.specs.Grammar.{a_pair, a_list, an_option, an_expr, a_cond, a_cand, a_cmp, a_sum, a_term, a_differ, a_union, a_mask};
-ghost use Rattle.cw_grammar.specs.Grammar.{a_prim, a_primary, a_ref, bracketed, subscript, indexed, called, located, conditional};
+ghost use Rattle.cw_grammar.specs.Grammar.{a_prim, a_primary, a_type, a_ref, bracketed, subscript, indexed, called, located, conditional};
 ghost use Rattle.cw_grammar.specs.Rules.{word as grammar_word, symbol, optional, commas, ◌*>◌, reference, worded, enclosed, named};
-ghost use Rattle.cw_grammar.specs.Rules.{primary, prim, mask, union, differ, term, sum, cmp, cand, condition, expr};
+ghost use Rattle.cw_grammar.specs.Rules.{number_type, primary, prim, mask, union, differ, term, sum, cmp, cand, condition, expr};
 ghost use Rattle.cw_grammar.specs.Reading.{Gives, read, inside};
 ghost use Rattle.cw_lex.specs.declared.token.Symbol.TheVariants.{Comma};
 ghost use Rattle.cw_operand.specs.Operands.{location, forced, in_brackets, addressed};
@@ -25,6 +25,7 @@ use cw_tree::expression::{
     RawCand, RawCmp, RawCond, RawDiffer, RawExpr, RawMask, RawPrim, RawPrimary, RawRef, RawSum,
     RawTerm, RawUnion,
 };
+use cw_tree::leaf::RawType;
 use cw_word::{Boxed, List};
 use std::alloc::Global;
 
@@ -224,6 +225,21 @@ fn read_location(
     Ok((RawPrimary::Location(position(word), reference), at))
 }
 
+// A type in a box. It stands in an option first: the prover knows what it holds where a type of the function holds one unboxed.
+fn read_boxed_type(
+    alloc: Global,
+    tokens: &[Token],
+    at: usize,
+) -> Result<(Boxed<RawType>, usize), Stop>
+    ensures { Gives (λ x. (x.0, behind tokens.now x.1)) result (read 0 a_type number_type (behind tokens.now at)) }
+{
+    let (kind, at) = read_type(tokens, at)?;
+    match Some(kind) {
+        Some(kind) => Ok((Boxed::new(alloc, kind)?, at)),
+        None => Err(Stop::Memory),
+    }
+}
+
 #[tactic(auto, unfolding(cw_grammar::specs::Rules::number_type, cw_grammar::specs::Rules::int, cw_grammar::specs::Rules::octal, cw_grammar::specs::Rules::sint))]
 #[cycle(reader)]
 fn read_forced(
@@ -234,10 +250,11 @@ fn read_forced(
 ) -> Result<(RawPrimary, usize), Stop>
     ensures { Gives (λ x. (x.0, behind tokens.now x.1)) result (read levels a_primary forced (behind tokens.now at)) }
 {
-    let (kind, at) = read_type(tokens, at)?;
+    let (kind, at) = read_boxed_type(alloc, tokens, at)?;
     let (_, at) = take_kind(tokens, at, TokenKind::Symbol(Symbol::Open))?;
     let (inner, at) = read_bracketed(alloc, levels, tokens, at)?;
-    Ok((RawPrimary::Forced(kind, Boxed::new(alloc, inner)?), at))
+    let inner = Boxed::new(alloc, inner)?;
+    Ok((RawPrimary::Forced(kind, inner), at))
 }
 
 #[tactic(auto, unfolding(cw_grammar::specs::Rules::worded))]

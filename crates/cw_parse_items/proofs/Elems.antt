@@ -11,11 +11,11 @@ use Rattle.cw_grammar.specs.Grammar.{a_pair, a_list, an_option, an_elem, a_prese
 use Rattle.cw_grammar.specs.Statements.{elem, preset, elems_behind, table_body}
 use Rattle.cw_grammar.specs.Table.{again_rule}
 use Rattle.cw_grammar.specs.declared.stop.Stop.{Stop}
-use Rattle.cw_grammar.specs.declared.stop.Stop.TheVariants as stops
-use Rattle.cw_grammar.specs.Reading.{Fault, syntax_at, deep_at, Read, Fails, ◌>>=◌, take_one, reads}
+use Rattle.cw_grammar.specs.Reading.{Fault, Read, Fails, ◌>>=◌, take_one, reads}
 use Rattle.cw_grammar.proofs.Again.{again_step}
 use Rattle.cw_parse_items.specs.Elems.{behind_elems}
 use Rattle.cw_grammar.proofs.Many.{shorter}
+use Rattle.cw_grammar.proofs.Failing.{fails_where}
 use Rattle.cw_grammar.proofs.Took.{took, took_shorter}
 
 abbrev pub More : Type 0
@@ -43,20 +43,17 @@ elem_goes_on es t e ts us vs total k n h so_far =
     let p = took (kinds.Symbol symbols.Semicolon) ts t us k in
     sym (elem_more es t e us vs p.1 n h) ∙ ap (λ (z : List Item). behind_elems es (more z)) (sym p.0) ∙ so_far
 
-elem_stops : (es : List RawElem) (t : Item) (us : List Item) (f : Fault) → same t.kind (kinds.Symbol symbols.Semicolon) ≡ true → starts us (kinds.Name ∷ []) ≡ true → reads 0 elem us ≡ Err f
-    → behind_elems es (more (t ∷ us)) ≡ Err f
-unfolding elems_behind elem
-elem_stops es t us f k n h = rw (opened_rule (t ∷ us), k, n, h) refl
+-- what fails behind a semicolon
+semicolon_fails : {A : Type 0} (s : Stop) (es : List RawElem) (t : Item) (ts us : List Item) (o : Read A) (total : More) → take_one (kinds.Symbol symbols.Semicolon) ts ≡ Ok (t, us)
+    → ((f : Fault) → same t.kind (kinds.Symbol symbols.Semicolon) ≡ true → o ≡ Err f → behind_elems es (more (t ∷ us)) ≡ Err f) → Fails s o → behind_elems es (more ts) ≡ total → Fails s total
+semicolon_fails s es t ts us o total k stops failed so_far =
+    let p = took (kinds.Symbol symbols.Semicolon) ts t us k in
+    fails_where s o total (λ f is. sym so_far ∙ ap (λ (z : List Item). behind_elems es (more z)) p.0 ∙ stops f p.1 is) failed
 
 pub elem_fails : (s : Stop) (es : List RawElem) (t : Item) (ts us : List Item) (total : More) → take_one (kinds.Symbol symbols.Semicolon) ts ≡ Ok (t, us) → starts us (kinds.Name ∷ []) ≡ true → Fails s (reads 0 elem us)
     → behind_elems es (more ts) ≡ total → Fails s total
-elem_fails stops.Memory es t ts us total k n h so_far = tt
-elem_fails (stops.Syntax j) es t ts us total k n h so_far =
-    let p = took (kinds.Symbol symbols.Semicolon) ts t us k in
-    sym so_far ∙ ap (λ (z : List Item). behind_elems es (more z)) p.0 ∙ elem_stops es t us (syntax_at j) p.1 n h
-elem_fails (stops.Deep j) es t ts us total k n h so_far =
-    let p = took (kinds.Symbol symbols.Semicolon) ts t us k in
-    sym so_far ∙ ap (λ (z : List Item). behind_elems es (more z)) p.0 ∙ elem_stops es t us (deep_at j) p.1 n h
+unfolding elems_behind elem
+elem_fails s es t ts us total k n failed so_far = semicolon_fails s es t ts us (reads 0 elem us) total k (λ f m is. rw (opened_rule (t ∷ us), m, n, is) refl) failed so_far
 
 -- Presets behind the last semicolon,
 preset_more : (es : List RawElem) (t : Item) (q : RawPresets) (us vs : List Item) → same t.kind (kinds.Symbol symbols.Semicolon) ≡ true → starts us (kinds.Name ∷ []) ≡ false → reads 0 preset us ≡ Ok (q, vs)
@@ -70,20 +67,10 @@ preset_ends es t q ts us vs total k n h so_far =
     let p = took (kinds.Symbol symbols.Semicolon) ts t us k in
     sym so_far ∙ ap (λ (z : List Item). behind_elems es (more z)) p.0 ∙ preset_more es t q us vs p.1 n h
 
-preset_stops : (es : List RawElem) (t : Item) (us : List Item) (f : Fault) → same t.kind (kinds.Symbol symbols.Semicolon) ≡ true → starts us (kinds.Name ∷ []) ≡ false → reads 0 preset us ≡ Err f
-    → behind_elems es (more (t ∷ us)) ≡ Err f
-unfolding elems_behind elem
-preset_stops es t us f k n h = rw (opened_rule (t ∷ us), k, n, h) refl
-
 pub preset_fails : (s : Stop) (es : List RawElem) (t : Item) (ts us : List Item) (total : More) → take_one (kinds.Symbol symbols.Semicolon) ts ≡ Ok (t, us) → starts us (kinds.Name ∷ []) ≡ false → Fails s (reads 0 preset us)
     → behind_elems es (more ts) ≡ total → Fails s total
-preset_fails stops.Memory es t ts us total k n h so_far = tt
-preset_fails (stops.Syntax j) es t ts us total k n h so_far =
-    let p = took (kinds.Symbol symbols.Semicolon) ts t us k in
-    sym so_far ∙ ap (λ (z : List Item). behind_elems es (more z)) p.0 ∙ preset_stops es t us (syntax_at j) p.1 n h
-preset_fails (stops.Deep j) es t ts us total k n h so_far =
-    let p = took (kinds.Symbol symbols.Semicolon) ts t us k in
-    sym so_far ∙ ap (λ (z : List Item). behind_elems es (more z)) p.0 ∙ preset_stops es t us (deep_at j) p.1 n h
+unfolding elems_behind elem
+preset_fails s es t ts us total k n failed so_far = semicolon_fails s es t ts us (reads 0 preset us) total k (λ f m is. rw (opened_rule (t ∷ us), m, n, is) refl) failed so_far
 
 -- or without one,
 starts_preset : (us : List Item) → starts us (kinds.Word words.Preset ∷ []) ≡ true → starts us (first preset) ≡ true
@@ -95,15 +82,10 @@ pub bare_preset_ends : (es : List RawElem) (q : RawPresets) (ts vs : List Item) 
 unfolding elems_behind
 bare_preset_ends es q ts vs total k n h so_far = sym so_far ∙ rw (opened_rule ts, k, starts_preset ts n, h, append-nil es) refl
 
-bare_preset_stops : (es : List RawElem) (ts : List Item) (f : Fault) → starts ts (kinds.Symbol symbols.Semicolon ∷ []) ≡ false → starts ts (kinds.Word words.Preset ∷ []) ≡ true → reads 0 preset ts ≡ Err f → behind_elems es (more ts) ≡ Err f
-unfolding elems_behind
-bare_preset_stops es ts f k n g = rw (opened_rule ts, k, starts_preset ts n, g) refl
-
 pub bare_preset_fails : (s : Stop) (es : List RawElem) (ts : List Item) (total : More) → starts ts (kinds.Symbol symbols.Semicolon ∷ []) ≡ false → starts ts (kinds.Word words.Preset ∷ []) ≡ true → Fails s (reads 0 preset ts)
     → behind_elems es (more ts) ≡ total → Fails s total
-bare_preset_fails stops.Memory es ts total k n h so_far = tt
-bare_preset_fails (stops.Syntax j) es ts total k n h so_far = sym so_far ∙ bare_preset_stops es ts (syntax_at j) k n h
-bare_preset_fails (stops.Deep j) es ts total k n h so_far = sym so_far ∙ bare_preset_stops es ts (deep_at j) k n h
+unfolding elems_behind
+bare_preset_fails s es ts total k n failed so_far = fails_where s (reads 0 preset ts) total (λ f is. sym so_far ∙ rw (opened_rule ts, k, starts_preset ts n, is) refl) failed
 
 -- or none.
 pub no_preset_ends : (es : List RawElem) (ts : List Item) (total : More) → starts ts (kinds.Symbol symbols.Semicolon ∷ []) ≡ false → starts ts (kinds.Word words.Preset ∷ []) ≡ false

@@ -10,9 +10,9 @@ use Rattle.cw_grammar.specs.Grammar.{a_from, a_position, a_list, a_place, again,
 use Rattle.cw_grammar.specs.Statements.{preset_value, place, presets}
 use Rattle.cw_grammar.specs.Table.{again_rule}
 use Rattle.cw_grammar.specs.declared.stop.Stop.{Stop}
-use Rattle.cw_grammar.specs.declared.stop.Stop.TheVariants as stops
-use Rattle.cw_grammar.specs.Reading.{Fault, syntax_at, deep_at, Read, Fails, ◌>>=◌, take_one, reads}
+use Rattle.cw_grammar.specs.Reading.{Fault, Read, Fails, ◌>>=◌, take_one, reads}
 use Rattle.cw_grammar.proofs.Again.{again_step}
+use Rattle.cw_grammar.proofs.Failing.{fails_where}
 use Rattle.cw_grammar.proofs.Places.{ends, after_place, at_place, value_place, void_place, comma_place, last_place, open_place}
 use Rattle.cw_lex.specs.declared.token.Token as token
 use Rattle.cw_grammar.specs.Tokens.{behind}
@@ -46,15 +46,10 @@ closes d e xs t ts us total k c h so_far =
 
 pub closes_fails : (s : Stop) (d e : ℕ) (xs : List RawPlace) (ts : List Item) (total : Read (List RawPlace)) → d ≡ suc e → starts ts (kinds.Symbol symbols.Comma ∷ []) ≡ false → Fails s (take_one (kinds.Symbol symbols.Close) ts)
     → after_place 0 d xs ts ≡ total → Fails s total
-closes_fails stops.Memory d e xs ts total k c h so_far = tt
-closes_fails (stops.Syntax j) d e xs ts total k c h so_far =
+closes_fails s d e xs ts total k c failed so_far =
     let a : ends 0 d xs ts ≡ total = sym (last_place 0 d xs ts c) ∙ so_far in
     let b : ends 0 (suc e) xs ts ≡ total = rw k at a in
-    sym (rw h at b)
-closes_fails (stops.Deep j) d e xs ts total k c h so_far =
-    let a : ends 0 d xs ts ≡ total = sym (last_place 0 d xs ts c) ∙ so_far in
-    let b : ends 0 (suc e) xs ts ≡ total = rw k at a in
-    sym (rw h at b)
+    fails_where s (take_one (kinds.Symbol symbols.Close) ts) total (λ f h. sym (rw h at b)) failed
 
 pub ends_there : (d : ℕ) (xs : List RawPlace) (ts : List Item) (total : Read (List RawPlace)) → d ≡ 0 → starts ts (kinds.Symbol symbols.Comma ∷ []) ≡ false → after_place 0 d xs ts ≡ total → total ≡ Ok (xs, ts)
 ends_there d xs ts total k c so_far =
@@ -68,9 +63,7 @@ value_stops d xs before ts f o v e = rw (again_step 0 (a_from a_position (a_list
 
 pub value_fails : (s : Stop) (d : ℕ) (xs : List RawPlace) (before : Position) (ts : List Item) (total : Read (List RawPlace)) → starts ts (kinds.Symbol symbols.Open ∷ []) ≡ false → starts ts (first preset_value) ≡ true → Fails s (reads 0 preset_value ts)
     → at_place 0 d xs before ts ≡ total → Fails s total
-value_fails stops.Memory d xs before ts total o v e so_far = tt
-value_fails (stops.Syntax j) d xs before ts total o v e so_far = sym so_far ∙ value_stops d xs before ts (syntax_at j) o v e
-value_fails (stops.Deep j) d xs before ts total o v e so_far = sym so_far ∙ value_stops d xs before ts (deep_at j) o v e
+value_fails s d xs before ts total o v failed so_far = fails_where s (reads 0 preset_value ts) total (λ f is. sym so_far ∙ value_stops d xs before ts f o v is) failed
 
 -- ---- the steps, with the bound of the depth
 

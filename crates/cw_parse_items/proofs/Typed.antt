@@ -12,16 +12,14 @@ use Rattle.cw_grammar.specs.Grammar.{Sort, a_from, an_option, a_type, a_data, a_
 use Rattle.cw_grammar.specs.Rules.{number_type, word, name, commas, ◌*>◌}
 use Rattle.cw_grammar.specs.Statements.{from, singles, arrays, item_data, citem, decl, param, procedure_param, spec_behind, proc_behind}
 use Rattle.cw_grammar.specs.declared.stop.Stop.{Stop}
-use Rattle.cw_grammar.specs.declared.stop.Stop.TheVariants as stops
 use Rattle.cw_grammar.specs.Reading.{Read, Fails, syntax_at, deep_at, ◌>>=◌, applied, reads}
+use Rattle.cw_grammar.proofs.Failing.{fails_where}
 use Rattle.cw_grammar.proofs.From.{from_first, from_other, first_one, second_of, applied_map, mapped_ok, some_applied}
 
 -- ---- forms
 
 pub mapped_fails : {A B : Type 0} (s : Stop) (f : A → B) (o : Read A) (total : Read B) → (o >>= λ y. Ok (f y.0, y.1)) ≡ total → Fails s o → Fails s total
-mapped_fails stops.Memory f o total e h = tt
-mapped_fails (stops.Syntax j) f o total e h = sym e ∙ rw h refl
-mapped_fails (stops.Deep j) f o total e h = sym e ∙ rw h refl
+mapped_fails s f o total e failed = fails_where s o total (λ k is. sym e ∙ rw is refl) failed
 
 pub mapped_reads : {A B : Type 0} (f : A → B) (o : Read A) (total : Read B) (x : A) (us : List Item) → (o >>= λ y. Ok (f y.0, y.1)) ≡ total → o ≡ Ok (x, us) → total ≡ Ok (f x, us)
 mapped_reads f o total x us e h = sym e ∙ rw h refl

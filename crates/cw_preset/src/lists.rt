@@ -1,7 +1,7 @@
 //! The words of preset lists.
-ghost use Rattle.std.specs.Prelude.{◌≡◌, ◌≤◌, ◌<◌, ◌+◌, ◌*◌, ◌^◌, ◌++◌, ◌∷◌, [], take, drop, nat_le, IfOk, OnOk};
+ghost use Rattle.std.specs.Prelude.{◌≡◌, ◌≤◌, ◌<◌, ◌+◌, ◌*◌, ◌^◌, ◌++◌, ◌∷◌, [], take, nat_le, IfOk, OnOk};
 ghost use Rattle.cw_data.specs.Data.{fits_area};
-ghost use Rattle.cw_data.specs.Presets.{behind_each, table_entries};
+ghost use Rattle.cw_data.specs.Presets.{table_entries};
 ghost use Rattle.cw_make_items.specs.things.Things.{amount_or_none, group_words, words_of_table};
 ghost use Rattle.cw_make_items.specs.scale.Kinds.{fraction_of, fraction_of_sint, element_fraction};
 ghost use Rattle.cw_amount.specs.Amounts.{octal_word};
@@ -10,7 +10,7 @@ ghost use Rattle.cw_preset.specs.Lists.{entry_words, entries_words, elements_wor
 
 use crate::stored::{Stored, words_of};
 use cw_amount::amount::{is_negative, octal_word, place_amount};
-use cw_data::presets::{array_words, table_words};
+use cw_data::presets::{array_words, behind, behind_each, table_words};
 use cw_make_items::types::{byte_within, short_within, width_of};
 use cw_table::table::Row;
 use cw_tree::items::{RawData, RawElem, RawGroup, RawPlace, RawPresets, RawTable};
@@ -143,27 +143,6 @@ fn front(words: usize, places: &[RawPlace]) -> &[RawPlace]
     } else {
         &places[..words]
     }
-}
-
-fn behind(words: usize, places: &[RawPlace]) -> &[RawPlace]
-    ensures { result.now ≡ drop words places.now }
-{
-    if words >= places.len() {
-        &[]
-    } else {
-        &places[words..]
-    }
-}
-
-fn behind_each<'a>(words: usize, names: &[RawName], places: &'a [RawPlace]) -> &'a [RawPlace]
-    ensures { result.now ≡ behind_each words names.now places.now }
-{
-    let mut rest = places;
-    for name in names {
-        let _ = name;
-        rest = behind(words, rest);
-    }
-    rest
 }
 
 fn hold(

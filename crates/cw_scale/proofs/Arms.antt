@@ -8,12 +8,12 @@ use Rattle.cw_tree.specs.declared.expression.RawExpr.TheVariants as expr
 use Rattle.cw_tree.specs.declared.expression.RawPrimary.TheVariants as prime
 use Rattle.cw_tree.specs.declared.expression.RawRef.TheVariants as ref
 use Rattle.cw_tree.specs.declared.expression.RawExpr.TheOpen as layer
-use Rattle.cw_tree.specs.declared.expression.RawExpr.TheOpen.{RawPrimary-F, RawRef-F}
-use Rattle.cw_tree.specs.declared.expression.RawExpr.{RawExpr, RawExpr-F, roll-RawExpr, map-RawExpr, fold-roll-RawExpr}
-use Rattle.cw_tree.specs.declared.expression.RawPrimary.{RawPrimary, roll-RawPrimary, map-RawPrimary, fold-roll-RawPrimary}
-use Rattle.cw_tree.specs.declared.expression.RawRef.{RawRef, out-RawRef, roll-RawRef, map-RawRef, fold-roll-RawRef, fold_out-RawRef}
+use Rattle.cw_tree.specs.declared.expression.RawExpr.TheOpen.{RawRef-F}
+use Rattle.cw_tree.specs.declared.expression.RawExpr.{RawExpr}
+use Rattle.cw_tree.specs.declared.expression.RawPrimary.{RawPrimary}
+use Rattle.cw_tree.specs.declared.expression.RawRef.{RawRef, out-RawRef, map-RawRef}
 use Rattle.cw_tree.specs.declared.expression.RawCand.{RawCand}
-use Rattle.cw_tree.specs.declared.expression.RawCmp.{RawCmp, out-RawCmp, fold_out-RawCmp}
+use Rattle.cw_tree.specs.declared.expression.RawCmp.{RawCmp, out-RawCmp}
 use Rattle.cw_tree.specs.declared.expression.RawCond.{RawCond}
 use Rattle.cw_tree.specs.declared.expression.RawDiffer.{RawDiffer}
 use Rattle.cw_tree.specs.declared.expression.RawMask.{RawMask}
@@ -27,76 +27,46 @@ use Rattle.cw_scale.specs.declared.fault.Rule.TheVariants as rule
 use Rattle.cw_scale.specs.declared.scales.Shape.{Shape}
 use Rattle.cw_scale.specs.Faults.{unless}
 use Rattle.cw_scale.specs.Types.{type_judged}
+use Rattle.cw_tree.proofs.Expressions.{of_comparison-out, of_expression-Choice, of_expression-Sum, of_primary-Bracket, of_primary-Call, of_primary-Forced, of_primary-Location, of_primary-Number, of_primary-Ref, of_reference-Bare, of_reference-One, of_reference-Two, of_reference-out}
 use Rattle.cw_scale.specs.Kinds.{kind_of, signature_of, fraction_of, fraction_of_kind}
 use Rattle.cw_scale.specs.TypeRules.{Judged, plain, number_shape, number_operand, fits_at, call_faults}
-use Rattle.cw_scale.specs.TypeRules.{expression_step, primary_step, reference_step, conjunction_step, comparison_step, condition_step}
-use Rattle.cw_scale.specs.TypeRules.{differ_step, mask_step, prim_step, sum_step, term_step, union_step}
+use Rattle.cw_scale.specs.TypeRules.{expression_step, primary_step, reference_step}
+use Rattle.cw_scale.proofs.Layers.{steps}
 use Rattle.cw_scale.specs.TypeRules.{expression, primary, reference, conjunction, comparison, condition, differ, union, mask, prim, sum, term}
 
 module _ (named : Named) where
-  -- of a layer whose parts are trees
-  rolled_expression : (x : RawExpr-F RawExpr RawPrimary RawRef RawCand RawCmp RawCond RawDiffer RawMask RawPrim RawSum RawTerm RawUnion)
-      → expression named (roll-RawExpr x) ≡ expression_step named (map-RawExpr RawExpr RawPrimary RawRef RawCand RawCmp RawCond RawDiffer RawMask RawPrim RawSum RawTerm RawUnion
-      Judged Judged Judged Judged Judged Judged Judged Judged Judged Judged Judged Judged
-      (expression named) (primary named) (reference named) (conjunction named) (comparison named) (condition named)
-      (differ named) (mask named) (prim named) (sum named) (term named) (union named) x)
-  rolled_expression =
-      fold-roll-RawExpr Judged Judged Judged Judged Judged Judged Judged Judged Judged Judged Judged Judged
-      (expression_step named) (primary_step named) (reference_step named) (conjunction_step named) (comparison_step named) (condition_step named)
-      (differ_step named) (mask_step named) (prim_step named) (sum_step named) (term_step named) (union_step named)
-
-  rolled_primary : (x : RawPrimary-F RawExpr RawPrimary RawRef RawCand RawCmp RawCond RawDiffer RawMask RawPrim RawSum RawTerm RawUnion)
-      → primary named (roll-RawPrimary x) ≡ primary_step named (map-RawPrimary RawExpr RawPrimary RawRef RawCand RawCmp RawCond RawDiffer RawMask RawPrim RawSum RawTerm RawUnion
-      Judged Judged Judged Judged Judged Judged Judged Judged Judged Judged Judged Judged
-      (expression named) (primary named) (reference named) (conjunction named) (comparison named) (condition named)
-      (differ named) (mask named) (prim named) (sum named) (term named) (union named) x)
-  rolled_primary =
-      fold-roll-RawPrimary Judged Judged Judged Judged Judged Judged Judged Judged Judged Judged Judged Judged
-      (expression_step named) (primary_step named) (reference_step named) (conjunction_step named) (comparison_step named) (condition_step named)
-      (differ_step named) (mask_step named) (prim_step named) (sum_step named) (term_step named) (union_step named)
-
-  rolled_reference : (x : RawRef-F RawExpr RawPrimary RawRef RawCand RawCmp RawCond RawDiffer RawMask RawPrim RawSum RawTerm RawUnion)
-      → reference named (roll-RawRef x) ≡ reference_step named (map-RawRef RawExpr RawPrimary RawRef RawCand RawCmp RawCond RawDiffer RawMask RawPrim RawSum RawTerm RawUnion
-      Judged Judged Judged Judged Judged Judged Judged Judged Judged Judged Judged Judged
-      (expression named) (primary named) (reference named) (conjunction named) (comparison named) (condition named)
-      (differ named) (mask named) (prim named) (sum named) (term named) (union named) x)
-  rolled_reference =
-      fold-roll-RawRef Judged Judged Judged Judged Judged Judged Judged Judged Judged Judged Judged Judged
-      (expression_step named) (primary_step named) (reference_step named) (conjunction_step named) (comparison_step named) (condition_step named)
-      (differ_step named) (mask_step named) (prim_step named) (sum_step named) (term_step named) (union_step named)
-
   choice-layer : (at : Position) (t : RawCond) (a : RawExpr) (b : RawExpr) → expression named (expr.Choice at t a b) ≡ expression_step named (layer.Choice at (condition named t) (expression named a) (expression named b))
-  choice-layer at t a b = ap (expression named) (sym (expr.rolls-Choice at t a b)) ∙ rolled_expression (layer.Choice at t a b)
+  choice-layer at t a b = of_expression-Choice (steps named) at t a b
 
   sum-layer : (s : RawSum) → expression named (expr.Sum s) ≡ expression_step named (layer.Sum (sum named s))
-  sum-layer s = ap (expression named) (sym (expr.rolls-Sum s)) ∙ rolled_expression (layer.Sum s)
+  sum-layer s = of_expression-Sum (steps named) s
 
   number-layer : (n : RawNumber) → primary named (prime.Number n) ≡ primary_step named (layer.Number n)
-  number-layer n = ap (primary named) (sym (prime.rolls-Number n)) ∙ rolled_primary (layer.Number n)
+  number-layer n = of_primary-Number (steps named) n
 
   location-layer : (at : Position) (x : RawRef) → primary named (prime.Location at x) ≡ primary_step named (layer.Location at (reference named x))
-  location-layer at x = ap (primary named) (sym (prime.rolls-Location at x)) ∙ rolled_primary (layer.Location at x)
+  location-layer at x = of_primary-Location (steps named) at x
 
   forced-layer : (t : RawType) (a : RawExpr) → primary named (prime.Forced t a) ≡ primary_step named (layer.Forced t (expression named a))
-  forced-layer t a = ap (primary named) (sym (prime.rolls-Forced t a)) ∙ rolled_primary (layer.Forced t a)
+  forced-layer t a = of_primary-Forced (steps named) t a
 
   bracket-layer : (at : Position) (a : RawExpr) → primary named (prime.Bracket at a) ≡ primary_step named (layer.Bracket at (expression named a))
-  bracket-layer at a = ap (primary named) (sym (prime.rolls-Bracket at a)) ∙ rolled_primary (layer.Bracket at a)
+  bracket-layer at a = of_primary-Bracket (steps named) at a
 
   ref-layer : (x : RawRef) → primary named (prime.Ref x) ≡ primary_step named (layer.Ref (reference named x))
-  ref-layer x = ap (primary named) (sym (prime.rolls-Ref x)) ∙ rolled_primary (layer.Ref x)
+  ref-layer x = of_primary-Ref (steps named) x
 
   call-layer : (n : RawName) (es : List RawExpr) → primary named (prime.Call n es) ≡ primary_step named (layer.Call n (map (expression named) es))
-  call-layer n es = ap (primary named) (sym (prime.rolls-Call n es)) ∙ rolled_primary (layer.Call n es)
+  call-layer n es = of_primary-Call (steps named) n es
 
   one-layer : (n : RawName) (a : RawExpr) → reference named (ref.One n a) ≡ reference_step named (layer.One n (expression named a))
-  one-layer n a = ap (reference named) (sym (ref.rolls-One n a)) ∙ rolled_reference (layer.One n a)
+  one-layer n a = of_reference-One (steps named) n a
 
   two-layer : (n : RawName) (a : RawExpr) (b : RawExpr) → reference named (ref.Two n a b) ≡ reference_step named (layer.Two n (expression named a) (expression named b))
-  two-layer n a b = ap (reference named) (sym (ref.rolls-Two n a b)) ∙ rolled_reference (layer.Two n a b)
+  two-layer n a b = of_reference-Two (steps named) n a b
 
   bare-layer : (at : Position) (a : RawExpr) → reference named (ref.Bare at a) ≡ reference_step named (layer.Bare at (expression named a))
-  bare-layer at a = ap (reference named) (sym (ref.rolls-Bare at a)) ∙ rolled_reference (layer.Bare at a)
+  bare-layer at a = of_reference-Bare (steps named) at a
 
   -- the scale of a comparison
   abbrev compared : (left right : RawSum) → ℕ
@@ -107,9 +77,7 @@ module _ (named : Named) where
       ((sum named (out-RawCmp e).left).faults (compared (out-RawCmp e).left (out-RawCmp e).right) first)
   comparison-layer e f first =
       ap (λ (j : Judged). j.faults f first)
-      (fold_out-RawCmp Judged Judged Judged Judged Judged Judged Judged Judged Judged Judged Judged Judged
-      (expression_step named) (primary_step named) (reference_step named) (conjunction_step named) (comparison_step named) (condition_step named)
-      (differ_step named) (mask_step named) (prim_step named) (sum_step named) (term_step named) (union_step named) e)
+      (of_comparison-out (steps named) e)
 
   -- ---- shapes
 
@@ -128,8 +96,8 @@ module _ (named : Named) where
   pub number_arm_shape : (e : RawPrimary) (k : RawNumber) (n : ℕ) (s : Shape) → e ≡ prime.Number k → n ≡ number_operand k.number → s ≡ number_shape n → s ≡ (primary named e).shape
   number_arm_shape e k n s is hn hs = hs ∙ ap number_shape hn ∙ ap (λ (j : Judged). j.shape) (sym (ap (primary named) is ∙ number-layer k))
 
-  pub forced_shape : (e : RawPrimary) (t : RawType) (a : RawExpr) (n : ℕ) (s : Shape) → e ≡ prime.Forced t a → n ≡ fraction_of t → s ≡ plain n → s ≡ (primary named e).shape
-  forced_shape e t a n s is hn hs = hs ∙ ap plain hn ∙ ap (λ (j : Judged). j.shape) (sym (ap (primary named) is ∙ forced-layer t a))
+  pub forced_shape : (e : RawPrimary) (t t' : RawType) (a : RawExpr) (n : ℕ) (s : Shape) → e ≡ prime.Forced t a → t' ≡ t → n ≡ fraction_of t' → s ≡ plain n → s ≡ (primary named e).shape
+  forced_shape e t t' a n s is same hn hs = hs ∙ ap plain (hn ∙ ap fraction_of same) ∙ ap (λ (j : Judged). j.shape) (sym (ap (primary named) is ∙ forced-layer t a))
 
   pub bracket_shape : (e : RawPrimary) (at : Position) (a a' : RawExpr) (x s : Shape) → e ≡ prime.Bracket at a → a' ≡ a → x ≡ (expression named a').shape → s ≡ plain x.natural
       → s ≡ (primary named e).shape
@@ -182,11 +150,11 @@ module _ (named : Named) where
   location_faults e f at x x' o0 o1 is same h =
       h ∙ ap (λ (k : RawRef). (reference named k).faults 0 o0) same ∙ ap (λ (j : Judged). j.faults f o0) (sym (ap (primary named) is ∙ location-layer at x))
 
-  pub forced_faults : (e : RawPrimary) (f : ℕ) (t : RawType) (a a' : RawExpr) (n : ℕ) (o0 o1 o2 : Option Fault) → e ≡ prime.Forced t a → a' ≡ a → n ≡ fraction_of t
-      → o1 ≡ type_judged t o0 → o2 ≡ (expression named a').faults n o1 → o2 ≡ (primary named e).faults f o0
-  forced_faults e f t a a' n o0 o1 o2 is same hn e1 e2 =
-      e2 ∙ ap₂ (λ (k : RawExpr) o. (expression named k).faults n o) same e1 ∙ ap (λ m. (expression named a).faults m (type_judged t o0)) hn
-      ∙ ap (λ (j : Judged). j.faults f o0) (sym (ap (primary named) is ∙ forced-layer t a))
+  pub forced_faults : (e : RawPrimary) (f : ℕ) (t t' : RawType) (a a' : RawExpr) (n : ℕ) (o0 o1 o2 : Option Fault) → e ≡ prime.Forced t a → t' ≡ t → a' ≡ a → n ≡ fraction_of t'
+      → o1 ≡ type_judged t' o0 → o2 ≡ (expression named a').faults n o1 → o2 ≡ (primary named e).faults f o0
+  forced_faults e f t t' a a' n o0 o1 o2 is same_type same hn e1 e2 =
+      e2 ∙ ap₂ (λ (k : RawExpr) o. (expression named k).faults n o) same e1 ∙ ap (λ m. (expression named a).faults m (type_judged t' o0)) hn
+      ∙ ap (λ (j : Judged). j.faults f o0) (sym (ap (primary named) (is ∙ ap (λ k. prime.Forced k a) (sym same_type)) ∙ forced-layer t' a))
 
   pub bracket_faults : (e : RawPrimary) (f : ℕ) (at : Position) (a a' : RawExpr) (o0 o1 : Option Fault) → e ≡ prime.Bracket at a → a' ≡ a → o1 ≡ (expression named a').faults f o0
       → o1 ≡ (primary named e).faults f o0
@@ -197,15 +165,11 @@ module _ (named : Named) where
   at_each_scale : (f : ℕ) (o : Option Fault) (x : RawRef-F Judged Judged Judged Judged Judged Judged Judged Judged Judged Judged Judged Judged)
       → (reference_step named x).faults 0 o ≡ (reference_step named x).faults f o
   at_each_scale f o (layer.Name n) = refl
-  at_each_scale f o (layer.One n a) = refl
-  at_each_scale f o (layer.Two n a b) = refl
-  at_each_scale f o (layer.Bare at a) = refl
+  at_each_scale f o _ = refl
 
   any_scale : (x : RawRef) (f : ℕ) (o : Option Fault) → (reference named x).faults 0 o ≡ (reference named x).faults f o
   any_scale x f o =
-      let layers = fold_out-RawRef Judged Judged Judged Judged Judged Judged Judged Judged Judged Judged Judged Judged
-      (expression_step named) (primary_step named) (reference_step named) (conjunction_step named) (comparison_step named)
-      (condition_step named) (differ_step named) (mask_step named) (prim_step named) (sum_step named) (term_step named) (union_step named) x in
+      let layers = of_reference-out (steps named) x in
       let parts = map-RawRef RawExpr RawPrimary RawRef RawCand RawCmp RawCond RawDiffer RawMask RawPrim RawSum RawTerm RawUnion
       Judged Judged Judged Judged Judged Judged Judged Judged Judged Judged Judged Judged
       (expression named) (primary named) (reference named) (conjunction named) (comparison named) (condition named)

@@ -5,19 +5,20 @@ use Rattle.std.proofs.lemmas.Bool.Decides.{nat_tests}
 use Rattle.cw_tree.specs.declared.leaf.RawSign.{RawSign}
 use Rattle.cw_tree.specs.declared.leaf.RawFactorSign.{RawFactorSign}
 use Rattle.cw_tree.specs.declared.expression.RawBits.{RawBits}
-use Rattle.cw_tree.specs.declared.expression.RawCand.{RawCand, out-RawCand, fold_out-RawCand}
-use Rattle.cw_tree.specs.declared.expression.RawCond.{RawCond, out-RawCond, fold_out-RawCond}
-use Rattle.cw_tree.specs.declared.expression.RawDiffer.{RawDiffer, out-RawDiffer, fold_out-RawDiffer}
-use Rattle.cw_tree.specs.declared.expression.RawMask.{RawMask, out-RawMask, fold_out-RawMask}
-use Rattle.cw_tree.specs.declared.expression.RawPrim.{RawPrim, out-RawPrim, fold_out-RawPrim}
-use Rattle.cw_tree.specs.declared.expression.RawSum.{RawSum, out-RawSum, fold_out-RawSum}
-use Rattle.cw_tree.specs.declared.expression.RawTerm.{RawTerm, out-RawTerm, fold_out-RawTerm}
-use Rattle.cw_tree.specs.declared.expression.RawUnion.{RawUnion, out-RawUnion, fold_out-RawUnion}
+use Rattle.cw_tree.specs.declared.expression.RawCand.{RawCand, out-RawCand}
+use Rattle.cw_tree.specs.declared.expression.RawCond.{RawCond, out-RawCond}
+use Rattle.cw_tree.specs.declared.expression.RawDiffer.{RawDiffer, out-RawDiffer}
+use Rattle.cw_tree.specs.declared.expression.RawMask.{RawMask, out-RawMask}
+use Rattle.cw_tree.specs.declared.expression.RawPrim.{RawPrim, out-RawPrim}
+use Rattle.cw_tree.specs.declared.expression.RawSum.{RawSum, out-RawSum}
+use Rattle.cw_tree.specs.declared.expression.RawTerm.{RawTerm, out-RawTerm}
+use Rattle.cw_tree.specs.declared.expression.RawUnion.{RawUnion, out-RawUnion}
 use Rattle.cw_scope.specs.declared.resolve.Named.{Named}
 use Rattle.cw_scale.specs.declared.fault.Fault.{Fault}
 use Rattle.cw_scale.specs.declared.scales.Shape.{Shape}
 use Rattle.cw_scale.specs.Faults.{both}
 use Rattle.cw_scale.specs.Types.{each_bits_judged}
+use Rattle.cw_tree.proofs.Expressions.{ExpressionSteps, expression_steps, of_condition-out, of_conjunction-out, of_differ-out, of_mask-out, of_prim-out, of_sum-out, of_term-out, of_union-out}
 use Rattle.cw_scale.specs.TypeRules.{Judged, plain, shape_from, logic_merged, logic_shape_from, each_at, scale_for, term_faults, logic_faults, expression_step, primary_step, reference_step, conjunction_step, comparison_step, condition_step, differ_step, mask_step, prim_step, sum_step, term_step, union_step, conjunction, comparison, condition, differ, union, mask, prim, primary, sum, term}
 use Rattle.cw_scale.proofs.Turns.{no_item, only_item, length_map, one_more, none_more}
 
@@ -82,35 +83,31 @@ prim_within j x bits all f shape before between after e o n a b c =
 
 -- ---- each rule
 
+-- what a rule makes of the parts
+abbrev pub steps : Named → ExpressionSteps Judged Judged Judged Judged Judged Judged Judged Judged Judged Judged Judged Judged
+steps named = expression_steps (expression_step named) (primary_step named) (reference_step named) (conjunction_step named) (comparison_step named) (condition_step named) (differ_step named) (mask_step named) (prim_step named) (sum_step named) (term_step named) (union_step named)
+
 module _ (named : Named) where
   pub differ-layer : (e : RawDiffer) → differ named e ≡ of_logic (map (union named) (out-RawDiffer e).operands)
-  differ-layer = fold_out-RawDiffer Judged Judged Judged Judged Judged Judged Judged Judged Judged Judged Judged Judged (expression_step named) (primary_step named) (reference_step named) (conjunction_step named) (comparison_step named) (condition_step named) (differ_step named)
-      (mask_step named) (prim_step named) (sum_step named) (term_step named) (union_step named)
+  differ-layer = of_differ-out (steps named)
 
   pub union-layer : (e : RawUnion) → union named e ≡ of_logic (map (mask named) (out-RawUnion e).operands)
-  union-layer = fold_out-RawUnion Judged Judged Judged Judged Judged Judged Judged Judged Judged Judged Judged Judged (expression_step named) (primary_step named) (reference_step named) (conjunction_step named) (comparison_step named) (condition_step named) (differ_step named)
-      (mask_step named) (prim_step named) (sum_step named) (term_step named) (union_step named)
+  union-layer = of_union-out (steps named)
 
   pub mask-layer : (e : RawMask) → mask named e ≡ of_logic (map (prim named) (out-RawMask e).operands)
-  mask-layer = fold_out-RawMask Judged Judged Judged Judged Judged Judged Judged Judged Judged Judged Judged Judged (expression_step named) (primary_step named) (reference_step named) (conjunction_step named) (comparison_step named) (condition_step named) (differ_step named)
-      (mask_step named) (prim_step named) (sum_step named) (term_step named) (union_step named)
+  mask-layer = of_mask-out (steps named)
 
   pub prim-layer : (e : RawPrim) → prim named e ≡ of_prim (out-RawPrim e).bits (primary named (out-RawPrim e).primary)
-  prim-layer = fold_out-RawPrim Judged Judged Judged Judged Judged Judged Judged Judged Judged Judged Judged Judged (expression_step named) (primary_step named) (reference_step named) (conjunction_step named) (comparison_step named) (condition_step named) (differ_step named)
-      (mask_step named) (prim_step named) (sum_step named) (term_step named) (union_step named)
+  prim-layer = of_prim-out (steps named)
 
   pub term-layer : (e : RawTerm) → term named e ≡ of_term (map (differ named) (out-RawTerm e).operands) (out-RawTerm e).operators
-  term-layer = fold_out-RawTerm Judged Judged Judged Judged Judged Judged Judged Judged Judged Judged Judged Judged (expression_step named) (primary_step named) (reference_step named) (conjunction_step named) (comparison_step named) (condition_step named) (differ_step named)
-      (mask_step named) (prim_step named) (sum_step named) (term_step named) (union_step named)
+  term-layer = of_term-out (steps named)
 
   pub sum-layer : (e : RawSum) → sum named e ≡ of_sum (out-RawSum e).sign (map (term named) (out-RawSum e).operands)
-  sum-layer = fold_out-RawSum Judged Judged Judged Judged Judged Judged Judged Judged Judged Judged Judged Judged (expression_step named) (primary_step named) (reference_step named) (conjunction_step named) (comparison_step named) (condition_step named) (differ_step named)
-      (mask_step named) (prim_step named) (sum_step named) (term_step named) (union_step named)
+  sum-layer = of_sum-out (steps named)
 
   pub conjunction-layer : (e : RawCand) (f : ℕ) (first : Option Fault) → (conjunction named e).faults f first ≡ each_at 0 (map (comparison named) (out-RawCand e).operands) first
-  conjunction-layer e f first = ap (λ j. j.faults f first) (fold_out-RawCand Judged Judged Judged Judged Judged Judged Judged Judged Judged Judged Judged Judged (expression_step named) (primary_step named) (reference_step named) (conjunction_step named) (comparison_step named) (condition_step named) (differ_step named)
-      (mask_step named) (prim_step named) (sum_step named) (term_step named) (union_step named) e)
+  conjunction-layer e f first = ap (λ j. j.faults f first) (of_conjunction-out (steps named) e)
 
   pub condition-layer : (e : RawCond) (f : ℕ) (first : Option Fault) → (condition named e).faults f first ≡ each_at 0 (map (conjunction named) (out-RawCond e).operands) first
-  condition-layer e f first = ap (λ j. j.faults f first) (fold_out-RawCond Judged Judged Judged Judged Judged Judged Judged Judged Judged Judged Judged Judged (expression_step named) (primary_step named) (reference_step named) (conjunction_step named) (comparison_step named) (condition_step named) (differ_step named)
-      (mask_step named) (prim_step named) (sum_step named) (term_step named) (union_step named) e)
+  condition-layer e f first = ap (λ j. j.faults f first) (of_condition-out (steps named) e)

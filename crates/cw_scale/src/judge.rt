@@ -238,6 +238,7 @@ fn judge_primary(e: &RawPrimary, named: &Named, scale: u8, first: &mut Option<Fa
         RawPrimary::Literal(_) | RawPrimary::Text(..) => {}
         RawPrimary::Location(_, r) => judge_reference(r.get(), named, first),
         RawPrimary::Forced(t, e) => {
+            let t = t.get();
             judge_type(t, first);
             judge_expression(e.get(), named, fraction_of(t), first);
         }

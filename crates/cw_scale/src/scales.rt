@@ -218,7 +218,7 @@ pub(crate) fn primary_shape(e: &RawPrimary, named: &Named) -> Shape
         | RawPrimary::Literal(_)
         | RawPrimary::Text(..)
         | RawPrimary::Location(..) => plain(0),
-        RawPrimary::Forced(scale, _) => plain(fraction_of(scale)),
+        RawPrimary::Forced(scale, _) => plain(fraction_of(scale.get())),
         RawPrimary::Bracket(_, e) => {
             let shape = expression_shape(e.get(), named);
             plain(shape.natural)

@@ -2,7 +2,7 @@
 use Rattle.std.proofs.Common.{◌≡◌, List, [], ◌∷◌, ◌++◌, map, Bool, true, false, cond, Option, Some, None, refl, sym, subst, ◌==◌}
 use Rattle.cw_tree.specs.declared.leaf.RawName.{RawName}
 use Rattle.cw_table.specs.declared.table.Row.{Row}
-use Rattle.cw_table.specs.Earliest.{IsEarliest}
+use Rattle.cw_table.specs.Earliest.{IsEarliest, with_first}
 use Rattle.cw_table.proofs.Earliest.{IsOrder, order_by, keeps_nothing, keeps_one, keeps_both}
 use Rattle.cw_facts.specs.declared.fact.Fact.{Fact, Fact-F, map-Fact}
 use Rattle.cw_facts.specs.declared.fact.Fact.TheFolds.{fold-roll-Fact, ind-Fact}
@@ -57,6 +57,15 @@ pub told_both : (a b : Judgement) → Told a → Told b → Told (both a b)
 unfolding Told
 told_both a b h k = (h.0 ++ k.0, tells_both a b h.0 k.0 h.1 k.1)
 
+-- what tells its faults takes none away
+nothing_first : (x : Option Fault) (told : List Fault) → with_first comes_before x told ≡ [] → x ≡ None
+nothing_first None told e = refl
+nothing_first (Some f) told e = absurd cc
+
+pub told_keeps : (j : Judgement) → Told j → (x : Option Fault) → j x ≡ None → x ≡ None
+unfolding Told
+told_keeps j h x e = nothing_first x h.0 (subst (IsEarliest comes_before (with_first comes_before x h.0)) e (h.1.earliest x))
+
 -- ---- names
 
 use_told : (o : Option Declaration) (u : Use) → Told (use_faults o u)
@@ -89,7 +98,7 @@ fact_told : (f : Fact) → FactTold f
 fact_told = ind-Fact FactTold (λ x y is.
     subst SaidTold (sym (fold-roll-Fact Said said_step x)) (subst (λ z. SaidTold (said_step (map-Fact Fact Said said z))) is (said_told y)))
 
-facts_told : (facts : List Fact) (env : Environment) → Told (all_faults env (map said facts))
+pub facts_told : (facts : List Fact) (env : Environment) → Told (all_faults env (map said facts))
 facts_told [] env = told_fine
 facts_told (f ∷ fs) env = told_both ((said f).faults env) (all_faults env (map said fs)) (fact_told f env) (facts_told fs env)
 
@@ -100,7 +109,7 @@ wrong_if_told None n = told_fine
 wrong_if_told (Some r) n = told_wrong r n
 
 module _ (signatures : List (Row Signature)) where
-  definition_told : (o : Option Declaration) (d : Declaration) → Told (definition_faults signatures o d)
+  pub definition_told : (o : Option Declaration) (d : Declaration) → Told (definition_faults signatures o d)
   definition_told None d = told_fine
   definition_told (Some listed) d = wrong_if_told (broken_rule listed.kind d.kind (same_specified signatures listed.name.at.token d.name.at.token)) d.name
 
@@ -132,7 +141,7 @@ module _ (signatures : List (Row Signature)) where
       subst DefinedTold (sym (fold-roll-Fact (Defined signatures) (defined_step signatures) x))
       (subst (λ z. DefinedTold (defined_step signatures (map-Fact Fact (Defined signatures) (defined signatures) z))) is (defined_told y)))
 
-  listed_told : (facts : List Fact) (cs : List Declaration) → Told (each_listed signatures cs (map (defined signatures) facts))
+  pub listed_told : (facts : List Fact) (cs : List Declaration) → Told (each_listed signatures cs (map (defined signatures) facts))
   listed_told [] cs = told_fine
   listed_told (f ∷ fs) cs = told_both ((defined signatures f).listed cs) (each_listed signatures cs (map (defined signatures) fs)) ((definition_of_told f).listed cs) (listed_told fs cs)
 

@@ -3,16 +3,14 @@ use Rattle.std.proofs.Common.{◌≡◌, ℕ, zero, suc, ◌-◌, ◌<◌, Bool,
 use Rattle.std.proofs.lemmas.List.{append-nil}
 use Rattle.cw_grammar.specs.Tokens.{Item}
 use Rattle.cw_grammar.specs.declared.stop.Stop.{Stop}
-use Rattle.cw_grammar.specs.declared.stop.Stop.TheVariants as stops
-use Rattle.cw_grammar.specs.Reading.{Fault, Read, Fails, syntax_at, deep_at, ◌>>=◌, repeat}
+use Rattle.cw_grammar.specs.Reading.{Fault, Read, Fails, ◌>>=◌, repeat}
+use Rattle.cw_grammar.proofs.Failing.{fails_where}
 use Rattle.cw_series.specs.Series.{made}
 
 -- ---- one behind the other
 
 pub then_fails : {A B : Type 0} (e : Stop) (o : Read A) (f : A × List Item → Read B) → Fails e o → Fails e (o >>= f)
-then_fails stops.Memory o f h = tt
-then_fails (stops.Syntax n) o f h = rw h refl
-then_fails (stops.Deep n) o f h = rw h refl
+then_fails e o f failed = fails_where e o (o >>= f) (λ k is. rw is refl) failed
 
 pub after_fails : {A B : Type 0} (e : Stop) (o : Read A) (f : A × List Item → Read B) (x : A × List Item) → o ≡ Ok x → Fails e (f x) → Fails e (o >>= f)
 after_fails e o f x p h = rw p h
@@ -62,6 +60,4 @@ item_fault into begins item s ts total (suc k) f z b e h = sym (rw (b, e) at h)
 
 pub item_fails : {S X : Type 0} (e : Stop) (into : S → List X → S) (begins : List Item → Bool) (item : List Item → Read X) (s : S) (ts : List Item) (total : Read S) (k : ℕ)
     → 0 < k → begins ts ≡ true → Fails e (item ts) → collected into s (repeat k begins item ts) ≡ total → Fails e total
-item_fails stops.Memory into begins item s ts total k z b f h = tt
-item_fails (stops.Syntax n) into begins item s ts total k z b f h = item_fault into begins item s ts total k (syntax_at n) z b f h
-item_fails (stops.Deep n) into begins item s ts total k z b f h = item_fault into begins item s ts total k (deep_at n) z b f h
+item_fails e into begins item s ts total k z b failed h = fails_where e (item ts) total (λ f is. item_fault into begins item s ts total k f z b is h) failed

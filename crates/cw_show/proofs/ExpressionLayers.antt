@@ -1,75 +1,61 @@
 -- The canonical tokens of expressions by their first layer, and added to a text one after another.
-use Rattle.std.proofs.Common.{◌≡◌, ℕ, suc, ◌+◌, ◌≤◌, List, [], ◌∷◌, ◌++◌, refl, sym, ap, ap₂, ◌∙◌, map, drop, length, Option, Some, None}
-use Rattle.std.proofs.lemmas.List.{drop_all}
-use Rattle.std.specs.Prelude.{slice_get}
-use Rattle.cw_lex.specs.declared.token.Word.{Word}
+use Rattle.std.proofs.Common.{◌≡◌, ℕ, ◌+◌, List, [], ◌∷◌, ◌++◌, sym, ap, ap₂, ◌∙◌, map}
 use Rattle.cw_lex.specs.declared.token.Word.TheVariants as words
 use Rattle.cw_lex.specs.declared.token.Symbol.TheVariants as symbols
 use Rattle.cw_tree.specs.declared.leaf.Position.{Position}
 use Rattle.cw_tree.specs.declared.leaf.RawName.{RawName}
-use Rattle.cw_tree.specs.declared.leaf.RawCompareSign.{RawCompareSign}
-use Rattle.cw_tree.specs.declared.leaf.RawSign.{RawSign}
-use Rattle.cw_tree.specs.declared.leaf.RawFactorSign.{RawFactorSign}
 use Rattle.cw_tree.specs.declared.expression.RawBits.{RawBits}
 use Rattle.cw_tree.specs.declared.expression.RawExpr.TheVariants as expr_tree
 use Rattle.cw_tree.specs.declared.expression.RawRef.TheVariants as ref_tree
-use Rattle.cw_tree.specs.declared.expression.RawExpr.TheOpen as layer
-use Rattle.cw_tree.specs.declared.expression.RawExpr.{RawExpr, out-RawExpr, roll-RawExpr, fold_out-RawExpr, fold-roll-RawExpr}
-use Rattle.cw_tree.specs.declared.expression.RawPrimary.{RawPrimary, out-RawPrimary, roll-RawPrimary, fold_out-RawPrimary, fold-roll-RawPrimary}
-use Rattle.cw_tree.specs.declared.expression.RawRef.{RawRef, out-RawRef, roll-RawRef, fold_out-RawRef, fold-roll-RawRef}
-use Rattle.cw_tree.specs.declared.expression.RawCand.{RawCand, out-RawCand, roll-RawCand, fold_out-RawCand, fold-roll-RawCand}
-use Rattle.cw_tree.specs.declared.expression.RawCmp.{RawCmp, out-RawCmp, roll-RawCmp, fold_out-RawCmp, fold-roll-RawCmp}
-use Rattle.cw_tree.specs.declared.expression.RawCond.{RawCond, out-RawCond, roll-RawCond, fold_out-RawCond, fold-roll-RawCond}
-use Rattle.cw_tree.specs.declared.expression.RawDiffer.{RawDiffer, out-RawDiffer, roll-RawDiffer, fold_out-RawDiffer, fold-roll-RawDiffer}
-use Rattle.cw_tree.specs.declared.expression.RawMask.{RawMask, out-RawMask, roll-RawMask, fold_out-RawMask, fold-roll-RawMask}
-use Rattle.cw_tree.specs.declared.expression.RawPrim.{RawPrim, out-RawPrim, roll-RawPrim, fold_out-RawPrim, fold-roll-RawPrim}
-use Rattle.cw_tree.specs.declared.expression.RawSum.{RawSum, out-RawSum, roll-RawSum, fold_out-RawSum, fold-roll-RawSum}
-use Rattle.cw_tree.specs.declared.expression.RawTerm.{RawTerm, out-RawTerm, roll-RawTerm, fold_out-RawTerm, fold-roll-RawTerm}
-use Rattle.cw_tree.specs.declared.expression.RawUnion.{RawUnion, out-RawUnion, roll-RawUnion, fold_out-RawUnion, fold-roll-RawUnion}
-use Rattle.cw_show.specs.Spelling.{Spelling, word, symbol, with_token, with_tokens}
-use Rattle.cw_show.specs.Canonical.{Tokens, name, add_symbol, multiply_symbol, compare_symbol, sign_tokens, behind_each, between, behind_operators, operation, joined, comma, indexed}
-use Rattle.cw_show.specs.ExpressionTokens.{bits_tokens, operator_at, add_at, multiply_at, expr_step, primary_step, ref_step, cand_step, cmp_step, cond_step, differ_step, mask_step, prim_step, sum_step, term_step, union_step, expr_tokens, primary_tokens, ref_tokens, cand_tokens, cmp_tokens, cond_tokens, differ_tokens, mask_tokens, prim_tokens, sum_tokens, term_tokens, union_tokens}
+use Rattle.cw_tree.specs.declared.expression.RawExpr.{RawExpr}
+use Rattle.cw_tree.specs.declared.expression.RawRef.{RawRef}
+use Rattle.cw_tree.specs.declared.expression.RawCand.{RawCand, out-RawCand}
+use Rattle.cw_tree.specs.declared.expression.RawCmp.{RawCmp, out-RawCmp}
+use Rattle.cw_tree.specs.declared.expression.RawCond.{RawCond, out-RawCond}
+use Rattle.cw_tree.specs.declared.expression.RawDiffer.{RawDiffer, out-RawDiffer}
+use Rattle.cw_tree.specs.declared.expression.RawMask.{RawMask, out-RawMask}
+use Rattle.cw_tree.specs.declared.expression.RawPrim.{RawPrim, out-RawPrim}
+use Rattle.cw_tree.specs.declared.expression.RawSum.{RawSum, out-RawSum}
+use Rattle.cw_tree.specs.declared.expression.RawTerm.{RawTerm, out-RawTerm}
+use Rattle.cw_tree.specs.declared.expression.RawUnion.{RawUnion, out-RawUnion}
+use Rattle.cw_tree.proofs.Expressions.{ExpressionSteps, expression_steps, of_comparison-out, of_condition-out, of_conjunction-out, of_differ-out, of_expression-Choice, of_mask-out, of_prim-out, of_reference-Two, of_sum-out, of_term-out, of_union-out}
+use Rattle.cw_show.specs.Spelling.{word, symbol, with_token, with_tokens}
+use Rattle.cw_show.specs.Canonical.{Tokens, name, add_symbol, multiply_symbol, compare_symbol, sign_tokens, between, operation, joined, comma}
+use Rattle.cw_show.specs.ExpressionTokens.{bits_tokens, expr_step, primary_step, ref_step, cand_step, cmp_step, cond_step, differ_step, mask_step, prim_step, sum_step, term_step, union_step, expr_tokens, primary_tokens, ref_tokens, cand_tokens, cmp_tokens, cond_tokens, differ_tokens, mask_tokens, prim_tokens, sum_tokens, term_tokens, union_tokens}
 use Rattle.cw_show.proofs.Adding.{added_in_order}
 
+abbrev steps : ExpressionSteps Tokens Tokens Tokens Tokens Tokens Tokens Tokens Tokens Tokens Tokens Tokens Tokens
+steps = expression_steps expr_step primary_step ref_step cand_step cmp_step cond_step differ_step mask_step prim_step sum_step term_step union_step
+
 pub cond-layer : (x : RawCond) → cond_tokens x ≡ between (word words.Or) (map cand_tokens (out-RawCond x).operands)
-cond-layer = fold_out-RawCond Tokens Tokens Tokens Tokens Tokens Tokens Tokens Tokens Tokens Tokens Tokens Tokens
-    expr_step primary_step ref_step cand_step cmp_step cond_step differ_step mask_step prim_step sum_step term_step union_step
+cond-layer = of_condition-out steps
 
 pub cand-layer : (x : RawCand) → cand_tokens x ≡ between (word words.And) (map cmp_tokens (out-RawCand x).operands)
-cand-layer = fold_out-RawCand Tokens Tokens Tokens Tokens Tokens Tokens Tokens Tokens Tokens Tokens Tokens Tokens
-    expr_step primary_step ref_step cand_step cmp_step cond_step differ_step mask_step prim_step sum_step term_step union_step
+cand-layer = of_conjunction-out steps
 
 pub differ-layer : (x : RawDiffer) → differ_tokens x ≡ between (word words.Differ) (map union_tokens (out-RawDiffer x).operands)
-differ-layer = fold_out-RawDiffer Tokens Tokens Tokens Tokens Tokens Tokens Tokens Tokens Tokens Tokens Tokens Tokens
-    expr_step primary_step ref_step cand_step cmp_step cond_step differ_step mask_step prim_step sum_step term_step union_step
+differ-layer = of_differ-out steps
 
 pub union-layer : (x : RawUnion) → union_tokens x ≡ between (word words.Union) (map mask_tokens (out-RawUnion x).operands)
-union-layer = fold_out-RawUnion Tokens Tokens Tokens Tokens Tokens Tokens Tokens Tokens Tokens Tokens Tokens Tokens
-    expr_step primary_step ref_step cand_step cmp_step cond_step differ_step mask_step prim_step sum_step term_step union_step
+union-layer = of_union-out steps
 
 pub mask-layer : (x : RawMask) → mask_tokens x ≡ between (word words.Mask) (map prim_tokens (out-RawMask x).operands)
-mask-layer = fold_out-RawMask Tokens Tokens Tokens Tokens Tokens Tokens Tokens Tokens Tokens Tokens Tokens Tokens
-    expr_step primary_step ref_step cand_step cmp_step cond_step differ_step mask_step prim_step sum_step term_step union_step
+mask-layer = of_mask-out steps
 
 pub cmp-layer : (x : RawCmp) → cmp_tokens x ≡ sum_tokens (out-RawCmp x).left ++ compare_symbol (out-RawCmp x).operator.op ∷ sum_tokens (out-RawCmp x).right
-cmp-layer = fold_out-RawCmp Tokens Tokens Tokens Tokens Tokens Tokens Tokens Tokens Tokens Tokens Tokens Tokens
-    expr_step primary_step ref_step cand_step cmp_step cond_step differ_step mask_step prim_step sum_step term_step union_step
+cmp-layer = of_comparison-out steps
 
 pub prim-layer : (x : RawPrim) → prim_tokens x ≡ joined (map bits_tokens (out-RawPrim x).bits) ++ primary_tokens (out-RawPrim x).primary
-prim-layer = fold_out-RawPrim Tokens Tokens Tokens Tokens Tokens Tokens Tokens Tokens Tokens Tokens Tokens Tokens
-    expr_step primary_step ref_step cand_step cmp_step cond_step differ_step mask_step prim_step sum_step term_step union_step
+prim-layer = of_prim-out steps
 
 pub sum-layer : (x : RawSum) → sum_tokens x ≡ sign_tokens (out-RawSum x).sign ++ operation (map (λ s. add_symbol s.op) (out-RawSum x).operators) (map term_tokens (out-RawSum x).operands)
-sum-layer = fold_out-RawSum Tokens Tokens Tokens Tokens Tokens Tokens Tokens Tokens Tokens Tokens Tokens Tokens
-    expr_step primary_step ref_step cand_step cmp_step cond_step differ_step mask_step prim_step sum_step term_step union_step
+sum-layer = of_sum-out steps
 
 pub term-layer : (x : RawTerm) → term_tokens x ≡ operation (map (λ s. multiply_symbol s.op) (out-RawTerm x).operators) (map differ_tokens (out-RawTerm x).operands)
-term-layer = fold_out-RawTerm Tokens Tokens Tokens Tokens Tokens Tokens Tokens Tokens Tokens Tokens Tokens Tokens
-    expr_step primary_step ref_step cand_step cmp_step cond_step differ_step mask_step prim_step sum_step term_step union_step
+term-layer = of_term-out steps
 
 pub choice-layer : (at : Position) (c : RawCond) (a b : RawExpr) → expr_tokens (expr_tree.Choice at c a b) ≡ word words.If ∷ (cond_tokens c ++ word words.Then ∷ (expr_tokens a ++ word words.Else ∷ expr_tokens b))
-choice-layer at c a b = ap expr_tokens (sym (expr_tree.rolls-Choice at c a b)) ∙ fold-roll-RawExpr Tokens Tokens Tokens Tokens Tokens Tokens Tokens Tokens Tokens Tokens Tokens Tokens
-    expr_step primary_step ref_step cand_step cmp_step cond_step differ_step mask_step prim_step sum_step term_step union_step (layer.Choice at c a b)
+choice-layer at c a b = of_expression-Choice steps at c a b
 
 -- ---- tokens added one after another
 
@@ -102,8 +88,7 @@ prim_added x bits o0 o1 o2 eb e1 e2 =
     ∙ ap (with_tokens o0) (sym (prim-layer x))
 
 pub two-layer : (f : RawName) (a b : RawExpr) → ref_tokens (ref_tree.Two f a b) ≡ name f.name ∷ symbol symbols.OpenSquare ∷ (expr_tokens a ++ comma ∷ (expr_tokens b ++ symbol symbols.CloseSquare ∷ []))
-two-layer f a b = ap ref_tokens (sym (ref_tree.rolls-Two f a b)) ∙ fold-roll-RawRef Tokens Tokens Tokens Tokens Tokens Tokens Tokens Tokens Tokens Tokens Tokens Tokens
-    expr_step primary_step ref_step cand_step cmp_step cond_step differ_step mask_step prim_step sum_step term_step union_step (layer.Two f a b)
+two-layer f a b = of_reference-Two steps f a b
 
 pub two_added : (r : RawRef) (f : RawName) (a a' b b' : RawExpr) (o0 o1 o2 o3 o4 o5 o6 : List ℕ) → r ≡ ref_tree.Two f a b → a' ≡ a → b' ≡ b
     → o1 ≡ with_token o0 (name f.name) → o2 ≡ with_token o1 (symbol symbols.OpenSquare) → o3 ≡ with_tokens o2 (expr_tokens a') → o4 ≡ with_token o3 comma → o5 ≡ with_tokens o4 (expr_tokens b') → o6 ≡ with_token o5 (symbol symbols.CloseSquare)

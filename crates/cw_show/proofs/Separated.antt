@@ -1,5 +1,5 @@
 -- A token that is written with a separator behind it is the longest item there.
-use Rattle.std.proofs.Common.{◌≡◌, ℕ, zero, suc, ◌+◌, ◌<◌, ◌≤◌, Bool, true, false, cond, not, ◌||◌, ◌&&◌, ◌==◌, nat_lt, nat_le, List, [], ◌∷◌, ◌++◌, map, length, take, drop, Option, Some, None, refl, sym, ap, ap₂, subst, ◌∙◌, arith, append_assoc}
+use Rattle.std.proofs.Common.{◌≡◌, ℕ, suc, ◌+◌, ◌<◌, Bool, true, false, cond, ◌==◌, nat_lt, List, [], ◌∷◌, ◌++◌, map, length, take, drop, Option, Some, None, refl, ap, subst, ◌∙◌, arith, append_assoc}
 use Rattle.std.specs.Prelude.{All}
 use Rattle.std.specs.List.{prefix_len, list_all}
 use Rattle.std.specs.Char.{is_ascii_alphabetic, is_ascii_alphanumeric, is_ascii_digit}
@@ -13,14 +13,14 @@ use Rattle.cw_lex.specs.declared.token.Word.{Word}
 use Rattle.cw_lex.specs.declared.token.Word.TheVariants as words
 use Rattle.cw_lex.specs.declared.token.Symbol.{Symbol}
 use Rattle.cw_lex.specs.declared.token.Symbol.TheVariants as symbols
-use Rattle.cw_lex.specs.Items.{is_separator, is_plain, word_of, bare, IsIdentifier, letter_first, IsNumber, whole, pointed, AreDigits, IsQuotable, empty, plain, pair, between_quotes, IsItem, IsLongest, is_literal_byte, keeps_limit, no_separator, of_character}
+use Rattle.cw_lex.specs.Items.{is_separator, word_of, bare, IsIdentifier, letter_first, IsNumber, whole, pointed, IsQuotable, empty, plain, pair, between_quotes, IsItem, IsLongest, is_literal_byte, keeps_limit, no_separator, of_character}
 use Rattle.cw_lex.specs.Found.{found, word_or_name, number, fraction, number_of, text_end, of_kind}
-use Rattle.cw_lex.specs.Lexical.{Lexeme, Lexes, at_end, a_gap, a_token, separator as separator_gap, IsGap, first_place, line_behind, at_behind, is_token, is_semicolon}
+use Rattle.cw_lex.specs.Lexical.{Lexeme, Lexes, at_end, a_gap, a_token, separator as separator_gap, first_place, line_behind, at_behind, is_semicolon}
 use Rattle.cw_lex.proofs.Lists.{every_stop, cut}
 use Rattle.cw_lex.proofs.Longest.{FoundOrNot}
 use Rattle.cw_lex.proofs.Marks.{found_is}
-use Rattle.cw_show.specs.Spelling.{Spelling, word, symbol, word_text, symbol_text, separator, text_of}
-use Rattle.cw_show.specs.Canonical.{name, literal}
+use Rattle.cw_show.specs.Spelling.{Spelling, word_text, symbol_text, separator, text_of}
+use Rattle.cw_show.specs.Canonical.{literal}
 use Rattle.cw_show.specs.Lexing.{stands_alone, IsSpelled, a_word, a_symbol, a_name, a_number, a_string, a_literal, NoComment, spelling}
 
 -- what stands behind a token
@@ -79,188 +79,18 @@ name_longest _ (letter_first {c = c} {w = w} a e n) d rest s =
 pub word_is : (k : Word) → word_of (word_text k) ≡ Some k
 unfolding word_of
 word_is words.Absolute = refl
-word_is words.And = refl
-word_is words.Answer = refl
-word_is words.Array = refl
-word_is words.Begin = refl
-word_is words.Bits = refl
-word_is words.Code = refl
-word_is words.Comment = refl
-word_is words.Common = refl
-word_is words.Define = refl
-word_is words.Delete = refl
-word_is words.Differ = refl
-word_is words.Do = refl
-word_is words.Else = refl
-word_is words.End = refl
-word_is words.External = refl
-word_is words.Finish = refl
-word_is words.Fixed = refl
-word_is words.Floating = refl
-word_is words.For = refl
-word_is words.Goto = refl
-word_is words.If = refl
-word_is words.Integer = refl
-word_is words.Label = refl
-word_is words.Library = refl
-word_is words.Literal = refl
-word_is words.Location = refl
-word_is words.Mask = refl
-word_is words.Octal = refl
-word_is words.Or = refl
-word_is words.Overlay = refl
-word_is words.Preset = refl
-word_is words.Procedure = refl
-word_is words.Recursive = refl
-word_is words.Segment = refl
-word_is words.Step = refl
-word_is words.Switch = refl
-word_is words.Table = refl
-word_is words.Then = refl
-word_is words.Union = refl
-word_is words.Unsigned = refl
-word_is words.Until = refl
-word_is words.Value = refl
-word_is words.While = refl
-word_is words.With = refl
+word_is _ = refl
 
 word_found : (k : Word) (d : ℕ) (rest : List ℕ) → stands_alone k ≡ true → IsBehind d → found Source (word_text k ++ d ∷ rest) ≡ Some (kinds.Word k, length (word_text k))
 unfolding word_of
-word_found words.Absolute _ rest e blank = refl
-word_found words.Absolute _ rest e line_end = refl
-word_found words.And _ rest e blank = refl
-word_found words.And _ rest e line_end = refl
-word_found words.Answer _ rest e blank = refl
-word_found words.Answer _ rest e line_end = refl
-word_found words.Array _ rest e blank = refl
-word_found words.Array _ rest e line_end = refl
-word_found words.Begin _ rest e blank = refl
-word_found words.Begin _ rest e line_end = refl
-word_found words.Bits _ rest e blank = refl
-word_found words.Bits _ rest e line_end = refl
-word_found words.Code _ rest e blank = refl
-word_found words.Code _ rest e line_end = refl
 word_found words.Comment d rest e s = absurd cc
-word_found words.Common _ rest e blank = refl
-word_found words.Common _ rest e line_end = refl
-word_found words.Define _ rest e blank = refl
-word_found words.Define _ rest e line_end = refl
-word_found words.Delete _ rest e blank = refl
-word_found words.Delete _ rest e line_end = refl
-word_found words.Differ _ rest e blank = refl
-word_found words.Differ _ rest e line_end = refl
-word_found words.Do _ rest e blank = refl
-word_found words.Do _ rest e line_end = refl
-word_found words.Else _ rest e blank = refl
-word_found words.Else _ rest e line_end = refl
-word_found words.End _ rest e blank = refl
-word_found words.End _ rest e line_end = refl
-word_found words.External _ rest e blank = refl
-word_found words.External _ rest e line_end = refl
-word_found words.Finish _ rest e blank = refl
-word_found words.Finish _ rest e line_end = refl
-word_found words.Fixed _ rest e blank = refl
-word_found words.Fixed _ rest e line_end = refl
-word_found words.Floating _ rest e blank = refl
-word_found words.Floating _ rest e line_end = refl
-word_found words.For _ rest e blank = refl
-word_found words.For _ rest e line_end = refl
-word_found words.Goto _ rest e blank = refl
-word_found words.Goto _ rest e line_end = refl
-word_found words.If _ rest e blank = refl
-word_found words.If _ rest e line_end = refl
-word_found words.Integer _ rest e blank = refl
-word_found words.Integer _ rest e line_end = refl
-word_found words.Label _ rest e blank = refl
-word_found words.Label _ rest e line_end = refl
-word_found words.Library _ rest e blank = refl
-word_found words.Library _ rest e line_end = refl
 word_found words.Literal d rest e s = absurd cc
-word_found words.Location _ rest e blank = refl
-word_found words.Location _ rest e line_end = refl
-word_found words.Mask _ rest e blank = refl
-word_found words.Mask _ rest e line_end = refl
-word_found words.Octal _ rest e blank = refl
-word_found words.Octal _ rest e line_end = refl
-word_found words.Or _ rest e blank = refl
-word_found words.Or _ rest e line_end = refl
-word_found words.Overlay _ rest e blank = refl
-word_found words.Overlay _ rest e line_end = refl
-word_found words.Preset _ rest e blank = refl
-word_found words.Preset _ rest e line_end = refl
-word_found words.Procedure _ rest e blank = refl
-word_found words.Procedure _ rest e line_end = refl
-word_found words.Recursive _ rest e blank = refl
-word_found words.Recursive _ rest e line_end = refl
-word_found words.Segment _ rest e blank = refl
-word_found words.Segment _ rest e line_end = refl
-word_found words.Step _ rest e blank = refl
-word_found words.Step _ rest e line_end = refl
-word_found words.Switch _ rest e blank = refl
-word_found words.Switch _ rest e line_end = refl
-word_found words.Table _ rest e blank = refl
-word_found words.Table _ rest e line_end = refl
-word_found words.Then _ rest e blank = refl
-word_found words.Then _ rest e line_end = refl
-word_found words.Union _ rest e blank = refl
-word_found words.Union _ rest e line_end = refl
-word_found words.Unsigned _ rest e blank = refl
-word_found words.Unsigned _ rest e line_end = refl
-word_found words.Until _ rest e blank = refl
-word_found words.Until _ rest e line_end = refl
-word_found words.Value _ rest e blank = refl
-word_found words.Value _ rest e line_end = refl
-word_found words.While _ rest e blank = refl
-word_found words.While _ rest e line_end = refl
-word_found words.With _ rest e blank = refl
-word_found words.With _ rest e line_end = refl
+word_found _ _ rest e blank = refl
+word_found _ _ rest e line_end = refl
 
 word_some : (k : Word) → 0 < length (word_text k)
 word_some words.Absolute = omega arith
-word_some words.And = omega arith
-word_some words.Answer = omega arith
-word_some words.Array = omega arith
-word_some words.Begin = omega arith
-word_some words.Bits = omega arith
-word_some words.Code = omega arith
-word_some words.Comment = omega arith
-word_some words.Common = omega arith
-word_some words.Define = omega arith
-word_some words.Delete = omega arith
-word_some words.Differ = omega arith
-word_some words.Do = omega arith
-word_some words.Else = omega arith
-word_some words.End = omega arith
-word_some words.External = omega arith
-word_some words.Finish = omega arith
-word_some words.Fixed = omega arith
-word_some words.Floating = omega arith
-word_some words.For = omega arith
-word_some words.Goto = omega arith
-word_some words.If = omega arith
-word_some words.Integer = omega arith
-word_some words.Label = omega arith
-word_some words.Library = omega arith
-word_some words.Literal = omega arith
-word_some words.Location = omega arith
-word_some words.Mask = omega arith
-word_some words.Octal = omega arith
-word_some words.Or = omega arith
-word_some words.Overlay = omega arith
-word_some words.Preset = omega arith
-word_some words.Procedure = omega arith
-word_some words.Recursive = omega arith
-word_some words.Segment = omega arith
-word_some words.Step = omega arith
-word_some words.Switch = omega arith
-word_some words.Table = omega arith
-word_some words.Then = omega arith
-word_some words.Union = omega arith
-word_some words.Unsigned = omega arith
-word_some words.Until = omega arith
-word_some words.Value = omega arith
-word_some words.While = omega arith
-word_some words.With = omega arith
+word_some _ = omega arith
 
 word_longest : (k : Word) → stands_alone k ≡ true → (d : ℕ) (rest : List ℕ) → IsBehind d → IsLongest Source (word_text k) (d ∷ rest) (kinds.Word k)
 word_longest k e d rest s = longest_of (word_text k) d rest (kinds.Word k) (bare (word_text k) (word_is k)) (word_some k) (word_found k d rest e s)
@@ -270,40 +100,8 @@ word_longest k e d rest s = longest_of (word_text k) d rest (kinds.Word k) (bare
 symbol_longest : (k : Symbol) (d : ℕ) (rest : List ℕ) → IsBehind d → IsLongest Source (symbol_text k) (d ∷ rest) (kinds.Symbol k)
 symbol_longest symbols.Semicolon _ rest blank = longest_of (symbol_text symbols.Semicolon) 32 rest (kinds.Symbol symbols.Semicolon) refl (omega arith) refl
 symbol_longest symbols.Semicolon _ rest line_end = longest_of (symbol_text symbols.Semicolon) 10 rest (kinds.Symbol symbols.Semicolon) refl (omega arith) refl
-symbol_longest symbols.Colon _ rest blank = longest_of (symbol_text symbols.Colon) 32 rest (kinds.Symbol symbols.Colon) refl (omega arith) refl
-symbol_longest symbols.Colon _ rest line_end = longest_of (symbol_text symbols.Colon) 10 rest (kinds.Symbol symbols.Colon) refl (omega arith) refl
-symbol_longest symbols.Comma _ rest blank = longest_of (symbol_text symbols.Comma) 32 rest (kinds.Symbol symbols.Comma) refl (omega arith) refl
-symbol_longest symbols.Comma _ rest line_end = longest_of (symbol_text symbols.Comma) 10 rest (kinds.Symbol symbols.Comma) refl (omega arith) refl
-symbol_longest symbols.Open _ rest blank = longest_of (symbol_text symbols.Open) 32 rest (kinds.Symbol symbols.Open) refl (omega arith) refl
-symbol_longest symbols.Open _ rest line_end = longest_of (symbol_text symbols.Open) 10 rest (kinds.Symbol symbols.Open) refl (omega arith) refl
-symbol_longest symbols.Close _ rest blank = longest_of (symbol_text symbols.Close) 32 rest (kinds.Symbol symbols.Close) refl (omega arith) refl
-symbol_longest symbols.Close _ rest line_end = longest_of (symbol_text symbols.Close) 10 rest (kinds.Symbol symbols.Close) refl (omega arith) refl
-symbol_longest symbols.OpenSquare _ rest blank = longest_of (symbol_text symbols.OpenSquare) 32 rest (kinds.Symbol symbols.OpenSquare) refl (omega arith) refl
-symbol_longest symbols.OpenSquare _ rest line_end = longest_of (symbol_text symbols.OpenSquare) 10 rest (kinds.Symbol symbols.OpenSquare) refl (omega arith) refl
-symbol_longest symbols.CloseSquare _ rest blank = longest_of (symbol_text symbols.CloseSquare) 32 rest (kinds.Symbol symbols.CloseSquare) refl (omega arith) refl
-symbol_longest symbols.CloseSquare _ rest line_end = longest_of (symbol_text symbols.CloseSquare) 10 rest (kinds.Symbol symbols.CloseSquare) refl (omega arith) refl
-symbol_longest symbols.Plus _ rest blank = longest_of (symbol_text symbols.Plus) 32 rest (kinds.Symbol symbols.Plus) refl (omega arith) refl
-symbol_longest symbols.Plus _ rest line_end = longest_of (symbol_text symbols.Plus) 10 rest (kinds.Symbol symbols.Plus) refl (omega arith) refl
-symbol_longest symbols.Minus _ rest blank = longest_of (symbol_text symbols.Minus) 32 rest (kinds.Symbol symbols.Minus) refl (omega arith) refl
-symbol_longest symbols.Minus _ rest line_end = longest_of (symbol_text symbols.Minus) 10 rest (kinds.Symbol symbols.Minus) refl (omega arith) refl
-symbol_longest symbols.Times _ rest blank = longest_of (symbol_text symbols.Times) 32 rest (kinds.Symbol symbols.Times) refl (omega arith) refl
-symbol_longest symbols.Times _ rest line_end = longest_of (symbol_text symbols.Times) 10 rest (kinds.Symbol symbols.Times) refl (omega arith) refl
-symbol_longest symbols.Divide _ rest blank = longest_of (symbol_text symbols.Divide) 32 rest (kinds.Symbol symbols.Divide) refl (omega arith) refl
-symbol_longest symbols.Divide _ rest line_end = longest_of (symbol_text symbols.Divide) 10 rest (kinds.Symbol symbols.Divide) refl (omega arith) refl
-symbol_longest symbols.Less _ rest blank = longest_of (symbol_text symbols.Less) 32 rest (kinds.Symbol symbols.Less) refl (omega arith) refl
-symbol_longest symbols.Less _ rest line_end = longest_of (symbol_text symbols.Less) 10 rest (kinds.Symbol symbols.Less) refl (omega arith) refl
-symbol_longest symbols.LessOrEqual _ rest blank = longest_of (symbol_text symbols.LessOrEqual) 32 rest (kinds.Symbol symbols.LessOrEqual) refl (omega arith) refl
-symbol_longest symbols.LessOrEqual _ rest line_end = longest_of (symbol_text symbols.LessOrEqual) 10 rest (kinds.Symbol symbols.LessOrEqual) refl (omega arith) refl
-symbol_longest symbols.Equal _ rest blank = longest_of (symbol_text symbols.Equal) 32 rest (kinds.Symbol symbols.Equal) refl (omega arith) refl
-symbol_longest symbols.Equal _ rest line_end = longest_of (symbol_text symbols.Equal) 10 rest (kinds.Symbol symbols.Equal) refl (omega arith) refl
-symbol_longest symbols.GreaterOrEqual _ rest blank = longest_of (symbol_text symbols.GreaterOrEqual) 32 rest (kinds.Symbol symbols.GreaterOrEqual) refl (omega arith) refl
-symbol_longest symbols.GreaterOrEqual _ rest line_end = longest_of (symbol_text symbols.GreaterOrEqual) 10 rest (kinds.Symbol symbols.GreaterOrEqual) refl (omega arith) refl
-symbol_longest symbols.Greater _ rest blank = longest_of (symbol_text symbols.Greater) 32 rest (kinds.Symbol symbols.Greater) refl (omega arith) refl
-symbol_longest symbols.Greater _ rest line_end = longest_of (symbol_text symbols.Greater) 10 rest (kinds.Symbol symbols.Greater) refl (omega arith) refl
-symbol_longest symbols.NotEqual _ rest blank = longest_of (symbol_text symbols.NotEqual) 32 rest (kinds.Symbol symbols.NotEqual) refl (omega arith) refl
-symbol_longest symbols.NotEqual _ rest line_end = longest_of (symbol_text symbols.NotEqual) 10 rest (kinds.Symbol symbols.NotEqual) refl (omega arith) refl
-symbol_longest symbols.Assign _ rest blank = longest_of (symbol_text symbols.Assign) 32 rest (kinds.Symbol symbols.Assign) refl (omega arith) refl
-symbol_longest symbols.Assign _ rest line_end = longest_of (symbol_text symbols.Assign) 10 rest (kinds.Symbol symbols.Assign) refl (omega arith) refl
+symbol_longest k _ rest blank = longest_of (symbol_text k) 32 rest (kinds.Symbol k) refl (omega arith) refl
+symbol_longest k _ rest line_end = longest_of (symbol_text k) 10 rest (kinds.Symbol k) refl (omega arith) refl
 
 -- ---- numbers
 

@@ -7,32 +7,31 @@ use Rattle.cw_tree.specs.declared.leaf.RawName.{RawName}
 use Rattle.cw_tree.specs.declared.expression.RawCond.{RawCond}
 use Rattle.cw_tree.specs.declared.expression.RawRef.{RawRef}
 use Rattle.cw_tree.specs.declared.statement.RawFelem.{RawFelem}
-use Rattle.cw_tree.specs.declared.statement.RawParam.{RawParam}
-use Rattle.cw_tree.specs.declared.statement.RawDecl.TheOpen as layer
 use Rattle.cw_tree.specs.declared.statement.RawForm.TheVariants as form_tree
-use Rattle.cw_tree.specs.declared.statement.RawDecl.{RawDecl, out-RawDecl, fold_out-RawDecl, fold-roll-RawDecl}
-use Rattle.cw_tree.specs.declared.statement.RawForm.{RawForm, out-RawForm, fold_out-RawForm, fold-roll-RawForm}
-use Rattle.cw_tree.specs.declared.statement.RawSimple.{RawSimple, out-RawSimple, fold_out-RawSimple, fold-roll-RawSimple}
-use Rattle.cw_tree.specs.declared.statement.RawBlock.{RawBlock, out-RawBlock, fold_out-RawBlock, fold-roll-RawBlock}
-use Rattle.cw_tree.specs.declared.statement.RawProc.{RawProc, out-RawProc, fold_out-RawProc, fold-roll-RawProc}
-use Rattle.cw_tree.specs.declared.statement.RawStmt.{RawStmt, out-RawStmt, fold_out-RawStmt, fold-roll-RawStmt}
-use Rattle.cw_show.specs.Spelling.{Spelling, word, with_token, with_tokens}
+use Rattle.cw_tree.specs.declared.statement.RawDecl.{RawDecl}
+use Rattle.cw_tree.specs.declared.statement.RawForm.{RawForm}
+use Rattle.cw_tree.specs.declared.statement.RawSimple.{RawSimple}
+use Rattle.cw_tree.specs.declared.statement.RawBlock.{RawBlock, out-RawBlock}
+use Rattle.cw_tree.specs.declared.statement.RawProc.{RawProc, out-RawProc}
+use Rattle.cw_tree.specs.declared.statement.RawStmt.{RawStmt, out-RawStmt}
+use Rattle.cw_tree.proofs.Statements.{StatementSteps, statement_steps, of_block-out, of_form-For, of_form-If-None, of_form-If-Some, of_procedure-out, of_statement-out}
+use Rattle.cw_show.specs.Spelling.{word, with_token, with_tokens}
 use Rattle.cw_show.specs.Canonical.{Tokens, between, ended, semicolon}
-use Rattle.cw_show.specs.ExpressionTokens.{cond_tokens, ref_tokens}
-use Rattle.cw_show.specs.StatementTokens.{labels_tokens, control_tokens, head_tokens, else_tokens, decl_step, form_step, simple_step, block_step, proc_step, stmt_step, decl_tokens, form_tokens, simple_tokens, block_tokens, proc_tokens, stmt_tokens}
+use Rattle.cw_show.specs.ExpressionTokens.{cond_tokens}
+use Rattle.cw_show.specs.StatementTokens.{labels_tokens, control_tokens, head_tokens, decl_step, form_step, simple_step, block_step, proc_step, stmt_step, decl_tokens, form_tokens, simple_tokens, block_tokens, proc_tokens, stmt_tokens}
 use Rattle.cw_show.proofs.Adding.{added_in_order}
 
+abbrev steps : StatementSteps Tokens Tokens Tokens Tokens Tokens Tokens
+steps = statement_steps decl_step form_step simple_step block_step proc_step stmt_step
+
 pub stmt-layer : (x : RawStmt) → stmt_tokens x ≡ labels_tokens (out-RawStmt x).labels ++ form_tokens (out-RawStmt x).form
-stmt-layer = fold_out-RawStmt Tokens Tokens Tokens Tokens Tokens Tokens
-    decl_step form_step simple_step block_step proc_step stmt_step
+stmt-layer = of_statement-out steps
 
 pub proc-layer : (x : RawProc) → proc_tokens x ≡ head_tokens (out-RawProc x).answer (out-RawProc x).tag (out-RawProc x).name (out-RawProc x).params ++ stmt_tokens (out-RawProc x).body
-proc-layer = fold_out-RawProc Tokens Tokens Tokens Tokens Tokens Tokens
-    decl_step form_step simple_step block_step proc_step stmt_step
+proc-layer = of_procedure-out steps
 
 pub block-layer : (x : RawBlock) → block_tokens x ≡ word words.Begin ∷ (ended (map decl_tokens (out-RawBlock x).decls) ++ (between semicolon (map stmt_tokens (out-RawBlock x).stmts) ++ word words.End ∷ []))
-block-layer = fold_out-RawBlock Tokens Tokens Tokens Tokens Tokens Tokens
-    decl_step form_step simple_step block_step proc_step stmt_step
+block-layer = of_block-out steps
 
 -- ---- tokens added one after another
 
@@ -61,13 +60,13 @@ block_added x ds ss o0 o1 o2 o3 o4 ed es e1 e2 e3 e4 =
 -- ---- IF and FOR
 
 if_alone-layer : (at : Position) (c : RawCond) (ls : List RawName) (a : RawSimple) → form_tokens (form_tree.If at c ls a None) ≡ word words.If ∷ (cond_tokens c ++ word words.Then ∷ (labels_tokens ls ++ (simple_tokens a ++ [])))
-if_alone-layer at c ls a = ap form_tokens (sym (form_tree.rolls-If at c ls a None)) ∙ fold-roll-RawForm Tokens Tokens Tokens Tokens Tokens Tokens decl_step form_step simple_step block_step proc_step stmt_step (layer.If at c ls a None)
+if_alone-layer at c ls a = of_form-If-None steps at c ls a
 
 if_else-layer : (at : Position) (c : RawCond) (ls : List RawName) (a : RawSimple) (b : RawStmt) → form_tokens (form_tree.If at c ls a (Some b)) ≡ word words.If ∷ (cond_tokens c ++ word words.Then ∷ (labels_tokens ls ++ (simple_tokens a ++ word words.Else ∷ stmt_tokens b)))
-if_else-layer at c ls a b = ap form_tokens (sym (form_tree.rolls-If at c ls a (Some b))) ∙ fold-roll-RawForm Tokens Tokens Tokens Tokens Tokens Tokens decl_step form_step simple_step block_step proc_step stmt_step (layer.If at c ls a (Some b))
+if_else-layer at c ls a b = of_form-If-Some steps at c ls a b
 
 for-layer : (at : Position) (r : RawRef) (es : List RawFelem) (body : RawStmt) → form_tokens (form_tree.For at r es body) ≡ control_tokens r es ++ stmt_tokens body
-for-layer at r es body = ap form_tokens (sym (form_tree.rolls-For at r es body)) ∙ fold-roll-RawForm Tokens Tokens Tokens Tokens Tokens Tokens decl_step form_step simple_step block_step proc_step stmt_step (layer.For at r es body)
+for-layer at r es body = of_form-For steps at r es body
 
 if_parts : (c ls a b : Tokens) (o0 o1 o2 o3 o4 o5 o6 : List ℕ) → o1 ≡ with_token o0 (word words.If) → o2 ≡ with_tokens o1 c → o3 ≡ with_token o2 (word words.Then) → o4 ≡ with_tokens o3 ls → o5 ≡ with_tokens o4 a → o6 ≡ with_tokens o5 b
     → o6 ≡ with_tokens o0 (word words.If ∷ (c ++ word words.Then ∷ (ls ++ (a ++ b))))

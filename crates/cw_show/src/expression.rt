@@ -226,7 +226,7 @@ fn put_primary(out: &mut Vec<u8>, primary: &RawPrimary) -> Result<(), NoMemory>
             put_located(out, place.get())
         }
         RawPrimary::Forced(number_type, value) => {
-            put_type(out, number_type)?;
+            put_type(out, number_type.get())?;
             put_bracketed(out, value.get())
         }
         RawPrimary::Bracket(_, value) => put_bracketed(out, value.get()),

@@ -228,7 +228,7 @@ fn put_simple(out: &mut Vec<u8>, simple: &RawSimple) -> Result<(), NoMemory>
         RawSimple::Empty => Ok(()),
         RawSimple::Assign(place, value) => put_assignment(out, place.get(), value.get()),
         RawSimple::AssignBits(bits, place, value) => {
-            put_bits(out, bits)?;
+            put_bits(out, bits.get())?;
             put_assignment(out, place.get(), value.get())
         }
         RawSimple::Goto(_, label) => {

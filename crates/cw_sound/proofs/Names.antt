@@ -2,7 +2,6 @@ pub mod Parts
 pub mod Lists
 pub mod FoundRows
 pub mod NoFaults
-pub mod NoDefinitionFaults
 pub mod Nearness
 pub mod Resolving
 pub mod Rows

@@ -146,40 +146,31 @@ pub shorter_by : (short : Bool) (b : Block) (o : Order) → block_size short b o
 shorter_by true b o = omega (arith, saves b o)
 shorter_by false b o = omega arith
 
--- a block with a check that can jump back has no jump, and saves 5 bytes by it
-pub no_jump : (b : Block) (o : Order) (line : ℕ) → check_of b o ≡ Some line → jump_of b o ≡ None
-no_jump block.Single (order.Add n) line e = refl
-no_jump block.Single (order.Sub n) line e = refl
-no_jump block.Single (order.Neg n) line e = refl
-no_jump block.Single (order.Rescale from to n) line e = refl
-no_jump block.Single (order.Mul s n) line e = refl
-no_jump block.Single (order.Div s n) line e = refl
-no_jump block.Single o line e = absurd (none-some line e)
-no_jump (block.Operate s (uses.Add n)) o line e = refl
-no_jump (block.Operate s (uses.Subtract n)) o line e = refl
-no_jump (block.Operate s (uses.Multiply n)) o line e = refl
-no_jump (block.Operate s u) o line e = absurd (none-some line e)
-no_jump (block.Count down n) o line e = refl
-no_jump b o line e = absurd (none-some line e)
-
 saved_if : (ends : Bool) (n line : ℕ) → (if ends then Some n else None) ≡ Some line → let saves : ℕ = if ends then 5 else 0 in saves ≡ 5
 saved_if true n line e = refl
 saved_if false n line e = absurd (cc)
 
+-- a block with a check that can jump back has no jump, and saves 5 bytes by it
+pub of_check : (b : Block) (o : Order) (line : ℕ) → check_of b o ≡ Some line → (jump_of b o ≡ None) × (saved b o ≡ 5)
+of_check block.Single (order.Add n) line e = (refl, refl)
+of_check block.Single (order.Sub n) line e = (refl, refl)
+of_check block.Single (order.Neg n) line e = (refl, refl)
+of_check block.Single (order.Rescale from to n) line e = (refl, saved_if (nat_le from to) n line e)
+of_check block.Single (order.Mul s n) line e = (refl, saved_if (is_checked s) n line e)
+of_check block.Single (order.Div s n) line e = (refl, refl)
+of_check block.Single o line e = absurd (none-some line e)
+of_check (block.Operate s (uses.Add n)) o line e = (refl, refl)
+of_check (block.Operate s (uses.Subtract n)) o line e = (refl, refl)
+of_check (block.Operate s (uses.Multiply n)) o line e = (refl, refl)
+of_check (block.Operate s u) o line e = absurd (none-some line e)
+of_check (block.Count down n) o line e = (refl, refl)
+of_check b o line e = absurd (none-some line e)
+
+pub no_jump : (b : Block) (o : Order) (line : ℕ) → check_of b o ≡ Some line → jump_of b o ≡ None
+no_jump b o line e = (of_check b o line e).0
+
 pub check_saved : (b : Block) (o : Order) (line : ℕ) → check_of b o ≡ Some line → saved b o ≡ 5
-check_saved block.Single (order.Add n) line e = refl
-check_saved block.Single (order.Sub n) line e = refl
-check_saved block.Single (order.Neg n) line e = refl
-check_saved block.Single (order.Rescale from to n) line e = saved_if (nat_le from to) n line e
-check_saved block.Single (order.Mul s n) line e = saved_if (is_checked s) n line e
-check_saved block.Single (order.Div s n) line e = refl
-check_saved block.Single o line e = absurd (none-some line e)
-check_saved (block.Operate s (uses.Add n)) o line e = refl
-check_saved (block.Operate s (uses.Subtract n)) o line e = refl
-check_saved (block.Operate s (uses.Multiply n)) o line e = refl
-check_saved (block.Operate s u) o line e = absurd (none-some line e)
-check_saved (block.Count down n) o line e = refl
-check_saved b o line e = absurd (none-some line e)
+check_saved b o line e = (of_check b o line e).1
 
 -- in its whole form it ends with the check
 pub record EndsChecked (pieces : List Coded) (line : ℕ) : Type 0 where

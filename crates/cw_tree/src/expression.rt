@@ -109,7 +109,7 @@ pub enum RawPrimary {
     /// `LOCATION ( ref )`.
     Location(Position, Boxed<RawRef>),
     /// `type ( expr )`.
-    Forced(RawType, Boxed<RawExpr>),
+    Forced(Boxed<RawType>, Boxed<RawExpr>),
     /// `( expr )`, where the bracket is needed.
     Bracket(Position, Boxed<RawExpr>),
     /// A reference, or the name of a procedure without arguments.

@@ -41,7 +41,7 @@ pub enum RawSimple {
     /// `ref := expr`.
     Assign(Boxed<RawRef>, Boxed<RawExpr>),
     /// `BITS [ int , int ] ref := expr`.
-    AssignBits(RawBits, Boxed<RawRef>, Boxed<RawExpr>),
+    AssignBits(Boxed<RawBits>, Boxed<RawRef>, Boxed<RawExpr>),
     /// `GOTO name`.
     Goto(Position, RawName),
     /// `GOTO name [ expr ]`.

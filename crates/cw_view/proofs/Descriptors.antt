@@ -183,13 +183,8 @@ reads_plain_parameter =
 
 -- a plain parameter is a parameter
 plain_spelled : (l : SpecParam-F SpecParam Spec) → FitsPlainLayer l → (plain_layer_bytes l ≡ layer_bytes l) × FitsLayer l
-plain_spelled (layer.Value s) h = (refl, h)
-plain_spelled (layer.Location s) h = (refl, h)
-plain_spelled (layer.Array s) h = (refl, h)
-plain_spelled (layer.Table width) h = (refl, h)
-plain_spelled layer.Label h = (refl, tt)
-plain_spelled layer.Switch h = (refl, tt)
 plain_spelled (layer.Proc s) h = absurd h
+plain_spelled _ h = (refl, h)
 
 reads_plain_spec : Reads (spec_bytes plain_parameter_bytes) (FitsSpec FitsPlainParameter) (spec_in plain_parameter_in)
 reads_plain_spec = reads_spec plain_parameter_bytes FitsPlainParameter plain_parameter_in reads_plain_parameter
@@ -204,13 +199,8 @@ parameter_takes n bytes x fits e = elim (either n 6 _ _ x e) [
 ]
 
 parameter_again : (l : SpecParam-F SpecParam Spec) (rest : List ℕ) → FitsLayer l → parameter_in (layer_bytes l ++ rest) ≡ Some (roll-SpecParam l, rest)
-parameter_again (layer.Value s) rest h = again_of scale_bytes FitsScale scale_in (λ s. roll-SpecParam (layer.Value s)) reads_scale s rest h
-parameter_again (layer.Location s) rest h = again_of scale_bytes FitsScale scale_in (λ s. roll-SpecParam (layer.Location s)) reads_scale s rest h
-parameter_again (layer.Array s) rest h = again_of scale_bytes FitsScale scale_in (λ s. roll-SpecParam (layer.Array s)) reads_scale s rest h
-parameter_again (layer.Table width) rest h = again_of word_bytes IsWord word_in (λ s. roll-SpecParam (layer.Table s)) reads_word width rest h
-parameter_again layer.Label rest h = refl
-parameter_again layer.Switch rest h = refl
 parameter_again (layer.Proc s) rest h = again_of (spec_bytes plain_parameter_bytes) (FitsSpec FitsPlainParameter) (spec_in plain_parameter_in) (λ s. roll-SpecParam (layer.Proc s)) reads_plain_spec s rest h
+parameter_again l rest h = plain_again l rest h
 
 reads_parameter : Reads parameter_bytes FitsParameter parameter_in
 reads_parameter =
@@ -310,12 +300,8 @@ reads_body number = record {
 }
 
 body_small : (b : DescBody) → body_number b < 256
-body_small (bodies.Word s) = omega arith
-body_small (bodies.Array s dims) = omega arith
-body_small (bodies.Table width len elems) = omega arith
 body_small bodies.Label = omega arith
-body_small bodies.Switch = omega arith
-body_small (bodies.Proc s) = omega arith
+body_small _ = omega arith
 
 -- ---- descriptors
 

@@ -7,13 +7,10 @@ use Rattle.cw_unit.specs.declared.unit.ItemKind.TheVariants.{Single, Array, Tabl
 use Rattle.cw_unit.specs.declared.layout.Family.{Family}
 use Rattle.cw_unit.specs.declared.layout.Sort.{Sort}
 use Rattle.cw_unit.specs.declared.layout.Sort.TheVariants as sorts
-use Rattle.cw_unit.specs.declared.layout.Preset.{Preset}
-use Rattle.cw_unit.specs.declared.layout.Reloc.{Reloc}
-use Rattle.cw_unit.specs.declared.layout.Body.{Body}
-use Rattle.cw_fields.specs.Fields.{◌>>=◌, both, byte_in, text_bytes, IsByte, IsWord, IsLong, word_bytes, long_bytes, word_in, long_in}
+use Rattle.cw_fields.specs.Fields.{◌>>=◌, Reader, meaning, both, byte_in, text_bytes, IsByte, IsWord, IsLong, word_bytes, long_bytes, word_in, long_in}
 use Rattle.cw_fields.specs.Names.{IsNameOrEmpty, is_empty, name_or_empty_in}
 use Rattle.cw_view.specs.Payloads.{sort_number, sort_operand, family_bytes, FitsFamily, ItemEntry, item_kind_number, item_bytes, FitsItem, preset_bytes, FitsPreset, relocation_bytes, FitsRelocation, definition_bytes, FitsDefinition, body_facts_bytes, FitsBodyFacts, statement_bytes, FitsStatement}
-use Rattle.cw_view.specs.Reading.{sort_of, family_of, family_in, item_kind_of, item_kind_in, ItemPlace, item_place_in, item_of, item_in, preset_of, preset_in, relocation_of, relocation_in, definition_in, body_facts_of, body_facts_in, statement_of, statement_in}
+use Rattle.cw_view.specs.Reading.{sort_of, family_of, family_in, item_kind_of, item_kind_in, ItemPlace, item_place_in, item_of, item_in, preset_in, relocation_in, definition_in, body_facts_in, statement_of, statement_in}
 use Rattle.cw_fields.specs.Spelling.{Reads}
 use Rattle.cw_fields.proofs.Formats.{some_is, bind_some, reads_both, reads_meaning, reads_byte}
 use Rattle.cw_fields.proofs.Spelled.{some, tested, test_cases, no_none, chosen, reads_word, reads_long, reads_name_or_empty, reads_flag}
@@ -35,10 +32,7 @@ kind_onto x y e = elim (chosen x 0 Single (cond (eqb x 1) (some Array) (cond (eq
 
 kind_back : (y : ItemKind) → (item_kind_number y < 256) × (item_kind_of (item_kind_number y) ≡ Some y)
 kind_back Single = (omega arith, refl)
-kind_back Array = (omega arith, refl)
-kind_back Table = (omega arith, refl)
-kind_back Text = (omega arith, refl)
-kind_back Loop = (omega arith, refl)
+kind_back _ = (omega arith, refl)
 
 pub reads_kind : Reads (λ (k : ItemKind). item_kind_number k ∷ []) (λ (k : ItemKind). Unit {0}) item_kind_in
 unfolding item_kind_in
@@ -63,10 +57,8 @@ sort_fits n o s e = elim (chosen n 0 (sorts.Common o) (cond (eqb n 1) (cond (eqb
 ]
 
 sort_back : (s : Sort) → (sort_number s < 256) × (sort_of (sort_number s) (sort_operand s) ≡ Some s)
-sort_back (sorts.Common d) = (omega arith, refl)
 sort_back sorts.Own = (omega arith, refl)
-sort_back (sorts.Absolute a) = (omega arith, refl)
-sort_back (sorts.Frame o) = (omega arith, refl)
+sort_back _ = (omega arith, refl)
 
 family_onto : (x : ℕ × (ℕ × ℕ)) (y : Family) → IsByte x.0 × (IsWord x.1.0 × IsLong x.1.1) → family_of x ≡ Some y → (x ≡ (sort_number y.sort, (sort_operand y.sort, y.extent))) × FitsFamily y
 family_onto (n, (o, extent)) y h e =
@@ -89,32 +81,35 @@ reads_family =
     (reads_both _ _ _ _ _ _ reads_byte (reads_both _ _ _ _ _ _ reads_word reads_long))
     family_onto family_back
 
+-- numbers that are the fields of a record
+reads_fields : {A B : Type 0} (s : A → List ℕ) (F : A → Type 0) (read : Reader A) (FitsRecord : B → Type 0) (made : A → B) (fields : B → A) → Reads s F read
+    → ((x : A) → x ≡ fields (made x)) → ((y : B) → made (fields y) ≡ y) → ((x : A) → F x → FitsRecord (made x)) → ((y : B) → FitsRecord y → F (fields y))
+    → Reads (λ (y : B). s (fields y)) FitsRecord (meaning (λ x. Some (made x)) read)
+reads_fields s F read FitsRecord made fields reads same again fits fit =
+    reads_meaning s F read FitsRecord (λ x. some (made x)) fields reads
+    (λ x y h e. let is = some_is (made x) y e in (same x ∙ ap fields is, subst FitsRecord is (fits x h)))
+    (λ y h. (fit y h, ap some (again y)))
+
 pub reads_preset : Reads preset_bytes FitsPreset preset_in
 reads_preset =
-    reads_meaning (λ (p : ℕ × (ℕ × ℕ)). word_bytes p.0 ++ (word_bytes p.1.0 ++ word_bytes p.1.1)) (λ (p : ℕ × (ℕ × ℕ)). IsWord p.0 × (IsWord p.1.0 × IsWord p.1.1)) (both word_in (both word_in word_in))
-    FitsPreset preset_of (λ p. (p.family, (p.offset, p.word)))
-    (reads_both _ _ _ _ _ _ reads_word (reads_both _ _ _ _ _ _ reads_word reads_word))
-    (λ x y h e. let same = some_is _ y e in (ap (λ (p : Preset). (p.family, (p.offset, p.word))) same, subst FitsPreset same (record { family = h.0; offset = h.1.0; word = h.1.1 })))
-    (λ y h. ((h.family, (h.offset, h.word)), refl))
+    reads_fields (λ (p : ℕ × (ℕ × ℕ)). word_bytes p.0 ++ (word_bytes p.1.0 ++ word_bytes p.1.1)) (λ (p : ℕ × (ℕ × ℕ)). IsWord p.0 × (IsWord p.1.0 × IsWord p.1.1)) (both word_in (both word_in word_in))
+    FitsPreset (λ p. record { family = p.0; offset = p.1.0; word = p.1.1 }) (λ p. (p.family, (p.offset, p.word)))
+    (reads_both _ _ _ _ _ _ reads_word (reads_both _ _ _ _ _ _ reads_word reads_word)) (λ _. refl) (λ _. refl) (λ _ h. record { family = h.0; offset = h.1.0; word = h.1.1 }) (λ _ h. (h.family, (h.offset, h.word)))
 
 pub reads_relocation : Reads relocation_bytes FitsRelocation relocation_in
 reads_relocation =
-    reads_meaning (λ (p : ℕ × (ℕ × (ℕ × ℕ))). long_bytes p.0 ++ ((p.1.0 ∷ []) ++ (word_bytes p.1.1.0 ++ word_bytes p.1.1.1))) (λ (p : ℕ × (ℕ × (ℕ × ℕ))). IsLong p.0 × (IsByte p.1.0 × (IsWord p.1.1.0 × IsWord p.1.1.1))) (both long_in (both byte_in (both word_in word_in)))
-    FitsRelocation relocation_of (λ r. (r.place, (r.sort, (r.index, r.add))))
-    (reads_both _ _ _ _ _ _ reads_long (reads_both _ _ _ _ _ _ reads_byte (reads_both _ _ _ _ _ _ reads_word reads_word)))
-    (λ x y h e. let same = some_is _ y e in (ap (λ (r : Reloc). (r.place, (r.sort, (r.index, r.add)))) same, subst FitsRelocation same (record { place = h.0; sort = h.1.0; index = h.1.1.0; add = h.1.1.1 })))
-    (λ y h. ((h.place, (h.sort, (h.index, h.add))), refl))
+    reads_fields (λ (p : ℕ × (ℕ × (ℕ × ℕ))). long_bytes p.0 ++ ((p.1.0 ∷ []) ++ (word_bytes p.1.1.0 ++ word_bytes p.1.1.1))) (λ (p : ℕ × (ℕ × (ℕ × ℕ))). IsLong p.0 × (IsByte p.1.0 × (IsWord p.1.1.0 × IsWord p.1.1.1))) (both long_in (both byte_in (both word_in word_in)))
+    FitsRelocation (λ p. record { place = p.0; sort = p.1.0; index = p.1.1.0; add = p.1.1.1 }) (λ r. (r.place, (r.sort, (r.index, r.add))))
+    (reads_both _ _ _ _ _ _ reads_long (reads_both _ _ _ _ _ _ reads_byte (reads_both _ _ _ _ _ _ reads_word reads_word))) (λ _. refl) (λ _. refl) (λ _ h. record { place = h.0; sort = h.1.0; index = h.1.1.0; add = h.1.1.1 }) (λ _ h. (h.place, (h.sort, (h.index, h.add))))
 
 pub reads_definition : Reads definition_bytes FitsDefinition definition_in
 reads_definition = reads_both _ _ _ _ _ _ reads_word reads_long
 
 pub reads_body_facts : Reads body_facts_bytes FitsBodyFacts body_facts_in
 reads_body_facts =
-    reads_meaning (λ (p : ℕ × (ℕ × ℕ)). long_bytes p.0 ++ (word_bytes p.1.0 ++ long_bytes p.1.1)) (λ (p : ℕ × (ℕ × ℕ)). IsLong p.0 × (IsWord p.1.0 × IsLong p.1.1)) (both long_in (both word_in long_in))
-    FitsBodyFacts body_facts_of (λ b. (b.entry, (b.need, b.tokens)))
-    (reads_both _ _ _ _ _ _ reads_long (reads_both _ _ _ _ _ _ reads_word reads_long))
-    (λ x y h e. let same = some_is _ y e in (ap (λ (b : Body). (b.entry, (b.need, b.tokens))) same, subst FitsBodyFacts same (record { entry = h.0; need = h.1.0; tokens = h.1.1 })))
-    (λ y h. ((h.entry, (h.need, h.tokens)), refl))
+    reads_fields (λ (p : ℕ × (ℕ × ℕ)). long_bytes p.0 ++ (word_bytes p.1.0 ++ long_bytes p.1.1)) (λ (p : ℕ × (ℕ × ℕ)). IsLong p.0 × (IsWord p.1.0 × IsLong p.1.1)) (both long_in (both word_in long_in))
+    FitsBodyFacts (λ p. record { entry = p.0; need = p.1.0; tokens = p.1.1 }) (λ b. (b.entry, (b.need, b.tokens)))
+    (reads_both _ _ _ _ _ _ reads_long (reads_both _ _ _ _ _ _ reads_word reads_long)) (λ _. refl) (λ _. refl) (λ _ h. record { entry = h.0; need = h.1.0; tokens = h.1.1 }) (λ _ h. (h.entry, (h.need, h.tokens)))
 
 pub reads_statement : Reads statement_bytes FitsStatement statement_in
 reads_statement =

@@ -2,6 +2,7 @@ pub mod Counting
 pub mod Forms
 pub mod Descriptors
 pub mod Recorded
+pub mod Marked
 pub mod Opening
 pub mod Reaching
 pub mod Whole

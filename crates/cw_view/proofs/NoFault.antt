@@ -74,10 +74,7 @@ goes_on v last kind h e = absurd (grind (arith, nat_tests, h, e))
 -- not at the end
 no_fault_at_end : (v place len : ℕ) (before : List Record) (rest : List ℕ) (f : ObjFault) → last_kind before ≡ 255 → rest ≡ [] → FailsBehind v before place len rest f → ⊥
 no_fault_at_end v place len before rest f ended e (no_end other) = other ended
-no_fault_at_end v place len before rest f ended e (out_of_order other wrong) = absurd (cc)
-no_fault_at_end v place len before rest f ended e (cut right short) = absurd (cc)
-no_fault_at_end v place len before rest f ended e (not_allowed kind payload more right short none) = absurd (cc)
-no_fault_at_end v place len before rest f ended e (trailing end) = absurd (cc)
+no_fault_at_end v place len before rest f ended e _ = absurd (cc)
 
 -- nor where a record follows
 no_fault_at : (v place len : ℕ) (before : List Record) (r : Record) (xs rest : List ℕ) (f : ObjFault) → IsNext v before r → record_bytes r ++ xs ≡ rest → FailsBehind v before place len rest f → ⊥

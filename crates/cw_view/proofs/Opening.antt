@@ -1,19 +1,13 @@
 -- What stands at a place of the bytes.
-use Rattle.std.proofs.Common.{◌≡◌, ℕ, suc, ◌+◌, ◌-◌, ◌^◌, ◌<◌, ◌≤◌, ◌≢◌, min, Bool, true, false, not, ◌&&◌, leb, List, [], ◌∷◌, ◌++◌, length, get_or, take, drop, refl, sym, ap, subst, ◌∙◌, add-one, drop-cons, arith, inl, inr, ◌⊎◌}
+use Rattle.std.proofs.Common.{◌≡◌, ℕ, suc, ◌+◌, ◌-◌, ◌^◌, ◌<◌, ◌≤◌, ◌≢◌, Bool, true, false, ◌&&◌, leb, List, [], ◌∷◌, ◌++◌, length, get_or, take, drop, refl, sym, ap, subst, ◌∙◌, add-one, drop-cons, arith, inl, inr}
 use Rattle.std.proofs.lemmas.Bool.{lt-leb}
-use Rattle.std.proofs.lemmas.List.{take-append-drop, length-drop, length-take, drop-drop, nil_from_length, take_all}
-use Rattle.std.specs.Str.{bytes_eq}
-use Rattle.std.proofs.lemmas.Slice.Eq.{bytes_eq-Decides}
+use Rattle.std.proofs.lemmas.List.{take-append-drop, length-drop, length-take, drop-drop, nil_from_length}
 use Rattle.byteorder.specs.Endian.{little_number, little_bytes}
 use Rattle.cw_view.specs.declared.fault.ObjFault.TheVariants.{BadVersion, Truncated, BadRecord}
-use Rattle.cw_view.specs.ObjectFormat.{Record, last_kind, can_follow, is_complete, FailsBehind, no_end, out_of_order, cut, IsFirstObjectFault, other_version, header, mark}
+use Rattle.cw_view.specs.ObjectFormat.{Record, last_kind, can_follow, is_complete, FailsBehind, no_end, out_of_order, cut, IsFirstObjectFault, other_version, header}
 use Rattle.cw_view.specs.Fronts.{HasRecord}
 use Rattle.cw_fields.specs.Spelling.{IsBytes}
-use Rattle.cw_fields.proofs.Formats.{IsBytes-drop, two_back, four_back}
-
--- the rest of a slice from a place
-pub tail_is : (bytes : List ℕ) (k : ℕ) → take (length bytes - k) (drop k bytes) ≡ drop k bytes
-tail_is bytes k = take_all (length bytes - k) (drop k bytes) (omega (arith, length-drop k bytes))
+use Rattle.cw_fields.proofs.Formats.{IsBytes-drop, four_back}
 
 pub part_is : (bytes : List ℕ) (at n : ℕ) → take (at + n - at) (drop at bytes) ≡ take n (drop at bytes)
 part_is bytes at n = let e : at + n - at ≡ n = omega arith in rw e refl
@@ -73,48 +67,5 @@ has_record v last bytes at size fits within head right size_is there short =
 
 -- ---- the header
 
-tt_ff : true ≡ false → ⊥
-tt_ff e = cc
-
-ff : false ≡ true → ⊥
-ff e = cc
-
-eq_by : (b r : Bool) → r ≡ not b → r ≡ false → b ≡ true
-eq_by true r e h = refl
-eq_by false r e h = absurd (tt_ff (sym e ∙ h))
-
-ne_by : (b r : Bool) → r ≡ not b → r ≡ true → b ≡ true → ⊥
-ne_by b r e h t = ff (ap not (sym t) ∙ sym e ∙ h)
-
-pub differ : (xs ys : List ℕ) (r : Bool) → r ≡ not (bytes_eq xs ys) → r ≡ true → xs ≡ ys → ⊥
-differ xs ys r e h same = ne_by (bytes_eq xs ys) r e h ((bytes_eq-Decides xs ys).1 same)
-
-pub agree : (xs ys : List ℕ) (r : Bool) → r ≡ not (bytes_eq xs ys) → r ≡ false → xs ≡ ys
-agree xs ys r e h = (bytes_eq-Decides xs ys).0 (eq_by (bytes_eq xs ys) r e h)
-
-take_short : (n : ℕ) (xs : List ℕ) (m : ℕ) → m ≤ length xs → (m ≡ n) ⊎ ((m ≡ length xs) × (length xs ≤ n)) → take n xs ≡ take m xs
-take_short n xs m le (inl e) = ap (λ k. take k xs) (sym e)
-take_short n xs m le (inr h) = take_all n xs h.1 ∙ sym (take_all m xs (omega (arith, h.0)))
-
-min_is : (a n : ℕ) → n ≡ min a 4 → (n ≤ a) × ((n ≡ 4) ⊎ ((n ≡ a) × (a ≤ 4))) × (n ≤ 4) × ((n ≡ a) ⊎ ((n ≡ 4) × (4 ≤ a)))
-min_is a n e = (omega arith, grind arith, omega arith, grind arith)
-
-pub other_mark : (bytes : List ℕ) (n : ℕ) → n ≡ min (length bytes) 4 → (take n bytes ≡ take n mark → ⊥) → take 4 bytes ≢ take (length bytes) mark
-other_mark bytes n e differ same =
-    let m = min_is (length bytes) n e in
-    differ (sym (take_short 4 bytes n m.0 m.1) ∙ same ∙ take_short (length bytes) mark n m.2 m.3)
-
-pub same_mark : (bytes : List ℕ) (n : ℕ) → n ≡ min (length bytes) 4 → take n bytes ≡ take n mark → take 4 bytes ≡ take (length bytes) mark
-same_mark bytes n e same =
-    let m = min_is (length bytes) n e in
-    take_short 4 bytes n m.0 m.1 ∙ same ∙ sym (take_short (length bytes) mark n m.2 m.3)
-
-pub header_is : (bytes : List ℕ) (v : ℕ) → IsBytes bytes → 6 ≤ length bytes → take 4 bytes ≡ take (length bytes) mark → v ≡ little_number 2 (drop 4 bytes) → bytes ≡ header v ++ drop 6 bytes
-header_is bytes v fits long same is =
-    let all : take (length bytes) mark ≡ mark = take_all (length bytes) mark (omega arith) in
-    let two : take 2 (drop 4 bytes) ≡ little_bytes 2 v = two_back (drop 4 bytes) (omega (arith, length-drop 4 bytes)) (IsBytes-drop 4 bytes fits) ∙ ap (little_bytes 2) (sym is) in
-    let rest : drop 4 bytes ≡ little_bytes 2 v ++ drop 6 bytes = sym (take-append-drop 2 (drop 4 bytes)) ∙ ap (λ r. take 2 (drop 4 bytes) ++ r) (drop-drop 2 4 bytes) ∙ ap (λ r. r ++ drop 6 bytes) two in
-    sym (take-append-drop 4 bytes) ∙ ap (λ r. r ++ drop 4 bytes) (same ∙ all) ∙ ap (λ r. mark ++ r) rest
-
-pub other_version_is : (bytes : List ℕ) (v : ℕ) → IsBytes bytes → 6 ≤ length bytes → take 4 bytes ≡ take (length bytes) mark → v ≡ little_number 2 (drop 4 bytes) → v ≢ 1 → v ≢ 2 → v < 65536 → IsFirstObjectFault bytes BadVersion
-other_version_is bytes v fits long same is one two short = other_version (header_is bytes v fits long same is) short (λ h. elim h [ inl e ↦ one e | inr e ↦ two e ])
+pub other_version_is : (bytes : List ℕ) (v : ℕ) → bytes ≡ header v ++ drop 6 bytes → v ≢ 1 → v ≢ 2 → v < 65536 → IsFirstObjectFault bytes BadVersion
+other_version_is bytes v is one two short = other_version is short (λ h. elim h [ inl e ↦ one e | inr e ↦ two e ])

@@ -19,9 +19,6 @@ use Rattle.cw_fields.proofs.Formats.{some_is, bind_some}
 use Rattle.cw_fields.proofs.Spelled.{some, test_cases}
 use Rattle.cw_view.proofs.Recorded.{next_takes, none_next}
 
-abbrev pub FamilyAt : Type 0
-FamilyAt = ℕ → Option Family
-
 same_everywhere : (f g : ℕ → Option Family) → ((k : ℕ) → f k ≡ g k) → f ≡ g
 same_everywhere f g h = λ i. λ k. h k i
 

@@ -1,5 +1,5 @@
 -- A record that is read is the one whose payload stands there.
-use Rattle.std.proofs.Common.{◌≡◌, ℕ, true, cond, List, [], ◌∷◌, Some, None, refl, sym, ap, subst, ◌∙◌, inl, inr}
+use Rattle.std.proofs.Common.{◌≡◌, ℕ, true, cond, eqb, List, [], ◌∷◌, Option, Some, None, refl, sym, ap, subst, ◌∙◌, inl, inr}
 use Rattle.cw_word.specs.Name.{IsName}
 use Rattle.cw_fields.specs.Fields.{Reader, ◌>>=◌, whole, text_bytes}
 use Rattle.cw_view.specs.Payloads.{descriptor_bytes, FitsDescriptor, family_bytes, FitsFamily, item_bytes, FitsItem, preset_bytes, FitsPreset, relocation_bytes, FitsRelocation, definition_bytes, FitsDefinition, body_facts_bytes, FitsBodyFacts, statement_bytes, FitsStatement}
@@ -26,6 +26,18 @@ of_format s F read k kind number payload r l same spell fit fits e =
     let is : k b.0 ≡ r = some_is (k b.0) r b.2 in
     subst (TakesRecord kind payload) is (record { kind_is = (spell b.0).0 ∙ sym same; payload_is = (spell b.0).1 ∙ sym t.0; fits = fit b.0 t.1 })
 
+-- What is of a kind is as its row tells, and what is not is as the later rows tell.
+row : (kind number : ℕ) (here others : Option Record) (payload : List ℕ) (r : Record) → (kind ≡ number → here ≡ Some r → TakesRecord kind payload r) → (others ≡ Some r → TakesRecord kind payload r)
+    → cond (eqb kind number) here others ≡ Some r → TakesRecord kind payload r
+row kind number here others payload r this later e = elim (either kind number here others r e) [ inl h ↦ this h.0 h.1 | inr other ↦ later other ]
+
+-- the row of a kind that has a format
+in_row : {A : Type 0} (s : A → List ℕ) (F : A → Type 0) (read : Reader A) (k : A → Record) (kind number : ℕ) (payload : List ℕ) (r : Record) (others : Option Record) → Reads s F read
+    → ((x : A) → (kind_of (k x) ≡ number) × (payload_of (k x) ≡ s x)) → ((x : A) → F x → FitsRecord (k x)) → IsBytes payload → (others ≡ Some r → TakesRecord kind payload r)
+    → cond (eqb kind number) (whole read payload >>= λ x. Some (k x)) others ≡ Some r → TakesRecord kind payload r
+in_row s F read k kind number payload r others l spell fit fits =
+    row kind number (whole read payload >>= λ x. some (k x)) others payload r (λ same is. of_format s F read k kind number payload r l same spell fit fits is)
+
 alone : (p : Record) (kind number : ℕ) (payload : List ℕ) (r : Record) → kind ≡ number → kind_of p ≡ number → payload_of p ≡ payload → FitsRecord p → some p ≡ some r → TakesRecord kind payload r
 alone p kind number payload r same k spell fit e = subst (TakesRecord kind payload) (some_is p r e) (record { kind_is = k ∙ sym same; payload_is = spell; fits = fit })
 
@@ -34,40 +46,19 @@ nil_is [] e = refl
 nil_is (b ∷ bs) e = absurd cc
 
 pub record_takes : (kind : ℕ) (payload : List ℕ) (r : Record) → IsBytes payload → record_in kind payload ≡ Some r → TakesRecord kind payload r
-record_takes kind p r fits e = elim (either kind 1 _ _ r e) [
-  | inl h ↦ of_format text_bytes IsName name_in SegmentName kind 1 p r reads_name h.0 (λ _. (refl, refl)) (λ _ f. f) fits h.1
-  | inr e1 ↦ elim (either kind 2 _ _ r e1) [
-    | inl h ↦ of_format descriptor_bytes FitsDescriptor descriptor_in Descriptor kind 2 p r reads_descriptor h.0 (λ _. (refl, refl)) (λ _ f. f) fits h.1
-    | inr e2 ↦ elim (either kind 3 _ _ r e2) [
-      | inl h ↦ of_format family_bytes FitsFamily family_in StorageFamily kind 3 p r reads_family h.0 (λ _. (refl, refl)) (λ _ f. f) fits h.1
-      | inr e3 ↦ elim (either kind 4 _ _ r e3) [
-        | inl h ↦ of_format item_bytes FitsItem item_in StoredItem kind 4 p r reads_item h.0 (λ _. (refl, refl)) (λ _ f. f) fits h.1
-        | inr e4 ↦ elim (either kind 5 _ _ r e4) [
-          | inl h ↦ of_format preset_bytes FitsPreset preset_in PresetWord kind 5 p r reads_preset h.0 (λ _. (refl, refl)) (λ _ f. f) fits h.1
-          | inr e5 ↦ elim (either kind 6 _ _ r e5) [
-            | inl h ↦ alone (Code p) kind 6 p r h.0 refl refl tt h.1
-            | inr e6 ↦ elim (either kind 7 _ _ r e6) [
-              | inl h ↦ of_format relocation_bytes FitsRelocation relocation_in Relocation kind 7 p r reads_relocation h.0 (λ _. (refl, refl)) (λ _ f. f) fits h.1
-              | inr e7 ↦ elim (either kind 8 _ _ r e7) [
-                | inl h ↦ of_format definition_bytes FitsDefinition definition_in Definition kind 8 p r reads_definition h.0 (λ _. (refl, refl)) (λ _ f. f) fits h.1
-                | inr e8 ↦ elim (either kind 9 _ _ r e8) [
-                  | inl h ↦ of_format body_facts_bytes FitsBodyFacts body_facts_in BodyFacts kind 9 p r reads_body_facts h.0 (λ _. (refl, refl)) (λ _ f. f) fits h.1
-                  | inr e9 ↦ elim (either kind 10 _ _ r e9) [
-                    | inl h ↦ of_format statement_bytes FitsStatement statement_in Statement kind 10 p r reads_statement h.0 (λ _. (refl, refl)) (λ _ f. f) fits h.1
-                    | inr e10 ↦ elim (either kind 255 _ _ r e10) [
-                      | inl h ↦ let t = tested (is_empty p) End r h.1 in alone End kind 255 p r h.0 refl (nil_is p t.0) tt (ap some t.1)
-                      | inr other ↦ absurd (no_none r other)
-                    ]
-                  ]
-                ]
-              ]
-            ]
-          ]
-        ]
-      ]
-    ]
-  ]
-]
+record_takes kind p r fits =
+    in_row text_bytes IsName name_in SegmentName kind 1 p r _ reads_name (λ _. (refl, refl)) (λ _ f. f) fits
+    (in_row descriptor_bytes FitsDescriptor descriptor_in Descriptor kind 2 p r _ reads_descriptor (λ _. (refl, refl)) (λ _ f. f) fits
+    (in_row family_bytes FitsFamily family_in StorageFamily kind 3 p r _ reads_family (λ _. (refl, refl)) (λ _ f. f) fits
+    (in_row item_bytes FitsItem item_in StoredItem kind 4 p r _ reads_item (λ _. (refl, refl)) (λ _ f. f) fits
+    (in_row preset_bytes FitsPreset preset_in PresetWord kind 5 p r _ reads_preset (λ _. (refl, refl)) (λ _ f. f) fits
+    (row kind 6 (some (Code p)) _ p r (λ same is. alone (Code p) kind 6 p r same refl refl tt is)
+    (in_row relocation_bytes FitsRelocation relocation_in Relocation kind 7 p r _ reads_relocation (λ _. (refl, refl)) (λ _ f. f) fits
+    (in_row definition_bytes FitsDefinition definition_in Definition kind 8 p r _ reads_definition (λ _. (refl, refl)) (λ _ f. f) fits
+    (in_row body_facts_bytes FitsBodyFacts body_facts_in BodyFacts kind 9 p r _ reads_body_facts (λ _. (refl, refl)) (λ _ f. f) fits
+    (in_row statement_bytes FitsStatement statement_in Statement kind 10 p r _ reads_statement (λ _. (refl, refl)) (λ _ f. f) fits
+    (row kind 255 (cond (is_empty p) (some End) None) None p r (λ same is. let t = tested (is_empty p) End r is in alone End kind 255 p r same refl (nil_is p t.0) tt (ap some t.1))
+    (λ other. absurd (no_none r other))))))))))))
 
 again_by : {A : Type 0} (s : A → List ℕ) (F : A → Type 0) (read : Reader A) (k : A → Record) (x : A) → Reads s F read → F x → (whole read (s x) >>= λ y. Some (k y)) ≡ Some (k x)
 again_by s F read k x l fits = ap (λ o. o >>= λ y. some (k y)) (whole_again s F read l x fits)

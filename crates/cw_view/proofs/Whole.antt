@@ -9,7 +9,7 @@ use Rattle.cw_view.specs.declared.fault.ObjFault.TheVariants.{Trailing}
 use Rattle.cw_fields.specs.Fields.{◌>>=◌, text_bytes, text_in, long_bytes}
 use Rattle.cw_fields.specs.Names.{named}
 use Rattle.cw_view.specs.ObjectFormat
-use Rattle.cw_view.specs.ObjectFormat.{Record, SegmentName, Descriptor, StorageFamily, StoredItem, PresetWord, Code, Relocation, Definition, BodyFacts, Statement, End, kind_of, payload_of, record_bytes, last_kind, code_of, facts_of, can_follow, IsNext, IsFront, IsVersion, IsObjectOf, IsFirstObjectFault, FailsBehind, trailing, front_bytes, header, payload_if, payloads}
+use Rattle.cw_view.specs.ObjectFormat.{Record, SegmentName, kind_of, payload_of, record_bytes, last_kind, code_of, facts_of, can_follow, IsNext, IsFront, IsVersion, IsObjectOf, IsFirstObjectFault, FailsBehind, trailing, front_bytes, header, payload_if, payloads}
 use Rattle.cw_view.specs.Fronts.{Reaches, first_name, facts_at}
 use Rattle.cw_fields.proofs.Formats.{reads_text}
 use Rattle.cw_fields.proofs.Names.{name-Decides}
@@ -32,29 +32,11 @@ some x = Some x
 
 some_kind : (r : Record) → kind_of r ≢ 0
 some_kind (SegmentName x) e = absurd (omega (arith, e))
-some_kind (Descriptor x) e = absurd (omega (arith, e))
-some_kind (StorageFamily x) e = absurd (omega (arith, e))
-some_kind (StoredItem x) e = absurd (omega (arith, e))
-some_kind (PresetWord x) e = absurd (omega (arith, e))
-some_kind (Code x) e = absurd (omega (arith, e))
-some_kind (Relocation x) e = absurd (omega (arith, e))
-some_kind (Definition x) e = absurd (omega (arith, e))
-some_kind (BodyFacts x) e = absurd (omega (arith, e))
-some_kind (Statement x) e = absurd (omega (arith, e))
-some_kind End e = absurd (omega (arith, e))
+some_kind _ e = absurd (omega (arith, e))
 
 begins_alone : (v : ℕ) (r : Record) → IsNext v [] r → Begins v (r ∷ [])
 begins_alone v (SegmentName x) n = record { name = x; rest = []; is_name = n.fits; spelled = ap (λ y. header v ++ y) (sym (append-nil (record_bytes (SegmentName x)))); only = refl }
-begins_alone v (Descriptor x) n = absurd (ff n.in_order)
-begins_alone v (StorageFamily x) n = absurd (ff n.in_order)
-begins_alone v (StoredItem x) n = absurd (ff n.in_order)
-begins_alone v (PresetWord x) n = absurd (ff n.in_order)
-begins_alone v (Code x) n = absurd (ff n.in_order)
-begins_alone v (Relocation x) n = absurd (ff n.in_order)
-begins_alone v (Definition x) n = absurd (ff n.in_order)
-begins_alone v (BodyFacts x) n = absurd (ff n.in_order)
-begins_alone v (Statement x) n = absurd (ff n.in_order)
-begins_alone v End n = absurd (ff n.in_order)
+begins_alone v _ n = absurd (ff n.in_order)
 
 no_second : (v last kind : ℕ) → can_follow v last kind ≡ true → last ≢ 0 → kind ≢ 1
 no_second v last kind h some = grind (arith, nat_tests)

@@ -77,7 +77,18 @@ impl<T: Drop> List<T> {
         ensures ok { OnOk result (self.new ≡ self.old ++ item ∷ []) }
         ensures err { OnErr result (self.new ≡ self.old) }
     {
+        self.make_room()?;
         self.items.push(item).map_err(|_| NoMemory)
+    }
+
+    // Most lists stay short, so the first two items ask for room one at a time.
+    fn make_room(&mut self) -> Result<(), NoMemory>
+        ensures { self.new ≡ self.old }
+    {
+        if self.items.len() >= 2 {
+            return Ok(());
+        }
+        self.items.reserve_exact(1).map_err(|_| NoMemory)
     }
 }
 

@@ -6,7 +6,8 @@ use Rattle.cw_grammar.specs.Grammar.{Sort, a_pair, a_from, Value, Grammar, one, 
 use Rattle.cw_grammar.specs.Derives.{Derives, is_none, is_then, is_left, is_right, is_map, IsViablePrefix, no_token, of_first, of_second, of_left, of_right, of_map}
 use Rattle.cw_grammar.proofs.Whole.{text_is_front}
 use Rattle.cw_written.specs.Alike.{IsAlike}
-use Rattle.cw_written.proofs.Chains.{Chain, ends, leads, grammar, push, Led, led, lead, pushed, Pulled, pulled, LedFront, at_first, at_second, map_front, led_front, lead_first, lead_second, pushed_front, pulled_front}
+use Rattle.cw_grammar.proofs.Distribute.{led, lead, at_first, at_second, map_front, led_front, lead_first, lead_second}
+use Rattle.cw_written.proofs.Chains.{Chain, ends, leads, grammar, push, pushed, pulled, pushed_front, pulled_front}
 
 -- the alternatives of a grammar, each with one of these behind it
 abbrev pub expand : {s : Sort} (t : Sort) → Grammar s → List (Chain (a_from s t)) → List (Chain t)

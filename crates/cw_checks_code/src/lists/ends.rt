@@ -202,34 +202,47 @@ fn views_of(alloc: Global, objects: &[List<u8>]) -> Result<List<View>, NoMemory>
     Ok(views)
 }
 
-// The closing line of a fault.
-fn closing(alloc: Global, fault: LinkFault) -> Result<String, AllocError> {
+// Whether a fault has this closing line.
+fn closes_with(alloc: Global, fault: LinkFault, line: &str) -> Result<bool, AllocError> {
     let Ok(mut say) = MemSink::new(alloc, 100, 100, List::new(alloc)) else {
         return Err(AllocError);
     };
     match write_last(&mut say, &[], &[], &Status::Unlinked(fault)) {
-        Ok(()) => String::from_utf8_lossy(alloc, say.held()),
+        Ok(()) => Ok(say.held() == line.as_bytes()),
         Err(_) => Err(AllocError),
     }
 }
 
-// What comes of linking the segments of a row.
-fn answer_of(alloc: Global, limits: &str, segments: &str) -> Result<String, AllocError> {
-    let Some(objects) = objects_of(alloc, segments)? else {
-        return String::from_str(alloc, "no object");
-    };
-    let Ok(views) = views_of(alloc, objects.as_slice()) else {
+// Whether the last end of a storage map has this line.
+fn is_end(alloc: Global, end: u32, line: &str) -> Result<bool, AllocError> {
+    let told = format!(in alloc; "link: ok {end}\n")?;
+    Ok(told.as_str() == line)
+}
+
+// Whether this line comes of linking objects.
+fn are_linked(
+    alloc: Global,
+    limits: &str,
+    objects: &[List<u8>],
+    line: &str,
+) -> Result<bool, AllocError> {
+    let Ok(views) = views_of(alloc, objects) else {
         return Err(AllocError);
     };
     if views.as_slice().len() > 200 {
-        return String::from_str(alloc, "too many");
+        return Ok(false);
     }
     match link(alloc, views.as_slice(), &limits_of(limits)) {
-        Ok(linked) => {
-            let end = linked.map.end;
-            format!(in alloc; "link: ok {end}\n")
-        }
-        Err(fault) => closing(alloc, fault),
+        Ok(linked) => is_end(alloc, linked.map.end, line),
+        Err(fault) => closes_with(alloc, fault, line),
+    }
+}
+
+// Whether it comes of linking the segments of a row.
+fn is_linked(alloc: Global, limits: &str, segments: &str, line: &str) -> Result<bool, AllocError> {
+    match objects_of(alloc, segments)? {
+        Some(objects) => are_linked(alloc, limits, objects.as_slice(), line),
+        None => Ok(false),
     }
 }
 
@@ -242,7 +255,7 @@ fn holds(alloc: Global, row: &str) -> Result<bool, AllocError> {
         return Ok(false);
     };
     let line = format!(in alloc; "link: {wanted}\n")?;
-    Ok(answer_of(alloc, limits, segments)?.as_str() == line.as_str())
+    is_linked(alloc, limits, segments, line.as_str())
 }
 
 // The first row that does not hold, or nothing.

@@ -45,28 +45,39 @@ fn put_word(payload: &mut Vec<u8>, word: &str) -> Result<Option<()>, AllocError>
     Ok(Some(()))
 }
 
-/// The object of a spelling. Between its words stands one blank. `6:` begins a record of kind 6; then its payload: `'AB` is a
-/// name, `7` a byte, `7w` and `7l` numbers of two and four bytes, and `=99` as many zeros as make code that takes 99 bytes
-/// together with the library's. The mark, version 2 and the record End are left out. None where it is not of this form.
-pub fn spelled(alloc: Global, words: &str) -> Result<Option<Vec<u8>>, AllocError> {
-    let mut object = Vec::new(alloc);
-    object.extend_from_slice(b"C66O\x02\x00")?;
-    let mut payload = Vec::new(alloc);
+// The records of a spelling, where it is of the form; the payload of each is gathered apart.
+fn put_records(
+    object: &mut Vec<u8>,
+    payload: &mut Vec<u8>,
+    words: &str,
+) -> Result<Option<()>, AllocError> {
     let mut kind = None;
     for word in words.split(' ') {
         if let Some(number) = word.strip_suffix(':') {
             if let Some(kind) = kind {
-                put_record(&mut object, kind, payload.as_slice())?;
+                put_record(object, kind, payload.as_slice())?;
             }
             payload.clear();
             kind = number.parse::<u8>().ok();
-        } else if put_word(&mut payload, word)?.is_none() {
+        } else if put_word(payload, word)?.is_none() {
             return Ok(None);
         }
     }
     if let Some(kind) = kind {
-        put_record(&mut object, kind, payload.as_slice())?;
+        put_record(object, kind, payload.as_slice())?;
     }
-    put_record(&mut object, 255, &[])?;
-    Ok(Some(object))
+    put_record(object, 255, &[])?;
+    Ok(Some(()))
+}
+
+/// The object of a spelling. Between its words stands one blank. `6:` begins a record of kind 6; then its payload: `'AB` is a
+/// name, `7` a byte, `7w` and `7l` numbers of two and four bytes, and `=99` as many zeros as make code that takes 99 bytes
+/// together with the library's. The mark, version 2 and the record End are left out. None where it is not of this form.
+pub fn spelled(alloc: Global, words: &str) -> Result<Option<Vec<u8>>, AllocError> {
+    let mut object = b"C66O\x02\x00".to_vec(alloc)?;
+    let mut payload = Vec::new(alloc);
+    match put_records(&mut object, &mut payload, words)? {
+        Some(()) => Ok(Some(object)),
+        None => Ok(None),
+    }
 }

@@ -1,5 +1,5 @@
 //! Texts with the declaration of each use of a name, or the first fault of their names, by hand from the rules of scope.
-use crate::names::outcome::outcome;
+use crate::names::outcome::comes;
 use crate::rows::text_of;
 use std::alloc::{AllocError, Global};
 use std::test::Fail;
@@ -206,7 +206,7 @@ fn holds(alloc: Global, row: &str) -> Result<bool, AllocError> {
     match given.as_bytes() {
         [form, given @ ..] => {
             let text = text_of(alloc, *form, given)?;
-            Ok(outcome(alloc, &text)?.as_slice() == wanted.as_bytes())
+            Ok(comes(alloc, &text, wanted.as_bytes()))
         }
         [] => Ok(false),
     }

@@ -1,7 +1,7 @@
 //! What the types of a text come to, in words.
 use cw_compile::{Refusal, UnitFault, unit};
 use cw_type::check::TypeFault;
-use std::alloc::{AllocError, Global};
+use std::alloc::Global;
 
 /// The most bytes of a source text.
 const TEXT_LIMIT: usize = 1_048_576;
@@ -21,30 +21,19 @@ fn code_and_line(fault: &TypeFault) -> (u8, u32) {
     }
 }
 
-fn of_fault(alloc: Global, fault: &TypeFault) -> Result<Vec<u8>, AllocError> {
+fn is_fault(fault: &TypeFault, told: &[u8]) -> bool {
     let (code, line) = code_and_line(fault);
-    let mut out = Vec::new(alloc);
-    out.push(b'Y')?;
-    out.push(code)?;
-    out.push(b' ')?;
-    out.push(b'0' + (line % 10) as u8)?;
-    Ok(out)
+    told == [b'Y', code, b' ', b'0' + (line % 10) as u8].as_slice()
 }
 
-fn words(alloc: Global, words: &'static [u8]) -> Result<Vec<u8>, AllocError> {
-    let mut out = Vec::new(alloc);
-    out.extend_from_slice(words)?;
-    Ok(out)
-}
-
-/// What the types of a text come to: `ok`, the rule that is broken first with its line, or that it is refused before its types.
-pub fn outcome(alloc: Global, text: &[u8]) -> Result<Vec<u8>, AllocError> {
+/// Whether the types of a text come to what is told: `ok`, the rule that is broken first with its line, or that it is refused before its types.
+pub fn comes(alloc: Global, text: &[u8], told: &[u8]) -> bool {
     if text.len() > TEXT_LIMIT {
-        return words(alloc, b"no text");
+        return told == b"no text".as_slice();
     }
     match unit(alloc, text) {
-        Ok(_) => words(alloc, b"ok"),
-        Err(UnitFault::Refused(Refusal::Typing(fault))) => of_fault(alloc, &fault),
-        Err(_) => words(alloc, b"no text"),
+        Ok(_) => told == b"ok".as_slice(),
+        Err(UnitFault::Refused(Refusal::Typing(fault))) => is_fault(&fault, told),
+        Err(_) => told == b"no text".as_slice(),
     }
 }

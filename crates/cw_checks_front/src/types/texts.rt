@@ -1,6 +1,6 @@
 //! Texts with the first fault of their types, by hand from the rules of types, at the limits of each.
 use crate::rows::text_of;
-use crate::types::outcome::outcome;
+use crate::types::outcome::comes;
 use std::alloc::{AllocError, Global};
 use std::test::Fail;
 
@@ -170,7 +170,7 @@ fn holds(alloc: Global, row: &str) -> Result<bool, AllocError> {
     match given.as_bytes() {
         [form, given @ ..] => {
             let text = text_of(alloc, *form, given)?;
-            Ok(outcome(alloc, text.as_slice())?.as_slice() == wanted.as_bytes())
+            Ok(comes(alloc, &text, wanted.as_bytes()))
         }
         [] => Ok(false),
     }

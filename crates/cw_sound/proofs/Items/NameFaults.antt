@@ -14,8 +14,7 @@ use Rattle.cw_scope.specs.Definitions.{definitions_judged}
 use Rattle.cw_scope.specs.Resolved.{text_signatures}
 use Rattle.cw_scope.specs.Text.{text_fault}
 use Rattle.cw_sound.proofs.Items.Lists.{In}
-use Rattle.cw_sound.proofs.Names.NoFaults.{parts, facts_keep}
-use Rattle.cw_sound.proofs.Names.NoDefinitionFaults.{definitions_keep}
+use Rattle.cw_sound.proofs.Names.NoFaults.{parts, facts_keep, definitions_keep}
 use Rattle.cw_macro.specs.Premises.{Each}
 
 some-none : {A : Type 0} (x : A) → Some x ≡ None → ⊥

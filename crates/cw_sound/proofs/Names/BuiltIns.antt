@@ -41,8 +41,7 @@ use Rattle.cw_sound.specs.Names.Standing.{AnswersAreCalled}
 use Rattle.cw_sound.proofs.Names.Parts as part
 use Rattle.cw_sound.proofs.Names.Parts.{Part}
 use Rattle.cw_sound.proofs.Names.Lists.{in_left, in_right, in_either}
-use Rattle.cw_sound.proofs.Names.NoFaults.{parts, holds}
-use Rattle.cw_sound.proofs.Names.NoDefinitionFaults.{definitions_keep}
+use Rattle.cw_sound.proofs.Names.NoFaults.{parts, holds, definitions_keep}
 use Rattle.cw_sound.proofs.Names.FoundRows.{at_first, at_later}
 use Rattle.cw_sound.proofs.Names.Rows.{mentions_append}
 use Rattle.cw_sound.proofs.Names.MentionsOf.{declared_first, specified_first, block_alone, of_use}

@@ -17,8 +17,7 @@ use Rattle.cw_make_items.specs.Lookup.{Numbers}
 use Rattle.cw_sound.specs.Uses.Mentions.{In, Here, here, declares, uses, facts_mentions, text_mentions}
 use Rattle.cw_sound.specs.Names.Placed.{Placed, tokens, Differ}
 use Rattle.cw_sound.specs.Names.Found.{Found, UsesFound}
-use Rattle.cw_sound.proofs.Names.NoFaults.{parts}
-use Rattle.cw_sound.proofs.Names.NoDefinitionFaults.{definitions_keep}
+use Rattle.cw_sound.proofs.Names.NoFaults.{parts, definitions_keep}
 use Rattle.cw_sound.proofs.Names.FoundRows.{found}
 use Rattle.cw_sound.proofs.Names.Rows.{row, in_rows, facts_rows, facts_used}
 use Rattle.cw_sound.proofs.Names.Nearness.{AllNear}

@@ -13,8 +13,7 @@ use Rattle.cw_scope.specs.Definitions.{Defined, defined, defined_step, each_own,
 use Rattle.cw_make.specs.Definitions.{declared_by, all_declared}
 use Rattle.cw_sound.specs.Uses.Mentions.{In}
 use Rattle.cw_sound.proofs.Names.Lists.{in_either}
-use Rattle.cw_sound.proofs.Names.NoFaults.{Keeps, keeps_fine, keeps_both, parts}
-use Rattle.cw_sound.proofs.Names.NoDefinitionFaults.{definition_keeps, definitions_keep}
+use Rattle.cw_sound.proofs.Names.NoFaults.{Keeps, keeps_fine, keeps_both, parts, definition_keeps, definitions_keep}
 
 -- ---- what a block declares itself
 

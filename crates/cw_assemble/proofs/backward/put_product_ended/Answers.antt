@@ -1,14 +1,11 @@
-use Rattle.std.proofs.Common.{true, subst, w8}
+use Rattle.std.proofs.Common.{true, w8}
 use Rattle.std.proofs.lemmas.Int.{to_z-of_z}
 use Rattle.std.proofs.lemmas.Result.{on_ok_weaker}
-use Rattle.cw_tmpl.specs.Assembling.{Adds}
 use Rattle.cw_tmpl.specs.Templates.{product_before}
-use Rattle.cw_assemble.proofs.Composed.{check_added}
+use Rattle.cw_assemble.proofs.Composed.{by_same, check_added}
 use Rattle.cw_assemble.proofs.backward.put_product_ended.Goals as goal
 
 pub returns : goal.returns
 returns c =
-    let before = subst (λ z. Adds c.args.code.now (product_before c.args.line z) c.put_product_before.new.code) (to_z-of_z w8 c.args.scale c.ranges.scale) c.in_ok-put_product_before.ensures in
-    on_ok_weaker c.put_check.result
-    (check_added c.args.code.now c.put_product_before.new.code c.put_check.new.code (product_before c.args.line c.args.scale) true c.args.line c.args.call before)
-    c.put_check.ensures
+    let before = by_same (product_before c.args.line) (to_z-of_z w8 c.args.scale c.ranges.scale) c.in_ok-put_product_before.ensures in
+    on_ok_weaker c.put_check.result (check_added true c.args.line c.args.call before) c.put_check.ensures

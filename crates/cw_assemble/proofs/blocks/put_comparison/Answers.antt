@@ -1,10 +1,6 @@
 use Rattle.std.proofs.lemmas.Result.{on_ok_weaker}
-use Rattle.cw_tmpl.specs.Templates.{with_operand}
 use Rattle.cw_assemble.proofs.Composed.{branch_added}
 use Rattle.cw_assemble.proofs.blocks.put_comparison.Goals as goal
 
 pub returns : goal.returns
-returns c =
-    on_ok_weaker c.put_branch.result
-    (branch_added c.args.code.now c.put_with_operand.new.code c.put_branch.new.code (with_operand 7 c.args.operand) c.args.short c.args.comparator c.args.to c.in_ok-put_with_operand.ensures)
-    c.put_branch.ensures
+returns c = on_ok_weaker c.put_branch.result (branch_added c.args.short c.args.comparator c.args.to c.in_ok-put_with_operand.ensures) c.put_branch.ensures

@@ -1,10 +1,6 @@
 use Rattle.std.proofs.lemmas.Result.{on_ok_weaker}
-use Rattle.cw_tmpl.specs.Templates.{with_operand}
 use Rattle.cw_assemble.proofs.Composed.{check_added}
 use Rattle.cw_assemble.proofs.blocks.put_sum.Goals as goal
 
 pub returns : goal.returns
-returns c =
-    on_ok_weaker c.put_check.result
-    (check_added c.args.code.now c.put_with_operand.new.code c.put_check.new.code (with_operand c.args.number c.args.operand) c.args.short c.args.line c.args.to c.in_ok-put_with_operand.ensures)
-    c.put_check.ensures
+returns c = on_ok_weaker c.put_check.result (check_added c.args.short c.args.line c.args.to c.in_ok-put_with_operand.ensures) c.put_check.ensures

@@ -1,32 +1,13 @@
-use Rattle.std.proofs.Common.{List, ◌++◌, ◌∷◌, [], subst, w16}
+use Rattle.std.proofs.Common.{w16}
 use Rattle.std.proofs.lemmas.Int.{to_z-of_z}
 use Rattle.std.proofs.lemmas.Result.{on_ok_weaker}
-use Rattle.cw_i86.specs.declared.instr.Instr.TheVariants as i86
-use Rattle.cw_tmpl.specs.declared.pieces.Coded.{Coded}
-use Rattle.cw_tmpl.specs.declared.pieces.Coded.TheVariants as coded
-use Rattle.cw_tmpl.specs.Assembling.{Adds}
-use Rattle.cw_tmpl.specs.Library.{address_entry}
-use Rattle.cw_tmpl.specs.Mnemonics.{move}
-use Rattle.cw_tmpl.specs.Templates.{base_kept, less_bound, times, in_row, based}
-use Rattle.cw_tmpl.proofs.Growing.{adds_then}
+use Rattle.cw_tmpl.specs.Templates.{less_bound}
+use Rattle.cw_assemble.proofs.Composed.{◌⨟◌, by_same, by_first}
 use Rattle.cw_assemble.proofs.indexes.put_element_of_two.Goals as goal
 
 pub returns : goal.returns
 returns c =
-    let line = c.args.line in
-    let lower = c.args.lower in
-    let second = c.args.second in
-    let one = c.put_base_kept.new.code in
-    let two = c.put_less_bound.new.code in
-    let three = c.put_place_kept.new.code in
-    let end = c.put_row.new.code in
-    let kept : List Coded = coded.Whole (move 1 0) ∷ coded.Whole (i86.Pop 0) ∷ [] in
-    let ends : List Coded = times address_entry line c.args.width ++ (in_row line ++ based line) in
-    let row : List Coded = less_bound line lower ++ ends in
-    let less = subst (λ z. Adds one (less_bound line z) two) (to_z-of_z w16 second c.ranges.second) c.in_ok-put_less_bound.ensures in
+    let less = by_same (less_bound c.args.line) (to_z-of_z w16 c.args.second c.ranges.second) c.in_ok-put_less_bound.ensures in
     on_ok_weaker c.put_row.result
-    (λ last.
-    adds_then c.args.code.now one end base_kept (less_bound line second ++ (kept ++ row)) c.in_ok-put_base_kept.ensures
-    (adds_then one two end (less_bound line second) (kept ++ row) less
-    (adds_then two three end kept row c.in_ok-put_place_kept.ensures (subst (λ z. Adds three (less_bound line z ++ ends) end) (to_z-of_z w16 lower c.ranges.lower) last))))
+    (λ last. let all = c.in_ok-put_base_kept.ensures ⨟ less ⨟ c.in_ok-put_place_kept.ensures ⨟ by_first (less_bound c.args.line) _ (to_z-of_z w16 c.args.lower c.ranges.lower) last in all)
     c.put_row.ensures

@@ -1,6 +1,6 @@
-use Rattle.std.proofs.Common.{◌<◌, length, ap, arith}
 use Rattle.cw_tmpl.specs.Named.{is_named_switch, switches_list_label}
 use Rattle.cw_assemble.proofs.Flags.{set_next_switch}
+use Rattle.cw_assemble.proofs.Placing.{at_index}
 use Rattle.cw_assemble.proofs.named.set_labels_of_switches.Goals as goal
 
 pub loop-number-preserved : goal.loop-number-preserved
@@ -8,7 +8,6 @@ loop-number-preserved c =
     let named = is_named_switch c.args.orders.now in
     let list = c.as_slice-switches.result.now in
     let k = c.loop-number.number in
-    let many = ap length c.as_slice-switches.ensures in
-    let within : k < length list = omega (arith, c.loop-number-test.true) in
+    let within = c.loop-number-test.true in
     set_next_switch named list k c.index-switches-number.result c.as_slice.result.now _ c.loop-number.flags.items c.set_labels_of_switch.new.flags.items c.args.flags.now.items (switches_list_label named 0 c.args.orders.now.switches)
-    within c.index-switches-number.is c.as_slice.ensures (c.requires.each k (omega (arith, many, within))) c.set_labels_of_switch.ensures.long c.set_labels_of_switch.ensures.each c.loop-number.invariant
+    within c.index-switches-number.is c.as_slice.ensures (c.requires.each k (at_index k c.as_slice-switches.ensures within)) c.set_labels_of_switch.ensures.long c.set_labels_of_switch.ensures.each c.loop-number.invariant

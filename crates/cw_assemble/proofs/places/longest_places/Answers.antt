@@ -1,4 +1,4 @@
-use Rattle.std.proofs.Common.{◌<◌, length, refl, false, arith}
+use Rattle.std.proofs.Common.{refl, false}
 use Rattle.cw_tmpl.specs.ShortForms.{all_near}
 use Rattle.cw_tmpl.specs.ReferenceCode.{longest_places}
 use Rattle.cw_assemble.proofs.Placing.{place_more}
@@ -8,6 +8,6 @@ pub loop-k-preserved : goal.loop-k-preserved
 loop-k-preserved c =
     let list = c.args.orders.now in
     let k = c.loop-k.k in
-    let within : k < length list = omega (arith, c.loop-k-test.true) in
+    let within = c.loop-k-test.true in
     place_more all_near c.loop-k.list c.push.new.self c.loop-k.at c.loop-k.left c.in_ok-behind.behind c.orders_left-left.result list k c.block_in-block.result c.index-orders-k.result false (longest_places c.args.orders.now)
     within c.index-orders-k.is c.block_in-block.ensures.value refl c.orders_left-left.ensures c.in_ok-behind.ensures c.in_ok-push.ensures.ok c.loop-k.invariant

@@ -1,19 +1,13 @@
-use Rattle.std.proofs.Common.{sym, subst, arith}
-use Rattle.std.proofs.lemmas.Option.{slice_get_within}
-use Rattle.cw_comm.specs.Clashes.{FailsToAgree, differs}
+use Rattle.std.proofs.Common.{sym, subst}
+use Rattle.cw_comm.specs.Clashes.{IsDifference, FailsToAgree, differs}
+use Rattle.cw_comm.proofs.Differences.{named}
+use Rattle.cw_comm.proofs.Firsts.{both_few}
 use Rattle.cw_comm.proofs.agreeing.alike.Goals as goal
 
-pub differs-requires-clause-first : goal.differs-requires-clause-first
-differs-requires-clause-first c =
-    let found = rw c.in-Some.is at c.in_ok-found.ensures in
-    let within = slice_get_within c.args.segments.now c.in-Some.found.2 found.1.holds.names.face found.1.holds.names.segment_is in
-    omega (arith, within, found.1.holds.before, c.requires.few)
-
-pub differs-requires-clause-second : goal.differs-requires-clause-second
-differs-requires-clause-second c =
-    let found = rw c.in-Some.is at c.in_ok-found.ensures in
-    let within = slice_get_within c.args.segments.now c.in-Some.found.2 found.1.holds.names.face found.1.holds.names.segment_is in
-    omega (arith, within, c.requires.few)
+pub differs-requires : goal.differs-requires
+differs-requires c =
+    let both = both_few c.args.segments.now (IsDifference c.args.segments.now) (named c.args.segments.now) (λ j d i n p. p.before) c.requires.few c.in-Some.found.0 c.in-Some.found.1 c.in-Some.found.2 (rw c.in-Some.is at c.in_ok-found.ensures) in
+    record { first = both.0; second = both.1 }
 
 pub returns-in-Some-clause-clash : goal.returns-in-Some-clause-clash
 returns-in-Some-clause-clash c =

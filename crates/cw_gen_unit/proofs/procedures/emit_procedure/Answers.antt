@@ -1,13 +1,13 @@
 use Rattle.std.proofs.Common.{◌≡◌, Some, sym, ap, ap₂, ◌∙◌}
 use Rattle.std.proofs.lemmas.Result.{on_ok_weaker}
 use Rattle.cw_unit.specs.Configuration.{fraction_of_answer}
-use Rattle.cw_gen_expr.specs.Pieces.{plain}
+use Rattle.cw_gen_expr.specs.Pieces.{plain, followed_by}
 use Rattle.cw_gen_expr.specs.Output.{made, added}
 use Rattle.cw_gen_expr.specs.ReferenceExpressions.{scope_with}
 use Rattle.cw_gen_expr.specs.ReferenceEntries.{scope_of, parameters_in}
 use Rattle.cw_gen_unit.specs.ReferenceStatements.{statement_piece}
 use Rattle.cw_gen_unit.specs.ReferenceUnits.{answer_of, entry_orders, leave_orders}
-use Rattle.cw_gen_unit.proofs.Chains.{one, and_then}
+use Rattle.cw_gen_expr.proofs.Making.{two_steps}
 use Rattle.cw_gen_unit.proofs.procedures.emit_procedure.Goals as goal
 
 pub returns : goal.returns
@@ -21,8 +21,9 @@ returns c =
     let x3 = made c.emit_leave.new.out in
     let scope : scope_with u c.args.layout.now c.as_slice.result.now ≡ scope_of u (Some p) = ap₂ (scope_with u) c.requires.of_unit (c.as_slice.ensures ∙ ap parameters_in (sym c.requires.numbered)) in
     let answer : c.answer_scale.result ≡ answer_of u (Some p) = c.answer_scale.ensures ∙ ap fraction_of_answer (sym c.requires.numbered) in
+    let body = statement_piece (scope_of u (Some p)) (Some p) (answer_of u (Some p)) q.body in
+    let ended = plain (leave_orders q) in
     on_ok_weaker c.emit_leave.result
-    (λ h.
-    (and_then (one (plain (entry_orders u p q)) x x1 c.in_ok-emit_entry.ensures)
-    (and_then (one (statement_piece (scope_of u (Some p)) (Some p) (answer_of u (Some p)) q.body) x1 x2 (c.in_ok-ends.ensures.orders ∙ ap₂ (λ s a. added (statement_piece s (Some p) a q.body) x1) scope answer)) (one (plain (leave_orders q)) x2 x3 h))).is)
+    (λ h. two_steps (plain (entry_orders u p q)) (followed_by body ended) x x1 x3 c.in_ok-emit_entry.ensures
+    (two_steps body ended x1 x2 x3 (c.in_ok-ends.ensures.orders ∙ ap₂ (λ s a. added (statement_piece s (Some p) a q.body) x1) scope answer) h))
     c.emit_leave.ensures

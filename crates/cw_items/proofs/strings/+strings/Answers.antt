@@ -14,7 +14,8 @@ use Rattle.cw_tree.specs.declared.expression.RawUnion.{out-RawUnion}
 use Rattle.cw_facts.specs.declared.fact.Reading.TheVariants as reading
 use Rattle.cw_facts.specs.Uses.{expression_uses, conjunction_uses, comparison_uses, condition_uses, differ_uses, mask_uses, prim_uses, primary_uses, reference_uses, sum_uses, term_uses, union_uses}
 use Rattle.cw_items.specs.Things.{texts}
-use Rattle.cw_items.proofs.Adding.{of_sum, of_number, of_octal, of_literal, of_location, of_forced, of_bracket, of_ref, of_bare, of_prim, of_each_condition, of_each_conjunction, of_each_sum, of_each_term, of_each_differ, of_each_union, of_each_mask, none_more, one_more, all_parts, whole, passed_on, string_more, choice_more, comparison_more, call_more, name_more, index_more, indexes_more}
+use Rattle.cw_facts.proofs.Layers.{of_sum, of_number, of_octal, of_literal, of_location, of_forced, of_bracket, of_ref, of_bare}
+use Rattle.cw_items.proofs.Adding.{of_primary, of_each_condition, of_each_conjunction, of_each_sum, of_each_term, of_each_differ, of_each_union, of_each_mask, none_more, one_more, all_parts, whole, passed_on, string_more, choice_more, comparison_more, call_more, name_more, index_more, indexes_more}
 use Rattle.cw_items.proofs.strings.+strings.Goals as goal
 
 pub argument_strings-loop-argument-preserved : goal.argument_strings-loop-argument-preserved
@@ -105,10 +106,10 @@ comparison_strings-returns t c = λ r.
 
 pub prim_strings-returns : goal.prim_strings-returns
 prim_strings-returns t c = λ r.
-    let s = (of_prim c.args.e.now r).0 in
+    let s = (of_primary c.args.e.now r).0 in
     on_ok_weaker c.primary_strings.result
     (λ added. passed_on c.args.owner.now (prim_uses c.args.e.now r) (primary_uses (out-RawPrim c.args.e.now).primary s) (primary_uses (out-RawPrim c.args.e.now).primary s) c.args.out.now c.primary_strings.new.out
-    added refl (of_prim c.args.e.now r).1)
+    added refl (of_primary c.args.e.now r).1)
     (c.primary_strings.ensures s)
 
 pub expression_strings-returns-in_ok-expression_strings-in-Choice : goal.expression_strings-returns-in_ok-expression_strings-in-Choice

@@ -2,21 +2,15 @@ use Rattle.std.proofs.Common.{◌≡◌, ℕ, ◌+◌, ◌<◌, length, get_or, 
 use Rattle.std.proofs.lemmas.List.{get_or_default}
 use Rattle.cw_unit.specs.Storage.{family_offset, family_of}
 use Rattle.cw_layout.proofs.Passes.{IsAt, home_read, homes_length}
-use Rattle.cw_layout.proofs.Tables.{ends_within, family_within, kept_extent, raised_extent}
+use Rattle.cw_layout.proofs.Tables.{ends_within, family_within, family_index, kept_extent, raised_extent}
 use Rattle.cw_layout.proofs.families.family_extents.Goals as goal
 use Rattle.cw_layout.proofs.families.family_extents.Goals.{then-index-end, else-index-end}
 
 pub bounds-homes-n : goal.bounds-homes-n
-bounds-homes-n c =
-    let same = ap length c.as_slice-items.ensures in
-    let len = homes_length c.args.unit.now c.args.homes.now c.requires.homes in
-    omega (arith, same, len, c.loop-n-test.true)
+bounds-homes-n c = omega (arith, ap length c.as_slice-items.ensures, homes_length c.args.unit.now c.args.homes.now c.requires.homes, c.loop-n-test.true)
 
 pub bounds-homes-n-in-loop-n : goal.bounds-homes-n-in-loop-n
-bounds-homes-n-in-loop-n c =
-    let same = ap length c.as_slice-items.ensures in
-    let len = homes_length c.args.unit.now c.args.homes.now c.requires.homes in
-    omega (arith, same, len, c.loop-n-test.true)
+bounds-homes-n-in-loop-n c = omega (arith, ap length c.as_slice-items.ensures, homes_length c.args.unit.now c.args.homes.now c.requires.homes, c.loop-n-test.true)
 
 pub overflow_add-end : goal.overflow_add-end
 overflow_add-end c =
@@ -29,26 +23,10 @@ overflow_add-end c =
     omega (arith, place, end, words, c.from.ensures)
 
 pub index-requires : goal.index-requires
-index-requires c =
-    let u = c.args.unit.now in
-    let i = c.index-items-n.result in
-    let at : IsAt u c.loop-n.n i = record { within = search rules; read = search rules } in
-    let family = ap (λ (p : ℕ × ℕ). p.0) (home_read u c.loop-n.n c.args.homes.now at.within c.requires.homes) in
-    let within = family_within u c.loop-n.n i c.requires.unit.storable at in
-    let len : length c.loop-n.extents.items ≡ length u.items = c.loop-n.invariant.len in
-    let same = c.loop-n.extents.ok.0 in
-    omega (arith, family, within, len, same)
+index-requires c = omega (arith, family_index c.args.unit.now c.loop-n.n c.index-items-n.result c.args.homes.now c.requires.unit.storable (record { within = search rules; read = search rules }) c.requires.homes, c.loop-n.invariant.len, c.loop-n.extents.ok.0)
 
 pub index_mut-requires : goal.index_mut-requires
-index_mut-requires c =
-    let u = c.args.unit.now in
-    let i = c.index-items-n.result in
-    let at : IsAt u c.loop-n.n i = record { within = search rules; read = search rules } in
-    let family = ap (λ (p : ℕ × ℕ). p.0) (home_read u c.loop-n.n c.args.homes.now at.within c.requires.homes) in
-    let within = family_within u c.loop-n.n i c.requires.unit.storable at in
-    let len : length c.loop-n.extents.items ≡ length u.items = c.loop-n.invariant.len in
-    let same = c.loop-n.extents.ok.0 in
-    omega (arith, family, within, len, same)
+index_mut-requires c = omega (arith, family_index c.args.unit.now c.loop-n.n c.index-items-n.result c.args.homes.now c.requires.unit.storable (record { within = search rules; read = search rules }) c.requires.homes, c.loop-n.invariant.len, c.loop-n.extents.ok.0)
 
 pub loop-n-preserved : goal.loop-n-preserved
 loop-n-preserved c =

@@ -1,29 +1,15 @@
-use Rattle.std.proofs.Common.{◌≡◌, ℕ, List, length, get_or, take, Some, None, is_none, cond, ap, ◌∙◌, arith, rules}
+use Rattle.std.proofs.Common.{◌≡◌, ℕ, List, length, get_or, Some, None, is_none, cond, ap, ◌∙◌, arith, rules}
 use Rattle.cw_unit.specs.Storage.{base_of_home}
-use Rattle.cw_layout.proofs.Passes.{IsAt, roots_few, roots_next, positions_length, length_taken}
-use Rattle.cw_layout.proofs.Tables.{ends_within, base_place, next_by_base, next_by_root}
+use Rattle.cw_layout.proofs.Passes.{IsAt, roots_few, roots_next}
+use Rattle.cw_layout.proofs.Tables.{ends_within, base_place, base_within, next_by_base, next_by_root}
 use Rattle.cw_layout.proofs.homes.item_homes.Goals as goal
 use Rattle.cw_layout.proofs.homes.item_homes.Goals.{in-Some+in_ok-push-in-Some, in-None+in_ok-push-in-None}
 
 pub bounds-as_slice-under : goal.bounds-as_slice-under
-bounds-as_slice-under c =
-    let u = c.args.unit.now in
-    let i = c.index-items-n.result in
-    let at : IsAt u c.loop-n.n i = record { within = search rules; read = search rules } in
-    let based : base_of_home u i.home ≡ Some (c.in-Some.under, c.in-Some.offset) = search rules in
-    let place = base_place u c.loop-n.n i _ c.requires at based in
-    let len = ap length (c.as_slice-in-Some.ensures ∙ c.loop-n.invariant.homes) ∙ positions_length 0 u (take c.loop-n.n u.items) ∙ length_taken u.items c.loop-n.n (omega (arith, at.within)) in
-    omega (arith, len, place.before)
+bounds-as_slice-under c = base_within c.args.unit.now c.loop-n.n c.index-items-n.result (c.in-Some.under, c.in-Some.offset) _ c.requires (record { within = search rules; read = search rules }) (search rules) (c.as_slice-in-Some.ensures ∙ c.loop-n.invariant.homes)
 
 pub bounds-as_slice-under-in-Some : goal.bounds-as_slice-under-in-Some
-bounds-as_slice-under-in-Some c =
-    let u = c.args.unit.now in
-    let i = c.index-items-n.result in
-    let at : IsAt u c.loop-n.n i = record { within = search rules; read = search rules } in
-    let based : base_of_home u i.home ≡ Some (c.in-Some.under, c.in-Some.offset) = search rules in
-    let place = base_place u c.loop-n.n i _ c.requires at based in
-    let len = ap length (c.as_slice-in-Some.ensures ∙ c.loop-n.invariant.homes) ∙ positions_length 0 u (take c.loop-n.n u.items) ∙ length_taken u.items c.loop-n.n (omega (arith, at.within)) in
-    omega (arith, len, place.before)
+bounds-as_slice-under-in-Some c = base_within c.args.unit.now c.loop-n.n c.index-items-n.result (c.in-Some.under, c.in-Some.offset) _ c.requires (record { within = search rules; read = search rules }) (search rules) (c.as_slice-in-Some.ensures ∙ c.loop-n.invariant.homes)
 
 pub overflow_add-place : goal.overflow_add-place
 overflow_add-place c =
@@ -38,16 +24,10 @@ overflow_add-place c =
     omega (arith, read, offset, end)
 
 pub overflow_cast-roots : goal.overflow_cast-roots
-overflow_cast-roots c =
-    let few = roots_few c.args.unit.now c.loop-n.n c.args.unit.now.items in
-    let same = ap length c.as_slice-items.ensures in
-    omega (arith, few, same, c.loop-n.invariant.roots, c.requires.item_count, c.loop-n-test.true)
+overflow_cast-roots c = omega (arith, roots_few c.args.unit.now c.loop-n.n c.args.unit.now.items, ap length c.as_slice-items.ensures, c.loop-n.invariant.roots, c.requires.item_count, c.loop-n-test.true)
 
 pub overflow_add-roots : goal.overflow_add-roots
-overflow_add-roots c =
-    let few = roots_few c.args.unit.now c.loop-n.n c.args.unit.now.items in
-    let same = ap length c.as_slice-items.ensures in
-    omega (arith, few, same, c.loop-n.invariant.roots, c.requires.item_count, c.loop-n-test.true)
+overflow_add-roots c = omega (arith, roots_few c.args.unit.now c.loop-n.n c.args.unit.now.items, ap length c.as_slice-items.ensures, c.loop-n.invariant.roots, c.requires.item_count, c.loop-n-test.true)
 
 pub loop-n-preserved : goal.loop-n-preserved
 loop-n-preserved c =

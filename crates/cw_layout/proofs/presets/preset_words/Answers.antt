@@ -6,10 +6,7 @@ use Rattle.cw_layout.proofs.Tables.{preset_room}
 use Rattle.cw_layout.proofs.presets.preset_words.Goals as goal
 
 pub bounds-homes-n : goal.bounds-homes-n
-bounds-homes-n c =
-    let same = ap length c.as_slice-items.ensures in
-    let len = homes_length c.args.unit.now c.args.homes.now c.requires.homes in
-    omega (arith, same, len, c.loop-n-test.true)
+bounds-homes-n c = omega (arith, ap length c.as_slice-items.ensures, homes_length c.args.unit.now c.args.homes.now c.requires.homes, c.loop-n-test.true)
 
 pub add_presets-requires : goal.add_presets-requires
 add_presets-requires c =

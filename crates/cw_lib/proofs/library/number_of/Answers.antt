@@ -1,6 +1,7 @@
 use Rattle.std.proofs.Common.{arith, ◌∙◌, ap, sym}
 use Rattle.cw_fields.specs.Fields.{word_in}
-use Rattle.cw_lib.proofs.Opening.{tail_is, number_cut, started, number_bad}
+use Rattle.cw_view.proofs.Marked.{tail_is}
+use Rattle.cw_lib.proofs.Opening.{number_cut, started, number_bad}
 use Rattle.cw_lib.proofs.library.number_of.Goals as goal
 use Rattle.cw_lib.proofs.library.number_of.Goals.{else-number-ge1-via-then-number-ge1+else-number-le200, else-number-ge1-via-else-number-ge1}
 

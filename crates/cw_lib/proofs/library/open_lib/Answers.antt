@@ -2,7 +2,8 @@ use Rattle.std.proofs.Common.{◌≡◌, sym, subst, ◌∙◌, arith}
 use Rattle.std.proofs.lemmas.Result.{err_from_is_err_and}
 use Rattle.cw_lib.specs.LibraryFormat.{IsFirstLibraryFault}
 use Rattle.cw_lib.specs.Reading.{Reaches}
-use Rattle.cw_lib.proofs.Opening.{tail_is, begins, goes_on, fails_at, fails_trailing, whole_library}
+use Rattle.cw_view.proofs.Marked.{tail_is}
+use Rattle.cw_lib.proofs.Opening.{begins, goes_on, fails_at, fails_trailing, whole_library}
 use Rattle.cw_lib.proofs.library.open_lib.Goals as goal
 
 pub loop-k-init : goal.loop-k-init

@@ -1,22 +1,14 @@
 use Rattle.std.proofs.Common.{◌≡◌, ◌+◌, [], get_or, refl, map, drop, ap, length, ◌∙◌, arith}
 use Rattle.cw_link.specs.Contents.{contents_of}
 use Rattle.cw_link.specs.LinkedImage.{links_at, next_entry}
-use Rattle.cw_link.proofs.Segments.{code_within, next_end, next_code, links_are, contents_at}
+use Rattle.cw_link.proofs.Segments.{code_fits, next_end, next_code, links_are, contents_at}
 use Rattle.cw_link.proofs.code.linked_code.Goals as goal
 
 pub overflow_cast-end : goal.overflow_cast-end
-overflow_cast-end c =
-    let view = c.index-views-segment.result in
-    let within = code_within c.args.views.now c.loop-segment.segment c.loop-segment.start _ view c.loop-segment-test.true c.index-views-segment.is c.loop-segment.invariant.end in
-    let same = ap length c.code.ensures in
-    omega (arith, within, same, c.requires.short)
+overflow_cast-end c = omega (arith, code_fits c.args.views.now c.loop-segment.segment c.loop-segment.start _ _ c.index-views-segment.result c.code.result.now c.loop-segment-test.true c.index-views-segment.is c.loop-segment.invariant.end c.code.ensures c.requires.short)
 
 pub overflow_add-end : goal.overflow_add-end
-overflow_add-end c =
-    let view = c.index-views-segment.result in
-    let within = code_within c.args.views.now c.loop-segment.segment c.loop-segment.start _ view c.loop-segment-test.true c.index-views-segment.is c.loop-segment.invariant.end in
-    let same = ap length c.code.ensures in
-    omega (arith, within, same, c.requires.short)
+overflow_add-end c = omega (arith, code_fits c.args.views.now c.loop-segment.segment c.loop-segment.start _ _ c.index-views-segment.result c.code.result.now c.loop-segment-test.true c.index-views-segment.is c.loop-segment.invariant.end c.code.ensures c.requires.short)
 
 pub loop-segment-preserved : goal.loop-segment-preserved
 loop-segment-preserved c =

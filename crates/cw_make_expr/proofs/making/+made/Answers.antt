@@ -14,7 +14,7 @@ use Rattle.cw_make_expr.specs.Made.{any_from, any_of, all_from, all_of, logic_fr
 use Rattle.cw_make_expr.proofs.Arms.{choice_made, alone_made, number_made, text_made, location_made, forced_made, bracket_made, value_made, call_made, place_made, named_made, indexed_made, twice_indexed_made, bare_made, value_taken, place_taken}
 use Rattle.cw_scale.proofs.Turns.{behind_first, one_more}
 use Rattle.cw_make_expr.proofs.Loops.{one_more_signed, no_more_signed, no_more_signs}
-use Rattle.cw_make_expr.proofs.Layers.{condition-layer, conjunction-layer, comparison-layer, sum-layer, term-layer, differ-layer, union-layer, mask-layer, prim-layer, logic_none, logic_end, any_none, any_end, all_none, all_end, term_none, term_whole, sum_none, sum_alone, sum_whole}
+use Rattle.cw_make_expr.proofs.Layers.{condition-layer, conjunction-layer, comparison-layer, sum-layer, term-layer, differ-layer, union-layer, mask-layer, prim-layer, logic_none, logic_end, conditions_none, conditions_end, term_none, term_whole, sum_none, sum_alone, sum_whole}
 use Rattle.cw_make_expr.proofs.making.+made.Goals as goal
 
 pub make_condition-loop-operand-init : goal.make_condition-loop-operand-init
@@ -28,13 +28,13 @@ make_condition-loop-operand-preserved t c =
 
 pub make_condition-returns-after-loop-operand : goal.make_condition-returns-after-loop-operand
 make_condition-returns-after-loop-operand t c =
-    any_end (conjunction_made c.args.named.now c.args.numbers.now) c.as_slice.result.now c.first-item.result c.loop-operand.operand-index c.in_ok-so_far-in-len1-up.so_far c.loop-operand.so_far c.in-len1-up.len_at_least c.first-item.is
+    conditions_end any_from any_of (λ _ _. refl) (λ _. refl) refl (conjunction_made c.args.named.now c.args.numbers.now) c.as_slice.result.now c.first-item.result c.loop-operand.operand-index c.in_ok-so_far-in-len1-up.so_far c.loop-operand.so_far c.in-len1-up.len_at_least c.first-item.is
     c.loop-operand-test.false c.in_ok-so_far-in-len1-up.ensures c.loop-operand.invariant
     ∙ ap (λ l. any_of (map (conjunction_made c.args.named.now c.args.numbers.now) l)) c.as_slice.ensures ∙ sym (condition-layer c.args.named.now c.args.numbers.now c.args.c.now)
 
 pub make_condition-returns-in-empty : goal.make_condition-returns-in-empty
 make_condition-returns-in-empty t c =
-    IfOk-weaker c.new.result _ _ (λ x h. h ∙ c.no_condition.ensures ∙ any_none (conjunction_made c.args.named.now c.args.numbers.now) c.as_slice.result.now c.in-empty.len_below
+    IfOk-weaker c.new.result _ _ (λ x h. h ∙ c.no_condition.ensures ∙ conditions_none any_from any_of (λ _ _. refl) (λ _. refl) refl (conjunction_made c.args.named.now c.args.numbers.now) c.as_slice.result.now c.in-empty.len_below
     ∙ ap (λ l. any_of (map (conjunction_made c.args.named.now c.args.numbers.now) l)) c.as_slice.ensures ∙ sym (condition-layer c.args.named.now c.args.numbers.now c.args.c.now)) c.new.ensures
 
 pub make_conjunction-loop-operand-init : goal.make_conjunction-loop-operand-init
@@ -48,13 +48,13 @@ make_conjunction-loop-operand-preserved t c =
 
 pub make_conjunction-returns-after-loop-operand : goal.make_conjunction-returns-after-loop-operand
 make_conjunction-returns-after-loop-operand t c =
-    all_end (comparison_made c.args.named.now c.args.numbers.now) c.as_slice.result.now c.first-item.result c.loop-operand.operand-index c.in_ok-so_far-in-len1-up.so_far c.loop-operand.so_far c.in-len1-up.len_at_least c.first-item.is
+    conditions_end all_from all_of (λ _ _. refl) (λ _. refl) refl (comparison_made c.args.named.now c.args.numbers.now) c.as_slice.result.now c.first-item.result c.loop-operand.operand-index c.in_ok-so_far-in-len1-up.so_far c.loop-operand.so_far c.in-len1-up.len_at_least c.first-item.is
     c.loop-operand-test.false c.in_ok-so_far-in-len1-up.ensures c.loop-operand.invariant
     ∙ ap (λ l. all_of (map (comparison_made c.args.named.now c.args.numbers.now) l)) c.as_slice.ensures ∙ sym (conjunction-layer c.args.named.now c.args.numbers.now c.args.c.now)
 
 pub make_conjunction-returns-in-empty : goal.make_conjunction-returns-in-empty
 make_conjunction-returns-in-empty t c =
-    IfOk-weaker c.new.result _ _ (λ x h. h ∙ c.no_condition.ensures ∙ all_none (comparison_made c.args.named.now c.args.numbers.now) c.as_slice.result.now c.in-empty.len_below
+    IfOk-weaker c.new.result _ _ (λ x h. h ∙ c.no_condition.ensures ∙ conditions_none all_from all_of (λ _ _. refl) (λ _. refl) refl (comparison_made c.args.named.now c.args.numbers.now) c.as_slice.result.now c.in-empty.len_below
     ∙ ap (λ l. all_of (map (comparison_made c.args.named.now c.args.numbers.now) l)) c.as_slice.ensures ∙ sym (conjunction-layer c.args.named.now c.args.numbers.now c.args.c.now)) c.new.ensures
 
 pub make_differ-loop-other-init : goal.make_differ-loop-other-init

@@ -151,8 +151,8 @@ judge_primary-returns-in-Location t c =
 
 pub judge_primary-returns-in-Forced : goal.judge_primary-returns-in-Forced
 judge_primary-returns-in-Forced t c =
-    forced_faults c.args.named.now c.args.e.now c.args.scale c.in-Forced.t c.in-Forced.e c.get-in-Forced.result.now c.fraction_of.result c.args.first.now c.judge_type.new.first c.judge_expression.new.first
-    c.in-Forced.is c.get-in-Forced.ensures c.fraction_of.ensures c.judge_type.ensures c.judge_expression.ensures
+    forced_faults c.args.named.now c.args.e.now c.args.scale c.in-Forced.t c.get-t.result.now c.in-Forced.e c.get-in-Forced.result.now c.fraction_of.result c.args.first.now c.judge_type.new.first c.judge_expression.new.first
+    c.in-Forced.is c.get-t.ensures c.get-in-Forced.ensures c.fraction_of.ensures c.judge_type.ensures c.judge_expression.ensures
 
 pub judge_primary-returns-in-Bracket : goal.judge_primary-returns-in-Bracket
 judge_primary-returns-in-Bracket t c =

@@ -96,12 +96,12 @@ primary_shape-returns-in-Number t c =
 
 pub primary_shape-returns-in-Forced : goal.primary_shape-returns-in-Forced
 primary_shape-returns-in-Forced t c =
-    forced_shape c.args.named.now c.args.e.now c.in-Forced.scale c.in-Forced.field-1 c.fraction_of.result c.plain.result c.in-Forced.is c.fraction_of.ensures c.plain.ensures
+    forced_shape c.args.named.now c.args.e.now c.in-Forced.scale c.get.result.now c.in-Forced.field-1 c.fraction_of.result c.plain.result c.in-Forced.is c.get.ensures c.fraction_of.ensures c.plain.ensures
 
 pub primary_shape-returns-in-Bracket : goal.primary_shape-returns-in-Bracket
 primary_shape-returns-in-Bracket t c =
-    bracket_shape c.args.named.now c.args.e.now c.in-Bracket.field-0 c.in-Bracket.e c.get.result.now c.expression_shape-shape.result c.plain-in-Bracket.result
-    c.in-Bracket.is c.get.ensures c.expression_shape-shape.ensures c.plain-in-Bracket.ensures
+    bracket_shape c.args.named.now c.args.e.now c.in-Bracket.field-0 c.in-Bracket.e c.get-in-Bracket.result.now c.expression_shape-shape.result c.plain-in-Bracket.result
+    c.in-Bracket.is c.get-in-Bracket.ensures c.expression_shape-shape.ensures c.plain-in-Bracket.ensures
 
 pub primary_shape-returns-in-Ref : goal.primary_shape-returns-in-Ref
 primary_shape-returns-in-Ref t c =

@@ -1,6 +1,7 @@
 use Rattle.std.proofs.Common.{◌+◌, arith, sym, ◌∙◌, ap}
 use Rattle.byteorder.specs.Endian.{little_number}
-use Rattle.cw_view.proofs.Opening.{fails_at_end, fails_out_of_order, fails_cut, short_head, short_payload, has_record, tail_is}
+use Rattle.cw_view.proofs.Marked.{tail_is}
+use Rattle.cw_view.proofs.Opening.{fails_at_end, fails_out_of_order, fails_cut, short_head, short_payload, has_record}
 use Rattle.cw_view.proofs.view.record_at.Goals as goal
 
 pub returns-then-left-eq0 : goal.returns-then-left-eq0
