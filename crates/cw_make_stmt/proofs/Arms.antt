@@ -146,10 +146,11 @@ module _ (named : Named) (numbers : Numbers) where
       → z ≡ simple_of named numbers s
   assign_made s r r' e e' z es er ee k = k ∙ ap₂ (assignment named numbers) er ee ∙ sym (of_assign r e) ∙ ap (simple_of named numbers) (sym es)
 
-  pub assign_bits_made : (s : RawSimple) (b : RawBits) (r r' : RawRef) (e e' : RawExpr) (z : Stmt) → s ≡ simple.AssignBits b r e → r' ≡ r → e' ≡ e
-      → z ≡ bits_assignment named numbers b r' e'
+  pub assign_bits_made : (s : RawSimple) (b b' : RawBits) (r r' : RawRef) (e e' : RawExpr) (z : Stmt) → s ≡ simple.AssignBits b r e → b' ≡ b → r' ≡ r → e' ≡ e
+      → z ≡ bits_assignment named numbers b' r' e'
       → z ≡ simple_of named numbers s
-  assign_bits_made s b r r' e e' z es er ee k = k ∙ ap₂ (bits_assignment named numbers b) er ee ∙ sym (of_assign_bits b r e) ∙ ap (simple_of named numbers) (sym es)
+  assign_bits_made s b b' r r' e e' z es eb er ee k =
+      k ∙ ap (λ x. bits_assignment named numbers x r' e') eb ∙ ap₂ (bits_assignment named numbers b) er ee ∙ sym (of_assign_bits b r e) ∙ ap (simple_of named numbers) (sym es)
 
   pub goto_made : (s : RawSimple) (at : Position) (n : RawName) (x z : Stmt) → s ≡ simple.Goto at n → x ≡ jump named numbers at n → z ≡ x → z ≡ simple_of named numbers s
   goto_made s at n x z es e1 k = k ∙ e1 ∙ sym (of_goto at n) ∙ ap (simple_of named numbers) (sym es)

@@ -12,6 +12,7 @@ use Rattle.cw_make_expr.specs.Nodes.{both, either, logic, comparison, comparator
 use Rattle.cw_make_expr.specs.Made.{Made, argument_for, arguments_for, expression_made}
 use Rattle.cw_make_expr.specs.Made.{any_from, any_of, all_from, all_of, logic_from, logic_of, factors_from, term_of, terms_from, sum_of, prim_of, operand_for, bits_around, conjunction_made, comparison_made, sum_made, term_made, differ_made, union_made, mask_made, prim_made, primary_made}
 use Rattle.cw_make_expr.proofs.Arms.{choice_made, alone_made, number_made, text_made, location_made, forced_made, bracket_made, value_made, call_made, place_made, named_made, indexed_made, twice_indexed_made, bare_made, value_taken, place_taken}
+use Rattle.cw_scale.specs.Kinds.{fraction_of}
 use Rattle.cw_scale.proofs.Turns.{behind_first, one_more}
 use Rattle.cw_make_expr.proofs.Loops.{one_more_signed, no_more_signed, no_more_signs}
 use Rattle.cw_make_expr.proofs.Layers.{condition-layer, conjunction-layer, comparison-layer, sum-layer, term-layer, differ-layer, union-layer, mask-layer, prim-layer, logic_none, logic_end, conditions_none, conditions_end, term_none, term_whole, sum_none, sum_alone, sum_whole}
@@ -214,7 +215,7 @@ make_primary-returns-in_ok-place-in-Location t c =
 pub make_primary-returns-in_ok-inner-in-Forced : goal.make_primary-returns-in_ok-inner-in-Forced
 make_primary-returns-in_ok-inner-in-Forced t c =
     IfOk-weaker c.force.result _ _ (λ z h. forced_made c.args.named.now c.args.numbers.now c.args.e.now c.in-Forced.scale c.in-Forced.e c.get-in-Forced.result.now c.fraction_of.result c.in_ok-inner-in-Forced.inner z c.args.operand
-    c.in-Forced.is c.get-in-Forced.ensures c.in_ok-inner-in-Forced.ensures c.fraction_of.ensures h) c.force.ensures
+    c.in-Forced.is c.get-in-Forced.ensures c.in_ok-inner-in-Forced.ensures (c.fraction_of.ensures ∙ ap fraction_of c.get-in-Forced-2.ensures) h) c.force.ensures
 
 pub make_primary-returns-in_ok-inner-in-Bracket : goal.make_primary-returns-in_ok-inner-in-Bracket
 make_primary-returns-in_ok-inner-in-Bracket t c =

@@ -55,9 +55,9 @@ make_simple-returns-in-Assign t c =
 
 pub make_simple-returns-in-AssignBits : goal.make_simple-returns-in-AssignBits
 make_simple-returns-in-AssignBits t c =
-    IfOk-weaker c.bits_assignment.result _ _ (λ z h. assign_bits_made c.args.named.now c.args.numbers.now c.args.s.now c.in-AssignBits.bits c.in-AssignBits.r
-    c.get-in-AssignBits.result.now
-    c.in-AssignBits.e c.get-in-AssignBits-2.result.now z c.in-AssignBits.is c.get-in-AssignBits.ensures c.get-in-AssignBits-2.ensures h) c.bits_assignment.ensures
+    IfOk-weaker c.bits_assignment.result _ _ (λ z h. assign_bits_made c.args.named.now c.args.numbers.now c.args.s.now c.in-AssignBits.bits c.get-in-AssignBits.result.now c.in-AssignBits.r
+    c.get-in-AssignBits-2.result.now
+    c.in-AssignBits.e c.get-in-AssignBits-3.result.now z c.in-AssignBits.is c.get-in-AssignBits.ensures c.get-in-AssignBits-2.ensures c.get-in-AssignBits-3.ensures h) c.bits_assignment.ensures
 
 pub make_simple-returns-in-Goto : goal.make_simple-returns-in-Goto
 make_simple-returns-in-Goto t c =
