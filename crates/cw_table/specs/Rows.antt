@@ -1,13 +1,18 @@
 -- What is said of tokens, row by row.
-use Rattle.std.specs.Prelude.{◌≡◌, ℕ, suc, List, [], ◌∷◌, nat_eq, Bool, Option, Some, None, option_map, option_and_then, slice_get, if◌then◌else◌, find}
+use Rattle.std.specs.Prelude.{◌≡◌, ℕ, zero, suc, List, [], ◌∷◌, nat_eq, Bool, Option, Some, None, option_map, option_and_then, slice_get, slice_index_or, if◌then◌else◌, find}
 use Rattle.std.specs.Option.{option_or}
-use Rattle.std.specs.declared.hash.FoldHasher.{FoldHasher}
-use Rattle.std.specs.declared.hash.BuildHasherDefault.{BuildHasherDefault}
-use Rattle.indexmap.specs.IndexMap.{IndexMap, get}
 use Rattle.cw_table.specs.declared.table.Row.{Row}
 
+-- by token: one more than a place, 0 where there is none
 abbrev pub Places : Type 0
-Places = IndexMap ℕ ℕ (BuildHasherDefault FoldHasher)
+Places = List ℕ
+
+abbrev pub place_noted : ℕ → Option ℕ
+place_noted zero = None
+place_noted (suc place) = Some place
+
+abbrev pub place_in : Places → (token : ℕ) → Option ℕ
+place_in places token = place_noted (slice_index_or places token 0)
 
 module _ {T : Type 0} where
   abbrev pub stands_at : (token : ℕ) → Row T → Bool
@@ -25,11 +30,11 @@ module _ {T : Type 0} where
   place_at [] token = None
   place_at (r ∷ rs) token = if stands_at token r then Some 0 else option_map suc (place_at rs token)
 
-  -- the map has the place of each token, where its first row stands
+  -- the place of each token is noted, where its first row stands
   pub record Finds (places : Places) (rs : List (Row T)) : Type 0 where
-    pub numbered : (token : ℕ) → get nat_eq places token ≡ place_at rs token
-    pub found : (token : ℕ) → option_and_then (slice_get rs) (get nat_eq places token) ≡ find (stands_at token) rs
+    pub numbered : (token : ℕ) → place_in places token ≡ place_at rs token
+    pub found : (token : ℕ) → option_and_then (slice_get rs) (place_in places token) ≡ find (stands_at token) rs
 
 -- a place is noted for a token that has none
 abbrev pub NotesFirst : Places → Places → (token at : ℕ) → Type 0
-NotesFirst old new k at = (q : ℕ) → get nat_eq new q ≡ option_or (get nat_eq old q) (if nat_eq k q then Some at else None)
+NotesFirst old new k at = (q : ℕ) → place_in new q ≡ option_or (place_in old q) (if nat_eq k q then Some at else None)

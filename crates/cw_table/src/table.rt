@@ -1,9 +1,8 @@
 //! Things that are found by the numbers of their tokens.
-ghost use Rattle.std.specs.Prelude.{◌≡◌, ◌++◌, ◌∷◌, [], OnOk, IfOk, option_copied};
-ghost use Rattle.cw_table.specs.Rows.{place_at, item_at, NotesFirst};
+ghost use Rattle.std.specs.Prelude.{◌≡◌, ◌<◌, ◌≤◌, ℕ, ◌++◌, ◌∷◌, [], length, slice_index_or, slice_set, OnOk, IfOk, option_copied};
+ghost use Rattle.cw_table.specs.Rows.{place_in, place_at, item_at, NotesFirst};
 
 use cw_word::{List, NoMemory};
-use indexmap::IndexMap;
 use std::alloc::Global;
 use std::marker::Model;
 
@@ -14,11 +13,13 @@ pub struct Row<T> {
     pub item: T,
 }
 
-/// Rows in order. Of those of one token the first is found.
+/// Rows in order. Of those of one token the first is found. The numbers of tokens are small, so a table takes four bytes for
+/// each number up to the greatest.
 #[derive(Drop)]
 pub struct Table<T> {
     rows: List<Row<T>>,
-    places: IndexMap<u32, usize>,
+    // by token: one more than the place of its first row, 0 where there is none
+    places: Vec<u32>,
 }
 
 impl<T> Model for Table<T> {
@@ -30,20 +31,61 @@ impl<T> Model for Table<T> {
 
     ghost view = { λ t. t.rows };
 
-    ghost invariant = { λ t. Finds t.places t.rows };
+    ghost invariant = { λ t. Finds t.places.items t.rows };
+}
+
+// What is noted for a token.
+fn noted(places: &[u32], token: u32) -> u32
+    ensures { result ≡ slice_index_or places.now token 0 }
+{
+    match places.get(token as usize) {
+        Some(note) => *note,
+        None => 0,
+    }
+}
+
+// The place that is noted for a token.
+fn place_in(places: &[u32], token: u32) -> Option<usize>
+    ensures { result ≡ place_in places.now token }
+{
+    match noted(places, token) {
+        0 => None,
+        note => Some(note as usize - 1),
+    }
+}
+
+// Notes nothing for tokens up to one more.
+fn make_room(places: &mut Vec<u32>, count: usize) -> Result<(), NoMemory>
+    ensures same { (token : ℕ) → place_in places.new.items token ≡ place_in places.old.items token }
+    ensures room { OnOk result (count ≤ length places.new.items) }
+{
+    if places.len() >= count {
+        return Ok(());
+    }
+    places.resize(count, 0).map_err(|_| NoMemory)
+}
+
+fn note(places: &mut [u32], at: usize, note: u32)
+    requires { at < length places.old }
+    ensures { places.new ≡ slice_set places.old at note }
+{
+    places[at] = note;
 }
 
 // Notes a place for a token that has none yet.
-fn note_first(places: &mut IndexMap<u32, usize>, token: u32, at: usize) -> Result<(), NoMemory>
-    ensures { OnOk result (NotesFirst places.old places.new token at) }
+fn note_first(places: &mut Vec<u32>, token: u32, at: usize) -> Result<(), NoMemory>
+    ensures { OnOk result (NotesFirst places.old.items places.new.items token at) }
 {
-    if places.get(&token).is_some() {
+    if place_in(places.as_slice(), token).is_some() {
         return Ok(());
     }
-    match places.insert(token, at) {
-        Ok(_) => Ok(()),
-        Err(_) => Err(NoMemory),
+    if at >= 4294967295 {
+        return Err(NoMemory);
     }
+    let here = token as usize;
+    make_room(places, here + 1)?;
+    note(places.as_mut_slice(), here, at as u32 + 1);
+    Ok(())
 }
 
 impl<T> Table<T> {
@@ -52,7 +94,7 @@ impl<T> Table<T> {
     {
         Table {
             rows: List::new(alloc),
-            places: IndexMap::new(alloc),
+            places: Vec::new(alloc),
         }
     }
 
@@ -67,15 +109,15 @@ impl<T> Table<T> {
     pub fn number(&self, token: u32) -> Option<usize>
         ensures { result ≡ place_at self.now token }
     {
-        self.places.get(&token).copied()
+        place_in(self.places.as_slice(), token)
     }
 
     /// What the first row of a token says.
     pub fn find(&self, token: u32) -> Option<&T>
         ensures { option_copied result ≡ item_at self.now token }
     {
-        match self.places.get(&token) {
-            Some(at) => match self.rows.as_slice().get(*at) {
+        match place_in(self.places.as_slice(), token) {
+            Some(at) => match self.rows.as_slice().get(at) {
                 Some(row) => Some(&row.item),
                 None => None,
             },
@@ -89,13 +131,10 @@ impl<T: Drop> Table<T> {
     pub fn with_room(alloc: Global, count: usize) -> Result<Table<T>, NoMemory>
         ensures { IfOk result (λ t. t ≡ []) }
     {
-        let Ok(places) = IndexMap::with_capacity(alloc, count) else {
-            return Err(NoMemory);
-        };
         match Vec::with_capacity(alloc, count) {
             Ok(rows) => Ok(Table {
                 rows: List::of(rows),
-                places,
+                places: Vec::new(alloc),
             }),
             Err(_) => Err(NoMemory),
         }
