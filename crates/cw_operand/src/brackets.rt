@@ -262,7 +262,7 @@ pub fn mask_start(alloc: Global, prim: RawPrim) -> Result<(List<RawPrim>, List<P
                     operands,
                     operators,
                 },
-            ) => Ok((operands, operators)),
+            ) => Ok((operands, operators.into_list(alloc))),
             None => Err(NoMemory),
         };
     }
@@ -298,7 +298,7 @@ pub fn union_start(
                     operands,
                     operators,
                 },
-            ) => Ok((operands, operators)),
+            ) => Ok((operands, operators.into_list(alloc))),
             None => Err(NoMemory),
         };
     }
@@ -334,7 +334,7 @@ pub fn differ_start(
                     operands,
                     operators,
                 },
-            ) => Ok((operands, operators)),
+            ) => Ok((operands, operators.into_list(alloc))),
             None => Err(NoMemory),
         };
     }
@@ -370,7 +370,7 @@ pub fn term_start(
                     operands,
                     operators,
                 },
-            ) => Ok((operands, operators)),
+            ) => Ok((operands, operators.into_list(alloc))),
             None => Err(NoMemory),
         };
     }
@@ -408,7 +408,7 @@ pub fn sum_start(
                     operands,
                     operators,
                 },
-            ) => Ok((sign, (operands, operators))),
+            ) => Ok((sign, (operands, operators.into_list(alloc)))),
             None => Err(NoMemory),
         };
     }

@@ -14,7 +14,8 @@ use cw_grammar::token::{left, next_is};
 use cw_lex::{Token, TokenKind, Word};
 use cw_operand::operands::{is_factor_sign, read_factor_sign, read_operator};
 use cw_tree::leaf::{Position, RawFactorSign, RawSign};
-use cw_word::List;
+use cw_word::{List, Seldom};
+use std::alloc::Global;
 
 /// What stands between two operands.
 pub trait Operator: Copy {
@@ -89,8 +90,8 @@ impl Operator for FactorSign {
     }
 }
 
-/// The operands behind those that are there, each with an operator before it, and the operators.
-pub fn read_chain<O: Operator, T: Drop, F: Fn(usize) -> Result<(T, usize), Stop>>(
+// The operands behind those that are there, each with an operator before it, and the operators.
+fn read_chain<O: Operator, T: Drop, F: Fn(usize) -> Result<(T, usize), Stop>>(
     tokens: &[Token],
     at: usize,
     operator: O,
@@ -117,4 +118,23 @@ pub fn read_chain<O: Operator, T: Drop, F: Fn(usize) -> Result<(T, usize), Stop>
         most -= 1;
     }
     Ok(((operands, operators), next))
+}
+
+/// The operands behind those that are there, each with an operator before it, and the operators in a list that is seldom long.
+pub fn read_chained<O: Operator, T: Drop, F: Fn(usize) -> Result<(T, usize), Stop>>(
+    alloc: Global,
+    tokens: &[Token],
+    at: usize,
+    operator: O,
+    start: (List<T>, List<O::Found>),
+    read: F,
+) -> Result<((List<T>, Seldom<O::Found>), usize), Stop>
+    requires { F.IsAlwaysCallable read }
+    ensures { (item : Sequence Item → Read T) → Reads F.Fn read tokens.now item
+        → Gives (λ x. (x.0, behind tokens.now x.1)) result (chained start (O.begins operator) (O.reads operator) item (behind tokens.now at)) }
+{
+    let (chain, at) = read_chain(tokens, at, operator, start, read)?;
+    let (operands, operators) = chain;
+    let operators = Seldom::of(alloc, operators)?;
+    Ok(((operands, operators), at))
 }

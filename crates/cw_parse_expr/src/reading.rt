@@ -8,7 +8,7 @@ ghost use Rattle.cw_grammar.specs.Reading.{Gives, read, inside};
 ghost use Rattle.cw_lex.specs.declared.token.Symbol.TheVariants.{Comma};
 ghost use Rattle.cw_operand.specs.Operands.{location, forced, in_brackets, addressed};
 
-use crate::chains::{FactorSign, Sign, read_chain};
+use crate::chains::{FactorSign, Sign, read_chained};
 use cw_grammar::reading::{read_name, read_optional_sign, read_type};
 use cw_grammar::stop::Stop;
 use cw_grammar::token::{deep, next_is, position, take_kind};
@@ -396,7 +396,7 @@ fn read_mask(
     let operand = move |at: usize| -> Result<(RawPrim, usize), Stop>
         ensures { Gives (λ x. (x.0, behind tokens.entry.now x.1)) result (read levels a_prim prim (behind tokens.entry.now at)) }
     { read_prim(alloc, levels, tokens, at) };
-    let (chain, at) = read_chain(tokens, at, Word::Mask, start, operand)?;
+    let (chain, at) = read_chained(alloc, tokens, at, Word::Mask, start, operand)?;
     let (operands, operators) = chain;
     let mask = RawMask {
         operands,
@@ -420,7 +420,7 @@ fn read_union(
     let operand = move |at: usize| -> Result<(RawMask, usize), Stop>
         ensures { Gives (λ x. (x.0, behind tokens.entry.now x.1)) result (read levels a_mask mask (behind tokens.entry.now at)) }
     { read_mask(alloc, levels, tokens, at) };
-    let (chain, at) = read_chain(tokens, at, Word::Union, start, operand)?;
+    let (chain, at) = read_chained(alloc, tokens, at, Word::Union, start, operand)?;
     let (operands, operators) = chain;
     let union = RawUnion {
         operands,
@@ -444,7 +444,7 @@ fn read_differ(
     let operand = move |at: usize| -> Result<(RawUnion, usize), Stop>
         ensures { Gives (λ x. (x.0, behind tokens.entry.now x.1)) result (read levels a_union union (behind tokens.entry.now at)) }
     { read_union(alloc, levels, tokens, at) };
-    let (chain, at) = read_chain(tokens, at, Word::Differ, start, operand)?;
+    let (chain, at) = read_chained(alloc, tokens, at, Word::Differ, start, operand)?;
     let (operands, operators) = chain;
     let differ = RawDiffer {
         operands,
@@ -468,7 +468,7 @@ fn read_term(
     let operand = move |at: usize| -> Result<(RawDiffer, usize), Stop>
         ensures { Gives (λ x. (x.0, behind tokens.entry.now x.1)) result (read levels a_differ differ (behind tokens.entry.now at)) }
     { read_differ(alloc, levels, tokens, at) };
-    let (chain, at) = read_chain(tokens, at, FactorSign, start, operand)?;
+    let (chain, at) = read_chained(alloc, tokens, at, FactorSign, start, operand)?;
     let (operands, operators) = chain;
     let term = RawTerm {
         operands,
@@ -488,7 +488,7 @@ fn read_sum(alloc: Global, levels: u8, tokens: &[Token], at: usize) -> Result<(R
     let operand = move |at: usize| -> Result<(RawTerm, usize), Stop>
         ensures { Gives (λ x. (x.0, behind tokens.entry.now x.1)) result (read levels a_term term (behind tokens.entry.now at)) }
     { read_term(alloc, levels, tokens, at) };
-    let (chain, at) = read_chain(tokens, at, Sign, start, operand)?;
+    let (chain, at) = read_chained(alloc, tokens, at, Sign, start, operand)?;
     let (operands, operators) = chain;
     let sum = RawSum {
         sign: front,
@@ -531,7 +531,7 @@ fn read_cand(
     let operand = move |at: usize| -> Result<(RawCmp, usize), Stop>
         ensures { Gives (λ x. (x.0, behind tokens.entry.now x.1)) result (read levels a_cmp cmp (behind tokens.entry.now at)) }
     { read_cmp(alloc, levels, tokens, at) };
-    let (chain, at) = read_chain(tokens, at, Word::And, start, operand)?;
+    let (chain, at) = read_chained(alloc, tokens, at, Word::And, start, operand)?;
     let (operands, operators) = chain;
     let cand = RawCand {
         operands,
@@ -555,7 +555,7 @@ pub fn read_condition(
     let operand = move |at: usize| -> Result<(RawCand, usize), Stop>
         ensures { Gives (λ x. (x.0, behind tokens.entry.now x.1)) result (read levels a_cand cand (behind tokens.entry.now at)) }
     { read_cand(alloc, levels, tokens, at) };
-    let (chain, at) = read_chain(tokens, at, Word::Or, start, operand)?;
+    let (chain, at) = read_chained(alloc, tokens, at, Word::Or, start, operand)?;
     let (operands, operators) = chain;
     let condition = RawCond {
         operands,

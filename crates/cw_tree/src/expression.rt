@@ -6,7 +6,7 @@ use crate::leaf::{
     Position, RawCompareSign, RawFactorSign, RawLiteral, RawName, RawNumber, RawOctal, RawSign,
     RawSize, RawType,
 };
-use cw_word::{Boxed, List};
+use cw_word::{Boxed, List, Seldom};
 
 /// An expression: `IF cond THEN expr ELSE expr`, or a sum.
 #[cycle(tree)]
@@ -21,7 +21,7 @@ pub enum RawExpr {
 #[derive(Drop)]
 pub struct RawCond {
     pub operands: List<RawCand>,
-    pub operators: List<Position>,
+    pub operators: Seldom<Position>,
 }
 
 /// Comparisons with AND between any two.
@@ -29,7 +29,7 @@ pub struct RawCond {
 #[derive(Drop)]
 pub struct RawCand {
     pub operands: List<RawCmp>,
-    pub operators: List<Position>,
+    pub operators: Seldom<Position>,
 }
 
 /// A comparison.
@@ -47,7 +47,7 @@ pub struct RawCmp {
 pub struct RawSum {
     pub sign: Option<RawSign>,
     pub operands: List<RawTerm>,
-    pub operators: List<RawSign>,
+    pub operators: Seldom<RawSign>,
 }
 
 /// Factors with `*` or `/` between any two.
@@ -55,7 +55,7 @@ pub struct RawSum {
 #[derive(Drop)]
 pub struct RawTerm {
     pub operands: List<RawDiffer>,
-    pub operators: List<RawFactorSign>,
+    pub operators: Seldom<RawFactorSign>,
 }
 
 /// Operands with DIFFER between any two.
@@ -63,7 +63,7 @@ pub struct RawTerm {
 #[derive(Drop)]
 pub struct RawDiffer {
     pub operands: List<RawUnion>,
-    pub operators: List<Position>,
+    pub operators: Seldom<Position>,
 }
 
 /// Operands with UNION between any two.
@@ -71,7 +71,7 @@ pub struct RawDiffer {
 #[derive(Drop)]
 pub struct RawUnion {
     pub operands: List<RawMask>,
-    pub operators: List<Position>,
+    pub operators: Seldom<Position>,
 }
 
 /// Operands with MASK between any two.
@@ -79,7 +79,7 @@ pub struct RawUnion {
 #[derive(Drop)]
 pub struct RawMask {
     pub operands: List<RawPrim>,
-    pub operators: List<Position>,
+    pub operators: Seldom<Position>,
 }
 
 /// `BITS [ int , int ]` before a primary.

@@ -1,6 +1,7 @@
 //! Vectors that contracts see as lists, also inside a type that leads back to itself.
 ghost use Rattle.std.specs.Prelude.{◌≡◌, [], ◌∷◌, ◌++◌, IfOk, OnOk, OnErr};
 
+use crate::boxed::Boxed;
 use std::alloc::{AllocError, Global};
 use std::marker::Model;
 
@@ -89,6 +90,61 @@ impl<T: Drop> List<T> {
             return Ok(());
         }
         self.items.reserve_exact(1).map_err(|_| NoMemory)
+    }
+}
+
+/// A list that is seldom long: without items it takes no block, and always two words where it stands. Contracts see the list of its items.
+#[derive(Drop)]
+pub struct Seldom<T> {
+    items: Option<Boxed<List<T>>>,
+}
+
+impl<T> Model for Seldom<T> {
+    ghost use Rattle.std.specs.Coded.{coded_list};
+    ghost use Rattle.std.specs.Prelude.{List as Sequence};
+    ghost use Rattle.cw_word.specs.Seldom.{items_of};
+
+    ghost Value = { Sequence T };
+
+    ghost coded = { coded_list T.code };
+
+    ghost view = { λ seldom. items_of seldom.items };
+}
+
+impl<T> Seldom<T> {
+    /// The items in order.
+    pub fn as_slice(&self) -> &[T]
+        ensures { result.now ≡ self.now }
+    {
+        match &self.items {
+            None => &[],
+            Some(items) => items.get().as_slice(),
+        }
+    }
+
+    /// The same as a list that can grow, which takes its memory from `alloc`.
+    pub fn into_list(self, alloc: Global) -> List<T>
+        ensures { result ≡ self }
+    {
+        let Seldom { items } = self;
+        match items {
+            None => List::new(alloc),
+            Some(items) => items.into_inner(),
+        }
+    }
+}
+
+impl<T: Drop> Seldom<T> {
+    /// The same items. On an error they are dropped.
+    pub fn of(alloc: Global, items: List<T>) -> Result<Seldom<T>, NoMemory>
+        ensures { IfOk result (λ seldom. seldom ≡ items) }
+    {
+        if items.as_slice().is_empty() {
+            return Ok(Seldom { items: None });
+        }
+        Ok(Seldom {
+            items: Some(Boxed::new(alloc, items)?),
+        })
     }
 }
 
