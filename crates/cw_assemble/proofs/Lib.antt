@@ -3,3 +3,4 @@ pub mod Composed
 pub mod Flags
 pub mod BeforeChecks
 pub mod Placing
+pub mod NotedBlocks

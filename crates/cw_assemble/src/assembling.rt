@@ -7,17 +7,19 @@ ghost use Rattle.cw_tmpl.specs.Templates.{entry_pieces};
 ghost use Rattle.cw_tmpl.specs.ReferenceCode.{templates, landings, switches, names_of, reach_of, order_places, mark_starts, label_starts, statements_from, pieces_of, orders_code};
 ghost use Rattle.cw_tmpl.specs.Named.{is_named_label, is_named_switch};
 ghost use Rattle.cw_assemble.specs.Flags.{AreFlags};
+ghost use Rattle.cw_assemble.specs.Noted.{blocks_from};
 
 use crate::blocks::put_block;
 use crate::jumping::{put_landing, put_switch};
 use crate::named::{named_labels, named_switches};
+use crate::noted::{block_noted, blocks_of};
 use crate::places::{
     calls, has_landing, label_places, landing_places, longest_places, mark_places, order_places,
     place_at, procedure_places, statement_places, switch_places,
 };
 use cw_order::{Order, Orders};
 use cw_tmpl::library::START;
-use cw_tmpl::{Assembly, Code, Coded, Limit, Names, Reach, Target, block_in, orders_left};
+use cw_tmpl::{Assembly, Block, Code, Coded, Limit, Names, Reach, Target, orders_left};
 use cw_word::{List, NoMemory};
 use std::alloc::Global;
 
@@ -35,14 +37,20 @@ fn put_entry(code: &mut Assembly) -> Result<(), NoMemory>
 }
 
 /// Adds the code of orders.
-fn put_orders(code: &mut Assembly, list: &[Order], names: &Names) -> Result<(), NoMemory>
-    requires { All HasCode list.now }
+fn put_orders(
+    code: &mut Assembly,
+    list: &[Order],
+    blocks: &[Block],
+    names: &Names,
+) -> Result<(), NoMemory>
+    requires codes { All HasCode list.now }
+    requires noted { blocks.now ≡ blocks_from 0 list.now }
     ensures { OnOk result (Adds code.old (templates names.now (length code.old.bytes) 0 0 list.now) code.new) }
 {
     let mut left = 0;
     for k in 0..list.len() {
         let order = &list[k];
-        let block = block_in(left, list, k);
+        let block = block_noted(blocks, list, left, k);
         let short = names.reach.is_short(k, block, order);
         put_block(code, short, block, order, k, names)?;
         left = orders_left(block);
@@ -89,11 +97,13 @@ fn put_switches(
 fn code_of(
     alloc: Global,
     orders: &Orders,
+    blocks: &[Block],
     labels: &[bool],
     switches: &[bool],
     names: &Names,
 ) -> Result<Assembly, NoMemory>
     requires codes { All HasCode orders.now.list }
+    requires noted { blocks.now ≡ blocks_from 0 orders.now.list }
     requires labels { AreFlags labels.now (length orders.now.labels) (is_named_label orders.now) }
     requires switches { AreFlags switches.now (length orders.now.switches) (is_named_switch orders.now) }
     requires names { names.now ≡ names_of orders.now }
@@ -105,15 +115,17 @@ fn code_of(
         relocs: List::new(alloc),
     };
     put_entry(&mut code)?;
-    put_orders(&mut code, orders.list.as_slice(), names)?;
+    put_orders(&mut code, orders.list.as_slice(), blocks, names)?;
     put_landings(&mut code, orders, labels, names)?;
     put_switches(&mut code, orders, switches, names)?;
     Ok(code)
 }
 
-/// Where the orders' code stands, and what tells the forms of its blocks: its places where it is longest, and the CALLs that checks jump back to.
+/// The blocks of the orders, where their code stands, and what tells the forms of the blocks: the places where it is longest, and the CALLs that
+/// checks jump back to.
 #[derive(Drop)]
 struct Laid {
+    blocks: List<Block>,
     longest: List<u32>,
     calls: List<u32>,
     places: List<u32>,
@@ -122,19 +134,27 @@ struct Laid {
 /// Lays out the orders' code.
 fn lay(alloc: Global, orders: &Orders) -> Result<Laid, NoMemory>
     requires { All HasCode orders.now.list }
+    ensures blocks { IfOk result (λ laid. laid.blocks ≡ blocks_from 0 orders.now.list) }
     ensures longest { IfOk result (λ laid. laid.longest ≡ (reach_of orders.now).longest) }
     ensures calls { IfOk result (λ laid. laid.calls ≡ (reach_of orders.now).calls) }
     ensures places { IfOk result (λ laid. laid.places ≡ order_places orders.now) }
 {
-    let longest = longest_places(alloc, orders.list.as_slice())?;
-    let calls = calls(alloc, orders.list.as_slice(), longest.as_slice())?;
+    let blocks = blocks_of(alloc, orders.list.as_slice())?;
+    let longest = longest_places(alloc, orders.list.as_slice(), blocks.as_slice())?;
+    let calls = calls(
+        alloc,
+        orders.list.as_slice(),
+        blocks.as_slice(),
+        longest.as_slice(),
+    )?;
     let reach = Reach {
         marks: orders.marks.as_slice(),
         longest: longest.as_slice(),
         calls: calls.as_slice(),
     };
-    let places = order_places(alloc, orders.list.as_slice(), &reach)?;
+    let places = order_places(alloc, orders.list.as_slice(), blocks.as_slice(), &reach)?;
     Ok(Laid {
+        blocks,
         longest,
         calls,
         places,
@@ -178,6 +198,7 @@ fn code_named(
     switches: &[bool],
 ) -> Result<Code, NoMemory>
     requires codes { All HasCode orders.now.list }
+    requires noted { laid.now.blocks ≡ blocks_from 0 orders.now.list }
     requires longest { laid.now.longest ≡ (reach_of orders.now).longest }
     requires calls { laid.now.calls ≡ (reach_of orders.now).calls }
     requires places { laid.now.places ≡ order_places orders.now }
@@ -200,7 +221,14 @@ fn code_named(
         landings: landings.as_slice(),
         switches: routines.as_slice(),
     };
-    let code = code_of(alloc, orders, labels, switches, &names)?;
+    let code = code_of(
+        alloc,
+        orders,
+        laid.blocks.as_slice(),
+        labels,
+        switches,
+        &names,
+    )?;
     let starts = starts_of(alloc, orders, &names)?;
     Ok(Code {
         bytes: code.bytes,
@@ -217,6 +245,7 @@ fn code_named(
 /// The code of orders that are laid out.
 fn code_laid(alloc: Global, orders: &Orders, laid: &Laid) -> Result<Code, NoMemory>
     requires codes { All HasCode orders.now.list }
+    requires noted { laid.now.blocks ≡ blocks_from 0 orders.now.list }
     requires longest { laid.now.longest ≡ (reach_of orders.now).longest }
     requires calls { laid.now.calls ≡ (reach_of orders.now).calls }
     requires places { laid.now.places ≡ order_places orders.now }

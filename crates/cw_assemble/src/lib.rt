@@ -11,6 +11,7 @@ mod indexes;
 mod jumping;
 mod loops;
 mod named;
+mod noted;
 mod orders;
 mod parts;
 mod places;

@@ -9,12 +9,12 @@ ghost use Rattle.cw_tmpl.specs.ShortForms.{is_short};
 ghost use Rattle.cw_tmpl.specs.Templates.{block_size};
 ghost use Rattle.cw_tmpl.specs.ReferenceCode.{longest_places, places_by, landing_places, landing_sizes, switch_places, label_starts, statements_from};
 ghost use Rattle.cw_assemble.specs.Flags.{AreFlags};
+ghost use Rattle.cw_assemble.specs.Noted.{blocks_from};
 
+use crate::noted::block_noted;
 use crate::sizes::{block_size, sum, table_size};
 use cw_order::{LabelMark, Order, Orders};
-use cw_tmpl::{
-    Block, Call, LANDING, Names, Reach, block_in, call_after, call_for, check_of, orders_left,
-};
+use cw_tmpl::{Block, Call, LANDING, Names, Reach, call_after, call_for, check_of, orders_left};
 use cw_unit::unit::Goal;
 use cw_word::{List, NoMemory};
 use std::alloc::Global;
@@ -29,8 +29,13 @@ fn place_behind(at: u32, short: bool, block: Block, order: &Order) -> Result<u32
 }
 
 /// The places of the orders' code, and of the end, where no jump is short.
-pub(crate) fn longest_places(alloc: Global, orders: &[Order]) -> Result<List<u32>, NoMemory>
-    requires { All HasCode orders.now }
+pub(crate) fn longest_places(
+    alloc: Global,
+    orders: &[Order],
+    blocks: &[Block],
+) -> Result<List<u32>, NoMemory>
+    requires codes { All HasCode orders.now }
+    requires noted { blocks.now ≡ blocks_from 0 orders.now }
     ensures { IfOk result (λ list. list ≡ longest_places orders.now) }
 {
     let mut list = List::new(alloc);
@@ -38,7 +43,7 @@ pub(crate) fn longest_places(alloc: Global, orders: &[Order]) -> Result<List<u32
     let mut left = 0;
     for k in 0..orders.len() {
         let order = &orders[k];
-        let block = block_in(left, orders, k);
+        let block = block_noted(blocks, orders, left, k);
         let behind = place_behind(at, false, block, order)?;
         list.push(at)?;
         at = behind;
@@ -56,15 +61,21 @@ fn order_number(number: usize) -> Result<u32, NoMemory>
 }
 
 /// Which CALL the check of each block jumps back to: the number of the order behind the first one of the block that has it, or 0 for none.
-pub(crate) fn calls(alloc: Global, orders: &[Order], longest: &[u32]) -> Result<List<u32>, NoMemory>
-    requires { All HasCode orders.now }
+pub(crate) fn calls(
+    alloc: Global,
+    orders: &[Order],
+    blocks: &[Block],
+    longest: &[u32],
+) -> Result<List<u32>, NoMemory>
+    requires codes { All HasCode orders.now }
+    requires noted { blocks.now ≡ blocks_from 0 orders.now }
     ensures { IfOk result (λ list. list ≡ calls_from longest.now None 0 0 orders.now) }
 {
     let mut list = List::new(alloc);
     let mut last: Option<Call> = None;
     let mut left = 0;
     for k in 0..orders.len() {
-        let block = block_in(left, orders, k);
+        let block = block_noted(blocks, orders, left, k);
         let check = check_of(block, &orders[k]);
         let call = call_for(longest, last, k, check);
         let behind = order_number(k + 1)?;
@@ -79,9 +90,11 @@ pub(crate) fn calls(alloc: Global, orders: &[Order], longest: &[u32]) -> Result<
 pub(crate) fn order_places(
     alloc: Global,
     orders: &[Order],
+    blocks: &[Block],
     reach: &Reach,
 ) -> Result<List<u32>, NoMemory>
-    requires { All HasCode orders.now }
+    requires codes { All HasCode orders.now }
+    requires noted { blocks.now ≡ blocks_from 0 orders.now }
     ensures { IfOk result (λ list. list ≡ places_by (is_short reach.now) orders.now) }
 {
     let mut list = List::new(alloc);
@@ -89,7 +102,7 @@ pub(crate) fn order_places(
     let mut left = 0;
     for k in 0..orders.len() {
         let order = &orders[k];
-        let block = block_in(left, orders, k);
+        let block = block_noted(blocks, orders, left, k);
         let short = reach.is_short(k, block, order);
         let behind = place_behind(at, short, block, order)?;
         list.push(at)?;

@@ -1,0 +1,9 @@
+use Rattle.cw_assemble.proofs.NotedBlocks.{note_more}
+use Rattle.cw_assemble.specs.Noted.{blocks_from}
+use Rattle.cw_assemble.proofs.noted.blocks_of.Goals as goal
+
+pub loop-k-preserved : goal.loop-k-preserved
+loop-k-preserved c =
+    let list = c.args.orders.now in
+    note_more c.loop-k.blocks c.push.new.self c.loop-k.left c.orders_left-left.result list c.loop-k.k c.block_in-block.result c.index-orders-k.result (blocks_from 0 list)
+    c.loop-k-test.true c.index-orders-k.is c.block_in-block.ensures.value c.orders_left-left.ensures c.in_ok-push.ensures.ok c.loop-k.invariant
