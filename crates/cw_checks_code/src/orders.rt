@@ -1,5 +1,6 @@
 //! Programs of orders, with what they write and how they end, by hand from the orders' meaning.
 use crate::processor::{Run, image_of};
+use cw_checks_rows::{are_numbers, in_four};
 use cw_interpreter::{End, Machine, Program, program};
 use cw_ports::ImageEnd;
 use std::alloc::{AllocError, Global};
@@ -10,21 +11,6 @@ use std::test::Fail;
 pub struct Told<'a> {
     pub bytes: &'a str,
     pub end: &'a str,
-}
-
-// Whether the bytes have these numbers, between which stands one blank.
-fn are_numbers(bytes: &[u8], numbers: &str) -> bool {
-    if numbers.is_empty() {
-        return bytes.is_empty();
-    }
-    let mut left = bytes;
-    for number in numbers.split(' ') {
-        match (left, number.parse::<u8>()) {
-            ([first, rest @ ..], Ok(byte)) if *first == byte => left = rest,
-            _ => return false,
-        }
-    }
-    left.is_empty()
 }
 
 fn number(word: Option<&str>) -> Option<u64> {
@@ -403,13 +389,7 @@ fn programs(rt: HostRuntime) -> Result<(), Fail> {
     let alloc = rt.alloc();
     let mut count = 0_u32;
     for row in PROGRAMS.lines() {
-        let mut parts = row.split('|');
-        if let (Some(text), Some(input), Some(bytes), Some(end)) = (
-            parts.next(),
-            parts.next(),
-            parts.next(),
-            parts.next(),
-        ) {
+        if let Some((text, input, bytes, end)) = in_four(row, '|') {
             assert!(rt; is_row(alloc, text, input, Told { bytes, end })?, "{text}");
             count = count.wrapping_add(1);
         }

@@ -276,6 +276,13 @@ fn is_row(alloc: Global, text: &[u8], input: &str, told: Told<'_>) -> Result<boo
     runs(alloc, text, &input, told)
 }
 
+// The communicators and the body of a row's text, its input, its output, and its end.
+fn text_row(row: &str) -> Option<((&str, &str), &str, &str, &str)> {
+    let mut parts = row.split('|');
+    let text = (parts.next()?, parts.next()?);
+    Some((text, parts.next()?, parts.next()?, parts.next()?))
+}
+
 fn is_text(
     alloc: Global,
     (communicators, body): (&str, &str),
@@ -292,16 +299,8 @@ fn texts_run(rt: HostRuntime) -> Result<(), Fail> {
     let alloc = rt.alloc();
     let mut count = 0_u32;
     for row in TEXTS.lines() {
-        let mut parts = row.split('|');
-        if let (Some(communicators), Some(body), Some(input), Some(bytes), Some(end)) = (
-            parts.next(),
-            parts.next(),
-            parts.next(),
-            parts.next(),
-            parts.next(),
-        ) {
-            let text = (communicators, body);
-            assert!(rt; is_text(alloc, text, input, Told { bytes, end })?, "{body}");
+        if let Some((text, input, bytes, end)) = text_row(row) {
+            assert!(rt; is_text(alloc, text, input, Told { bytes, end })?, "{row}");
             count = count.wrapping_add(1);
         }
     }

@@ -3,23 +3,5 @@
 #![tactic(auto)]
 
 #[cfg(test)]
-mod canonical;
-#[cfg(test)]
-mod command;
-#[cfg(test)]
-mod lexer;
-#[cfg(test)]
-mod macros;
-#[cfg(test)]
-mod names;
-#[cfg(test)]
-mod outside;
-#[cfg(test)]
-mod rows;
+mod tests;
 pub mod tree;
-#[cfg(test)]
-mod trees;
-#[cfg(test)]
-mod types;
-#[cfg(test)]
-mod words;

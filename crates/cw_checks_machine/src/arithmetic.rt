@@ -430,6 +430,21 @@ fn word_row(op: u32, flags: Flags, a: u16, b: u16) -> (u16, Flags) {
     }
 }
 
+// A quotient with its remainder above it, and whether there is one.
+fn of_bytes(found: Option<(u8, u8)>) -> (u32, Flags) {
+    match found {
+        None => (0, flags_of(0)),
+        Some((q, r)) => (u32::from(q) + 256 * u32::from(r), flags_of(1)),
+    }
+}
+
+fn of_words(found: Option<(u16, u16)>) -> (u32, Flags) {
+    match found {
+        None => (0, flags_of(0)),
+        Some((q, r)) => (u32::from(q) + 0x1_0000 * u32::from(r), flags_of(1)),
+    }
+}
+
 fn result_of(op: u32, width: u32, flags: Flags, a: u32, b: u32) -> (u32, Flags) {
     let byte = (b % 256) as u8;
     let word = (b % 0x1_0000) as u16;
@@ -445,22 +460,10 @@ fn result_of(op: u32, width: u32, flags: Flags, a: u32, b: u32) -> (u32, Flags) 
             (n.into(), new)
         }
         (21, _) => imul16(flags, low, word),
-        (22, 8) => match div8(low, byte) {
-            None => (0, flags_of(0)),
-            Some((q, r)) => (u32::from(q) + 256 * u32::from(r), flags_of(1)),
-        },
-        (22, _) => match div16(a, word) {
-            None => (0, flags_of(0)),
-            Some((q, r)) => (u32::from(q) + 0x1_0000 * u32::from(r), flags_of(1)),
-        },
-        (23, 8) => match idiv8(low, byte) {
-            None => (0, flags_of(0)),
-            Some((q, r)) => (u32::from(q) + 256 * u32::from(r), flags_of(1)),
-        },
-        (23, _) => match idiv16(a, word) {
-            None => (0, flags_of(0)),
-            Some((q, r)) => (u32::from(q) + 0x1_0000 * u32::from(r), flags_of(1)),
-        },
+        (22, 8) => of_bytes(div8(low, byte)),
+        (22, _) => of_words(div16(a, word)),
+        (23, 8) => of_bytes(idiv8(low, byte)),
+        (23, _) => of_words(idiv16(a, word)),
         (_, 8) => {
             let (n, new) = byte_row(op, flags, (a % 256) as u8, byte);
             (n.into(), new)

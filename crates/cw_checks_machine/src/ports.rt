@@ -3,6 +3,7 @@ ghost use Rattle.std.specs.Prelude.{◌<◌, ◌≤◌, length};
 
 use cw_cpu86::Cpu;
 use cw_io::{MemSink, MemSource};
+use cw_ports::ImageEnd::{BadCode, Ended, InputFault, OutFault, Unfinished};
 use cw_ports::{ImageEnd, run_image};
 use cw_word::List;
 use std::alloc::{AllocError, Global};
@@ -16,6 +17,31 @@ const COPY: [u8; 13] = [
 
 /// MOV AL,43h; OUT 12h,AL; HLT
 const WRITE: [u8; 5] = [0xB0, 0x43, 0xE6, 0x12, 0xF4];
+
+// The code, the input, the bytes that a call moves, the calls for input and for output that fail, the end and what is written.
+type Run = (
+    &'static [u8],
+    &'static [u8],
+    usize,
+    &'static [u64],
+    &'static [u64],
+    ImageEnd,
+    &'static [u8],
+);
+
+const RUNS: &[Run] = &[
+    (&COPY, b"", 4096, &[], &[], Ended, b""),
+    (&COPY, b"ABC", 4096, &[], &[], Ended, b"ABC"),
+    (&COPY, b"ABC", 1, &[], &[], Ended, b"ABC"),
+    (&COPY, b"ABC", 4096, &[2], &[], InputFault, b"ABC"),
+    (&COPY, b"ABC", 1, &[3], &[], InputFault, b"AB"),
+    (&COPY, b"ABC", 4096, &[], &[1], OutFault, b""),
+    (&COPY, b"ABC", 1, &[], &[2], OutFault, b"A"),
+    (&WRITE, b"ABC", 4096, &[1], &[], Ended, b"C"),
+    (&WRITE, b"ABC", 4096, &[], &[1], OutFault, b""),
+    (&[0x0F], b"", 1, &[], &[], BadCode { offset: 0 }, b""),
+    (&[0xEB, 0xFE], b"", 1, &[], &[], Unfinished, b""),
+];
 
 fn bytes(alloc: Global, from: &[u8]) -> Result<List<u8>, AllocError> {
     Ok(List::of(from.to_vec(alloc)?))
@@ -60,137 +86,22 @@ fn runs_in_pieces(rt: HostRuntime) -> Result<(), Fail> {
     for (k, byte) in long.iter_mut().enumerate() {
         *byte = (k % 251) as u8;
     }
-    check_run(&rt, alloc, &COPY, b"", 4096, &[], &[], ImageEnd::Ended, b"")?;
-    check_run(
-        &rt,
-        alloc,
-        &COPY,
-        b"ABC",
-        4096,
-        &[],
-        &[],
-        ImageEnd::Ended,
-        b"ABC",
-    )?;
-    check_run(
-        &rt,
-        alloc,
-        &COPY,
-        b"ABC",
-        1,
-        &[],
-        &[],
-        ImageEnd::Ended,
-        b"ABC",
-    )?;
-    check_run(
-        &rt,
-        alloc,
-        &COPY,
-        &long,
-        1,
-        &[],
-        &[],
-        ImageEnd::Ended,
-        &long,
-    )?;
-    check_run(
-        &rt,
-        alloc,
-        &COPY,
-        &long,
-        10_000,
-        &[],
-        &[],
-        ImageEnd::Ended,
-        &long,
-    )?;
-    check_run(
-        &rt,
-        alloc,
-        &COPY,
-        b"ABC",
-        4096,
-        &[2],
-        &[],
-        ImageEnd::InputFault,
-        b"ABC",
-    )?;
-    check_run(
-        &rt,
-        alloc,
-        &COPY,
-        b"ABC",
-        1,
-        &[3],
-        &[],
-        ImageEnd::InputFault,
-        b"AB",
-    )?;
-    check_run(
-        &rt,
-        alloc,
-        &COPY,
-        b"ABC",
-        4096,
-        &[],
-        &[1],
-        ImageEnd::OutFault,
-        b"",
-    )?;
-    check_run(
-        &rt,
-        alloc,
-        &COPY,
-        b"ABC",
-        1,
-        &[],
-        &[2],
-        ImageEnd::OutFault,
-        b"A",
-    )?;
-    check_run(
-        &rt,
-        alloc,
-        &WRITE,
-        b"ABC",
-        4096,
-        &[1],
-        &[],
-        ImageEnd::Ended,
-        b"C",
-    )?;
-    check_run(
-        &rt,
-        alloc,
-        &WRITE,
-        b"ABC",
-        4096,
-        &[],
-        &[1],
-        ImageEnd::OutFault,
-        b"",
-    )?;
-    check_run(
-        &rt,
-        alloc,
-        &[0x0F],
-        b"",
-        1,
-        &[],
-        &[],
-        ImageEnd::BadCode { offset: 0 },
-        b"",
-    )?;
-    check_run(
-        &rt,
-        alloc,
-        &[0xEB, 0xFE],
-        b"",
-        1,
-        &[],
-        &[],
-        ImageEnd::Unfinished,
-        b"",
-    )
+    for piece in [1usize, 10_000] {
+        check_run(&rt, alloc, &COPY, &long, piece, &[], &[], Ended, &long)?;
+    }
+    for &(code, input, piece, input_fails, out_fails, end, output) in RUNS {
+        assert!(rt; 1 <= piece && !code.is_empty() && code.len() <= 65536);
+        check_run(
+            &rt,
+            alloc,
+            code,
+            input,
+            piece,
+            input_fails,
+            out_fails,
+            end,
+            output,
+        )?;
+    }
+    Ok(())
 }

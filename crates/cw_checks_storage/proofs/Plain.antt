@@ -14,9 +14,7 @@ use Rattle.cw_checks_storage.specs.Plain.{is_plain, has_plain}
 
 own-sort : (n : ℕ) (s : Sort) → is_plain s ≡ true → IsOfDescriptor n s
 own-sort n (sort.Common d) e = absurd (false≢true e)
-own-sort n sort.Own e = tt
-own-sort n (sort.Absolute a) e = tt
-own-sort n (sort.Frame o) e = tt
+own-sort n _ e = tt
 
 pub plain-families : (faces : List Face) (spaces : List Space) → list_all has_plain spaces ≡ true → HaveOwnFamilies faces spaces
 plain-families faces spaces all g f s is at k d lt =

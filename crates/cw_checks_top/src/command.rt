@@ -1,4 +1,5 @@
 //! The command with one file, over a store, a source and sinks in memory.
+use cw_checks_rows::{are_numbers, in_four, repeated};
 use cw_io::{MemFile, MemSink, MemSource, MemStore};
 use cw_top::coral66;
 use cw_word::List;
@@ -144,21 +145,6 @@ fn are_bytes(bytes: &[u8], text: &str) -> bool {
         }
     }
     bytes.len() == text.len()
-}
-
-// Whether the bytes have these numbers, between which stands one blank.
-fn are_numbers(bytes: &[u8], numbers: &str) -> bool {
-    if numbers.is_empty() {
-        return bytes.is_empty();
-    }
-    let mut left = bytes;
-    for number in numbers.split(' ') {
-        match (left, number.parse::<u8>()) {
-            ([first, rest @ ..], Ok(byte)) if *first == byte => left = rest,
-            _ => return false,
-        }
-    }
-    left.is_empty()
 }
 
 // Whether this is the last line of what is said, where that is no line of the storage map.
@@ -334,30 +320,13 @@ fn calls(rt: HostRuntime) -> Result<(), Fail> {
     let alloc = rt.alloc();
     let mut count = 0_u32;
     for row in CALLS.split('\n') {
-        let mut parts = row.split('#');
-        if let (Some(line), Some(text), Some(faults), Some(told)) = (
-            parts.next(),
-            parts.next(),
-            parts.next(),
-            parts.next(),
-        ) {
+        if let Some((line, text, faults, told)) = in_four(row, '#') {
             assert!(rt; is_row(alloc, line, text, faults, told)?.is_some(), "{row}");
             count = count.wrapping_add(1);
         }
     }
     assert_eq!(rt; count, 38);
     Ok(())
-}
-
-/// Pieces of text, one behind the other, each so many times.
-pub fn repeated(alloc: Global, pieces: &[(&[u8], u32)]) -> Result<Vec<u8>, AllocError> {
-    let mut text = Vec::new(alloc);
-    for &(piece, count) in pieces {
-        for _ in 0..count {
-            text.extend_from_slice(piece)?;
-        }
-    }
-    Ok(text)
 }
 
 // How many blanks a text has, and what `go a` shows of it.

@@ -1,5 +1,6 @@
 //! Small programs with what they write and how they end, by hand from the rules of the language.
-use crate::command::{RUN_STEPS, Wanted, goes, repeated};
+use crate::command::{RUN_STEPS, Wanted, goes};
+use cw_checks_rows::{in_three, repeated};
 use std::alloc::{AllocError, Global};
 use std::test::Fail;
 
@@ -88,8 +89,7 @@ fn programs(rt: HostRuntime) -> Result<(), Fail> {
     let alloc = rt.alloc();
     let mut count = 0_u32;
     for row in PROGRAMS.lines() {
-        let mut parts = row.split('?');
-        if let (Some(body), Some(bytes), Some(end)) = (parts.next(), parts.next(), parts.next()) {
+        if let Some((body, bytes, end)) = in_three(row, '?') {
             assert!(rt;
                 is_program(alloc, body, RUN_STEPS, bytes, end)?.is_some(),
                 "{row}"

@@ -1,5 +1,6 @@
 //! Strange files and failing outsides: damaged files, and each call of the outside failing in turn.
-use crate::command::{FIRST, Outside, Wanted, call, repeated, store_of};
+use crate::command::{FIRST, Outside, Wanted, call, store_of};
+use cw_checks_rows::{in_four, in_three, repeated};
 use cw_io::{MemStore, read_file};
 use std::alloc::{AllocError, Global};
 use std::test::Fail;
@@ -138,13 +139,7 @@ fn cut(rt: HostRuntime) -> Result<(), Fail> {
     let alloc = rt.alloc();
     let mut count = 0_u32;
     for row in CUTS.split('\n') {
-        let mut parts = row.split('#');
-        if let (Some(lines), Some(name), Some(line), Some(fault)) = (
-            parts.next(),
-            parts.next(),
-            parts.next(),
-            parts.next(),
-        ) {
+        if let Some((lines, name, line, fault)) = in_four(row, '#') {
             assert!(rt; is_cut_row(alloc, lines, name, line, fault)?, "{row}");
             count = count.wrapping_add(1);
         }
@@ -445,12 +440,7 @@ fn faults_in_turn(rt: HostRuntime) -> Result<(), Fail> {
     let alloc = rt.alloc();
     let mut count = 0_u32;
     for row in FAULTS.split('\n') {
-        let mut parts = row.split('#');
-        if let (Some(piece), Some(faults), Some(told)) = (
-            parts.next(),
-            parts.next(),
-            parts.next(),
-        ) {
+        if let Some((piece, faults, told)) = in_three(row, '#') {
             assert!(rt; is_fault(alloc, piece, faults, told)?.is_some(), "{row}");
             count = count.wrapping_add(1);
         }

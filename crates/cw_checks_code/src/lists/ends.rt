@@ -258,19 +258,10 @@ fn holds(alloc: Global, row: &str) -> Result<bool, AllocError> {
     is_linked(alloc, limits, segments, line.as_str())
 }
 
-// The first row that does not hold, or nothing.
-fn first_difference<'a>(alloc: Global, rows: &'a str) -> Result<&'a str, AllocError> {
-    for row in rows.split('\n') {
-        if !holds(alloc, row)? {
-            return Ok(row);
-        }
-    }
-    Ok("")
-}
-
 #[test]
 fn lists(rt: HostRuntime) -> Result<(), Fail> {
-    let row = first_difference(rt.alloc(), ROWS)?;
-    assert_eq!(rt; row, "");
+    for row in ROWS.split('\n') {
+        assert!(rt; holds(rt.alloc(), row)?, "{row}");
+    }
     Ok(())
 }

@@ -1,5 +1,5 @@
-use Rattle.cw_checks_meaning.proofs.Runs.{counted-run}
+use Rattle.cw_checks_meaning.proofs.Runs.{all-run}
 use Rattle.cw_checks_meaning.proofs.counted_steps.Goals as goal
 
 pub returns : goal.returns
-returns c = counted-run
+returns c = all-run.of_counted

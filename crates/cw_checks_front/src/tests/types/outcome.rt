@@ -1,7 +1,8 @@
 //! What the types of a text come to, in words.
+use crate::tests::rows::{text_of, told_of};
 use cw_compile::{Refusal, UnitFault, unit};
 use cw_type::check::TypeFault;
-use std::alloc::Global;
+use std::alloc::{AllocError, Global};
 
 /// The most bytes of a source text.
 const TEXT_LIMIT: usize = 1_048_576;
@@ -26,8 +27,7 @@ fn is_fault(fault: &TypeFault, told: &[u8]) -> bool {
     told == [b'Y', code, b' ', b'0' + (line % 10) as u8].as_slice()
 }
 
-/// Whether the types of a text come to what is told: `ok`, the rule that is broken first with its line, or that it is refused before its types.
-pub fn comes(alloc: Global, text: &[u8], told: &[u8]) -> bool {
+fn comes_of(alloc: Global, text: &[u8], told: &[u8]) -> bool {
     if text.len() > TEXT_LIMIT {
         return told == b"no text".as_slice();
     }
@@ -36,4 +36,10 @@ pub fn comes(alloc: Global, text: &[u8], told: &[u8]) -> bool {
         Err(UnitFault::Refused(Refusal::Typing(fault))) => is_fault(&fault, told),
         Err(_) => told == b"no text".as_slice(),
     }
+}
+
+/// Whether the types of a row's text come to what is told: `ok`, the rule that is broken first with its line, or that it is refused before its types.
+pub fn comes(alloc: Global, row: &str) -> Result<bool, AllocError> {
+    let text = text_of(alloc, row)?;
+    Ok(comes_of(alloc, &text, told_of(row)))
 }

@@ -1,6 +1,7 @@
 //! Texts with the tokens that they expand to, or the first fault of the expansion, by hand from the rules of macros.
-use crate::rows::{Left, repeated, with_lines};
-use cw_lex::{Token, lex};
+use crate::tests::rows::{Left, with_lines};
+use cw_checks_rows::repeated;
+use cw_lex::{LexFault, Token, lex};
 use cw_macro::{MOST_BYTES, MacroFault, expand};
 use std::alloc::{AllocError, Global};
 use std::test::Fail;
@@ -158,22 +159,11 @@ fn holds(alloc: Global, row: &str) -> Result<bool, AllocError> {
     Ok(comes(alloc, &text, told.as_bytes()))
 }
 
-// The number of the first row that comes out otherwise, or that of all rows.
-fn first_difference(alloc: Global, rows: &str) -> Result<u64, AllocError> {
-    let mut number = 0u64;
-    for row in rows.split('\n') {
-        if !holds(alloc, row)? {
-            return Ok(number);
-        }
-        number = number.saturating_add(1);
-    }
-    Ok(number)
-}
-
 #[test]
 fn texts(rt: HostRuntime) -> Result<(), Fail> {
-    let first = first_difference(rt.alloc(), ROWS)?;
-    assert_eq!(rt; first, 101);
+    for row in ROWS.split('\n') {
+        assert!(rt; holds(rt.alloc(), row)?, "{row}");
+    }
     Ok(())
 }
 
@@ -336,14 +326,15 @@ fn large_texts(rt: HostRuntime) -> Result<(), Fail> {
     Ok(())
 }
 
-// The text of a fault is its name.
+// The text of a fault is its name, of one of tokens as of one of macros.
 #[test]
 fn names_of_faults(rt: HostRuntime) -> Result<(), Fail> {
-    let alloc = rt.alloc();
-    let bad = MacroFault::BadDefine { line: 3 };
-    assert_eq!(rt; format!(in alloc; "{bad}")?.as_str(), "BadDefine");
+    let character = LexFault::BadChar { line: 3 };
+    let comment = LexFault::OpenComment { line: 3 };
+    let definition = MacroFault::BadDefine { line: 3 };
     let unknown = MacroFault::NoSuchMacro { line: 3 };
-    assert_eq!(rt; format!(in alloc; "{unknown}")?.as_str(), "NoSuchMacro");
+    let told = format!(in rt.alloc(); "{character} {comment} {definition} {unknown}")?;
+    assert_eq!(rt; told.as_str(), "BadChar OpenComment BadDefine NoSuchMacro");
     Ok(())
 }
 

@@ -1,5 +1,5 @@
 //! Words, one line of them a row, with what they mean.
-use crate::rows::Left;
+use crate::tests::rows::Left;
 use cw_stop::{Stop, Watched};
 use cw_words::{Action, Command, WordsFault, read_words};
 use std::alloc::{AllocError, Global};

@@ -3,7 +3,7 @@ ghost use Rattle.std.specs.Prelude.{◌≤◌, length, map};
 ghost use Rattle.cw_lex.specs.Lexical.{view};
 ghost use Rattle.cw_macro.specs.Premises.{AreOfText};
 
-use crate::rows::Left;
+use crate::tests::rows::{Left, text_of, told_of};
 use cw_lex::{Token, lex};
 use cw_macro::{MOST_BYTES, MOST_TOKENS, expand};
 use cw_parse::parse;
@@ -11,7 +11,7 @@ use cw_scope::resolve::{Named, ScopeFault, resolve};
 use cw_table::table::Row;
 use cw_tree::segment::Raw;
 use cw_word::Name;
-use std::alloc::Global;
+use std::alloc::{AllocError, Global};
 
 // A fault as its rule, its name and its line.
 fn takes_fault(left: &mut Left<'_>, fault: &ScopeFault) -> bool {
@@ -83,16 +83,19 @@ fn takes_tokens(alloc: Global, left: &mut Left<'_>, tokens: &[Token<'_>]) -> boo
     }
 }
 
-/// Whether the names of a text come to what is told: its uses, or its fault.
-pub fn comes(alloc: Global, text: &[u8], told: &[u8]) -> bool {
-    let mut left = Left::new(told);
-    let is_taken = if text.len() > MOST_BYTES {
-        left.takes(b"no text")
-    } else {
-        match lex(alloc, text) {
-            Ok(tokens) => takes_tokens(alloc, &mut left, tokens.as_slice()),
-            Err(_) => left.takes(b"no text"),
-        }
-    };
-    is_taken && left.is_empty()
+fn takes_text(alloc: Global, left: &mut Left<'_>, text: &[u8]) -> bool {
+    if text.len() > MOST_BYTES {
+        return left.takes(b"no text");
+    }
+    match lex(alloc, text) {
+        Ok(tokens) => takes_tokens(alloc, left, tokens.as_slice()),
+        Err(_) => left.takes(b"no text"),
+    }
+}
+
+/// Whether the names of a row's text come to what is told: its uses, or its fault.
+pub fn comes(alloc: Global, row: &str) -> Result<bool, AllocError> {
+    let text = text_of(alloc, row)?;
+    let mut left = Left::new(told_of(row));
+    Ok(takes_text(alloc, &mut left, &text) && left.is_empty())
 }

@@ -1,4 +1,5 @@
 //! The texts of tables that have a row a line, and what is told of them.
+use cw_checks_rows::repeated;
 use std::alloc::{AllocError, Global};
 
 /// What is left of what a row tells.
@@ -35,17 +36,6 @@ impl<'a> Left<'a> {
     }
 }
 
-/// Pieces of text, one behind the other, each so many times.
-pub fn repeated(alloc: Global, pieces: &[(&[u8], u32)]) -> Result<Vec<u8>, AllocError> {
-    let mut text = Vec::new(alloc);
-    for &(piece, count) in pieces {
-        for _ in 0..count {
-            text.extend_from_slice(piece)?;
-        }
-    }
-    Ok(text)
-}
-
 /// Bytes where a line feed stands for each of these.
 pub fn with_lines(alloc: Global, given: &[u8], mark: u8) -> Result<Vec<u8>, AllocError> {
     let mut text = given.to_vec(alloc)?;
@@ -73,10 +63,29 @@ fn back(form: u8) -> &'static [u8] {
     }
 }
 
-/// A text from its form and what a row gives of it, where `^` stands for a line feed. Under `t` that is the whole text, under
-/// `b` what stands in a segment's outermost block, and under `l` what stands in that of a segment whose LIBRARY lists READBYTE
-/// and WRITEBYTE.
-pub fn text_of(alloc: Global, form: u8, given: &[u8]) -> Result<Vec<u8>, AllocError> {
+// A text from its form and what a row gives of it.
+fn formed(alloc: Global, form: u8, given: &[u8]) -> Result<Vec<u8>, AllocError> {
     let given = with_lines(alloc, given, b'^')?;
     repeated(alloc, &[(front(form), 1), (&given, 1), (back(form), 1)])
+}
+
+/// The text of a row, which has a letter, the text with a `^` for each line feed, a question mark, and what is told of the text. Under
+/// `t` that is the whole text, under `b` what stands in a segment's outermost block, and under `l` what stands in that of a segment
+/// whose LIBRARY lists READBYTE and WRITEBYTE.
+pub fn text_of(alloc: Global, row: &str) -> Result<Vec<u8>, AllocError> {
+    let Some((given, _)) = row.split_once('?') else {
+        return Err(AllocError);
+    };
+    match given.as_bytes() {
+        [form, given @ ..] => formed(alloc, *form, given),
+        [] => Ok(Vec::new(alloc)),
+    }
+}
+
+/// What a row tells of its text.
+pub fn told_of(row: &str) -> &[u8] {
+    match row.split_once('?') {
+        Some((_, told)) => told.as_bytes(),
+        None => b"",
+    }
 }

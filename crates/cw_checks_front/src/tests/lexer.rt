@@ -1,5 +1,5 @@
 //! Texts with their tokens or their first fault, by hand from the rules of the written form.
-use crate::rows::Left;
+use crate::tests::rows::Left;
 use cw_lex::{LexFault, Symbol, Token, TokenKind, Word, lex, lex_body};
 use std::alloc::{AllocError, Global};
 use std::test::Fail;
@@ -306,33 +306,11 @@ fn holds(alloc: Global, row: &str) -> Result<bool, AllocError> {
     }
 }
 
-// The number of the first row that comes out otherwise, or that of all rows.
-fn first_difference(alloc: Global, rows: &str) -> Result<u64, AllocError> {
-    let mut number = 0u64;
-    for row in rows.split('\n') {
-        if !holds(alloc, row)? {
-            return Ok(number);
-        }
-        number = number.saturating_add(1);
-    }
-    Ok(number)
-}
-
 #[test]
 fn texts(rt: HostRuntime) -> Result<(), Fail> {
-    let first = first_difference(rt.alloc(), ROWS)?;
-    assert_eq!(rt; first, 108);
-    Ok(())
-}
-
-// The text of a fault is its name.
-#[test]
-fn names_of_faults(rt: HostRuntime) -> Result<(), Fail> {
-    let alloc = rt.alloc();
-    let bad = LexFault::BadChar { line: 3 };
-    assert_eq!(rt; format!(in alloc; "{bad}")?.as_str(), "BadChar");
-    let open = LexFault::OpenComment { line: 3 };
-    assert_eq!(rt; format!(in alloc; "{open}")?.as_str(), "OpenComment");
+    for row in ROWS.split('\n') {
+        assert!(rt; holds(rt.alloc(), row)?, "{row}");
+    }
     Ok(())
 }
 

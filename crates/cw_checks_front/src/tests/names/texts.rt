@@ -1,12 +1,8 @@
 //! Texts with the declaration of each use of a name, or the first fault of their names, by hand from the rules of scope.
-use crate::names::outcome::comes;
-use crate::rows::text_of;
-use std::alloc::{AllocError, Global};
+use crate::tests::names::outcome::comes;
 use std::test::Fail;
 
-// A row a line: a letter, the text, a question mark, and what comes of it. `t` has a whole text, `b` what stands in a segment's outermost block, and `l` what
-// stands in that of a segment whose LIBRARY lists READBYTE and WRITEBYTE. What comes of it is each use, its line and that of its declaration, or the fault, its
-// name and its line. `^` stands for a line feed.
+// A row a line, as `text_of` takes it, and what comes of its text: each use, its line and that of its declaration, or the fault, its name and its line.
 const ROWS: &str = r#"bINTEGER X;^BEGIN INTEGER X;^X := 1 END?X 3>2|
 bINTEGER X;^BEGIN INTEGER Y;^X := Y END?X 3>1|Y 3>2|
 bINTEGER X;^BEGIN INTEGER X;^BEGIN INTEGER X;^X := 1 END; X := 2 END; X := 3?X 4>3|X 4>2|X 4>1|
@@ -198,35 +194,10 @@ tCOMMON (INTEGER X, X);^LIBRARY (PROCEDURE READBYTE); SEGMENT A BEGIN END FINISH
 bDEFINE M "X := 1";^^M?Undeclared X 3
 bINTEGER X;^DEFINE M "X := X";^M?X 3>1|X 3>1|"#;
 
-// Whether what is told of a row comes of it.
-fn holds(alloc: Global, row: &str) -> Result<bool, AllocError> {
-    let Some((given, wanted)) = row.split_once('?') else {
-        return Ok(false);
-    };
-    match given.as_bytes() {
-        [form, given @ ..] => {
-            let text = text_of(alloc, *form, given)?;
-            Ok(comes(alloc, &text, wanted.as_bytes()))
-        }
-        [] => Ok(false),
-    }
-}
-
-// The number of the first row of which something else comes, or that of all rows.
-fn first_difference(alloc: Global, rows: &str) -> Result<u64, AllocError> {
-    let mut number = 0u64;
-    for row in rows.split('\n') {
-        if !holds(alloc, row)? {
-            return Ok(number);
-        }
-        number = number.saturating_add(1);
-    }
-    Ok(number)
-}
-
 #[test]
 fn texts(rt: HostRuntime) -> Result<(), Fail> {
-    let first = first_difference(rt.alloc(), ROWS)?;
-    assert_eq!(rt; first, 190);
+    for row in ROWS.split('\n') {
+        assert!(rt; comes(rt.alloc(), row)?, "{row}");
+    }
     Ok(())
 }
