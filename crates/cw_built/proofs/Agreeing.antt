@@ -32,7 +32,7 @@ use Rattle.cw_built.specs.Built.{alone, defines_as, meets, is_built}
 use Rattle.cw_built.proofs.Truth.{all-get}
 use Rattle.cw_built.proofs.Apart.{has-name, listing-is, name-equal}
 use Rattle.cw_built.proofs.Saying.{Means, label-as-said, means-alone}
-use Rattle.cw_built.proofs.SameKinds.{kinds-equal}
+use Rattle.cw_safety.proofs.Calling.{kinds-same}
 use Rattle.cw_built.proofs.Parts.{Parts, parts}
 
 pub all-at : {X : Type 0} (P : X → Type 0) (xs : List X) (k : ℕ) (x : X) → All P xs → slice_get xs k ≡ Some x → P x
@@ -292,7 +292,7 @@ module _ (us : List SourceUnit) (m : Map) (limits : Limits) (passed : All (λ u.
 
   procedure-taken : (h q : ℕ) (v : SourceUnit) (ks : List Kind) (x : Option Proc) → slice_get us h ≡ Some v → slice_get v.procs q ≡ x → IsTrue (takes_arguments x ks) → (y : Proc) × (procedure_at p h q ≡ Some y) × (parameter_kinds y ≡ ks)
   procedure-taken h q v ks None there is t = no t
-  procedure-taken h q v ks (Some x) there is t = (x, ap (λ w. procedure_in w q) there ∙ is, sym (kinds-equal ks (parameter_kinds x) t))
+  procedure-taken h q v ks (Some x) there is t = (x, ap (λ w. procedure_in w q) there ∙ is, sym (kinds-same ks (parameter_kinds x) t))
 
   means-defined : (b : DescBody) (h : ℕ) (x : Def) → Definition b h x → Means p (Some (h, x)) (Some b)
   means-defined bodies.Label h x r = label-defined h x r

@@ -1,4 +1,3 @@
-pub mod SameKinds
 pub mod Parts
 pub mod Apart
 pub mod Saying

@@ -6,7 +6,7 @@ use Rattle.cw_i86.specs.Encoding.{bytes_of, IsInstr, BeginsWith}
 use Rattle.cw_i86.specs.State.{State, past, with_byte_register}
 use Rattle.cw_i86.specs.MachineRun.{Event, Silent, Takes, Gives, Outcome, GoesOn, Halts, Divides, Undefined, code_at, Stands, Does, Steps, TakeAlike, Runs, taken, left_behind, FitsInput, written, End, Bad, Divided, end_after, IsAtWork, IsOver, Observed, Shows}
 use Rattle.cw_i86.specs.declared.instr.Instr.{Instr}
-use Rattle.cw_i86.specs.declared.instr.Instr.TheVariants.{In, Out, Hlt}
+use Rattle.cw_i86.specs.declared.instr.Instr.TheVariants.{In}
 use Rattle.cw_cpu86.proofs.Told.{FitsInput-parts}
 
 -- ---- a step
@@ -24,9 +24,7 @@ does_same (In port) s o p a b alike =
     subst (λ x. TakeAlike x (GoesOn (with_byte_register s 0 b.0) (Takes port b.0))) a.2 (subst (λ x. TakeAlike o x) b.2 alike) in
     let same_byte : a.0 ≡ b.0 = alike_made refl in
     a.2 ∙ ap (λ v. GoesOn (with_byte_register s 0 v) (Takes port v)) same_byte ∙ sym b.2
-does_same (Out port) s o p a b alike = a ∙ sym b
-does_same Hlt s o p a b alike = a ∙ sym b
-does_same i s o p a b alike = a ∙ sym b
+does_same _ s o p a b alike = a ∙ sym b
 
 pub steps_same : OneInstr → (s : State) (o p : Outcome) → Steps s o → Steps s p → TakeAlike o p → o ≡ p
 steps_same one s o p (inl (i, a, does)) (inl (j, b, also)) alike =

@@ -8,7 +8,7 @@ use Rattle.cw_i86.specs.MachineRun.{GoesOn, Silent, Steps, code_at}
 use Rattle.cw_i86.specs.declared.instr.Instr.TheVariants.{AluRm, AluAcc, Inc, Dec, Push, Pop, XchgAx, Mov, MovImm, MovRm, MovAcc, Shift, Jump, JumpShort, JumpIf, Call, Ret, RetAdd}
 use Rattle.cw_i86.specs.declared.instr.Imm.TheVariants.{Word}
 use Rattle.cw_i86.specs.declared.instr.Place.{Place}
-use Rattle.cw_i86.specs.declared.instr.Place.TheVariants.{Direct, Plain, Near, Far}
+use Rattle.cw_i86.specs.declared.instr.Place.TheVariants.{Direct, Plain, Near}
 use Rattle.cw_i86.specs.declared.instr.Rm.{Rm}
 use Rattle.cw_i86.specs.declared.instr.Rm.TheVariants as rms
 use Rattle.cw_cpu86.specs.Bytes.{opcode_at, byte_behind, IsWordBehind, NamesOperand}
@@ -100,9 +100,7 @@ at_register s m is small high =
 pub offset_past : (s : State) (n : ℕ) (place : Place) → offset_of (past s n) place ≡ offset_of s place
 unfolding offset_of form_base
 offset_past s n (Direct at) = refl
-offset_past s n (Plain form) = refl
-offset_past s n (Near form by) = refl
-offset_past s n (Far form by) = refl
+offset_past s n _ = refl
 
 pub operand_past : (s : State) (n : ℕ) (rm : Rm) → operand (past s n) true rm ≡ operand s true rm
 unfolding operand sized_register value_at segment_of

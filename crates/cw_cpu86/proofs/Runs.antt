@@ -5,10 +5,7 @@ use Rattle.cw_i86.specs.MachineRun.{Runs, Steps, Outcome}
 use Rattle.cw_cpu86.specs.Ports.{Device}
 use Rattle.cw_cpu86.specs.Answers.{Went, StepAnswers}
 use Rattle.cw_cpu86.specs.declared.cpu.Step.TheVariants.{Ran}
-use Rattle.cw_cpu86.proofs.Told.{follows_more, follows_none}
-
-pub went_nowhere : (s : State) (d : Device) → Went 0 s d s d
-went_nowhere s d = record { events = []; runs = (refl, refl); follows = follows_none d }
+use Rattle.cw_cpu86.proofs.Told.{follows_more}
 
 pub one_more : (n : ℕ) (s : State) (d : Device) (t : State) (e : Device) (u : State) (f : Device) → Went n s d t e → StepAnswers Ran t e u f → Went (n + 1) s d u f
 one_more n s d t e u f went step =

@@ -84,25 +84,12 @@ held_after (Gives port value) old new is =
     elim [ true ↦ refl | false ↦ sym (told-nil old.held) ] in
     ap (λ d. d.held) is ∙ given (port == 0x12)
 
-kind_after : (event : Event) (old new : Device) → Answers event old new → new.kind ≡ given_to 0x13 event old.kind
-kind_after Silent old new is = ap (λ d. d.kind) is
-kind_after (Takes port value) old new is = ap (λ d. d.kind) is.1
-kind_after (Gives port value) old new is = ap (λ d. d.kind) is
-
-segment_after : (event : Event) (old new : Device) → Answers event old new → new.segment ≡ given_to 0x14 event old.segment
-segment_after Silent old new is = ap (λ d. d.segment) is
-segment_after (Takes port value) old new is = ap (λ d. d.segment) is.1
-segment_after (Gives port value) old new is = ap (λ d. d.segment) is
-
-line_low_after : (event : Event) (old new : Device) → Answers event old new → new.line_low ≡ given_to 0x15 event old.line_low
-line_low_after Silent old new is = ap (λ d. d.line_low) is
-line_low_after (Takes port value) old new is = ap (λ d. d.line_low) is.1
-line_low_after (Gives port value) old new is = ap (λ d. d.line_low) is
-
-line_high_after : (event : Event) (old new : Device) → Answers event old new → new.line_high ≡ given_to 0x16 event old.line_high
-line_high_after Silent old new is = ap (λ d. d.line_high) is
-line_high_after (Takes port value) old new is = ap (λ d. d.line_high) is.1
-line_high_after (Gives port value) old new is = ap (λ d. d.line_high) is
+-- what the ports that tell a stop hold
+told_after : (event : Event) (old new : Device) → Answers event old new
+    → (new.kind ≡ given_to 0x13 event old.kind) × (new.segment ≡ given_to 0x14 event old.segment) × (new.line_low ≡ given_to 0x15 event old.line_low) × (new.line_high ≡ given_to 0x16 event old.line_high)
+told_after Silent old new is = (ap (λ d. d.kind) is, ap (λ d. d.segment) is, ap (λ d. d.line_low) is, ap (λ d. d.line_high) is)
+told_after (Takes port value) old new is = (ap (λ d. d.kind) is.1, ap (λ d. d.segment) is.1, ap (λ d. d.line_low) is.1, ap (λ d. d.line_high) is.1)
+told_after (Gives port value) old new is = (ap (λ d. d.kind) is, ap (λ d. d.segment) is, ap (λ d. d.line_low) is, ap (λ d. d.line_high) is)
 
 is_used_after : (event : Event) (old new : Device) → Answers event old new → new.is_used ≡ (old.is_used || asks_input (event ∷ []))
 is_used_after Silent old new is = ap (λ d. d.is_used) is ∙ sym (or-false old.is_used)
@@ -145,6 +132,7 @@ fits_more (Some input) at_end events (Gives port value) old new is end fits answ
 pub follows_more : (events : List Event) (event : Event) (d e f : Device) → Follows events d e → Answers event e f → Follows (events ++ event ∷ []) d f
 follows_more events event d e f so_far answers =
     let one = event ∷ [] in
+    let told = told_after event e f answers in
     record {
       fits = fits_more d.left d.at_end events event e f so_far.left so_far.at_end so_far.fits answers;
       left = left_after_event event e f answers ∙ ap (option_map (left_behind one)) so_far.left ∙ left_more d.left events one;
@@ -154,10 +142,10 @@ follows_more events event d e f so_far answers =
       is_cut = is_cut_after event e f answers ∙ so_far.is_cut;
       held = held_after event e f answers ∙ ap (λ told. after_told told (written one)) so_far.held ∙ told-append d.held (written events) (written one)
           ∙ ap (after_told d.held) (sym (written-append events one));
-      kind = kind_after event e f answers ∙ ap (given_to 0x13 event) so_far.kind ∙ sym (last_given-append 0x13 events one d.kind);
-      segment = segment_after event e f answers ∙ ap (given_to 0x14 event) so_far.segment ∙ sym (last_given-append 0x14 events one d.segment);
-      line_low = line_low_after event e f answers ∙ ap (given_to 0x15 event) so_far.line_low ∙ sym (last_given-append 0x15 events one d.line_low);
-      line_high = line_high_after event e f answers ∙ ap (given_to 0x16 event) so_far.line_high ∙ sym (last_given-append 0x16 events one d.line_high);
+      kind = told.0 ∙ ap (given_to 0x13 event) so_far.kind ∙ sym (last_given-append 0x13 events one d.kind);
+      segment = told.1 ∙ ap (given_to 0x14 event) so_far.segment ∙ sym (last_given-append 0x14 events one d.segment);
+      line_low = told.2 ∙ ap (given_to 0x15 event) so_far.line_low ∙ sym (last_given-append 0x15 events one d.line_low);
+      line_high = told.3 ∙ ap (given_to 0x16 event) so_far.line_high ∙ sym (last_given-append 0x16 events one d.line_high);
     }
 
 pub follows_none : (d : Device) → Follows [] d d

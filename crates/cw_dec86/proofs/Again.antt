@@ -13,7 +13,7 @@ use Rattle.cw_i86.specs.declared.instr.Imm.TheVariants.{Byte, Word}
 use Rattle.cw_i86.specs.declared.instr.Instr.{Instr}
 use Rattle.cw_i86.specs.declared.instr.Instr.TheVariants.{AluRm, AluAcc, Inc, Dec, Push, Pop, JumpIf, AluImm, AluShort, TestRm, XchgRm, Mov, Lea, XchgAx, Cbw, Cwd, PushF, PopF, Sahf, Lahf, MovAcc, TestAcc, MovImm, RetAdd, Ret, MovRm, Shift, Loop, In, Out, Call, Jump, JumpShort, Hlt, Cmc, Clc, Stc, TestImm, Unary, IncDec, CallRm, JumpRm, PushRm}
 use Rattle.cw_i86.specs.Encoding.{bytes_of, place_bytes, with_rm, with_mem, imm_bytes, mod_reg_rm, IsInstr, IsRm, IsPlace, IsImm, bit, is_word}
-use Rattle.cw_dec86.specs.Rows.{instr_at, row, operand_at, operand_row, low_row, middle_row, high_row, plain_row, has_operand, word_at, imm_at}
+use Rattle.cw_dec86.specs.Rows.{instr_at, row, operand_at, operand_row, low_row, middle_row, high_row, plain_row, has_operand, word_at}
 
 pub each_8 : (P : ℕ → Type 0) → P 0 → P 1 → P 2 → P 3 → P 4 → P 5 → P 6 → P 7 → (n : ℕ) → n < 8 → P n
 each_8 P p0 p1 p2 p3 p4 p5 p6 p7 zero h = p0
@@ -66,10 +66,6 @@ pub operand_again : (opcode reg : ℕ) (rm : Rm) (rest : List ℕ) → eqb opcod
 unfolding instr_at row operand_at
 operand_again opcode reg (rms.Reg r) rest ne has a h = rw (ne, has, mode_of 3 reg r a h, rm_of 3 reg r a h, reg_of 3 reg r a h) refl
 operand_again opcode reg (rms.Mem mem) rest ne has a h = place_again mem.cs opcode reg mem.place rest ne has a h
-
-imm_row : (imm : Imm) (rest : List ℕ) → IsImm imm → imm_at (is_word imm) (imm_bytes imm ++ rest) ≡ imm
-imm_row (Byte b) rest h = refl
-imm_row (Word w) rest h = ap Word (word_again w rest h)
 
 AluRm_row : (op : ℕ) (w t : Bool) (reg : ℕ) (rm : Rm) (rest : List ℕ) → op < 8
     → operand_row (8 * op + 2 * bit t + bit w) reg rm rest ≡ Some (AluRm op w t reg rm)

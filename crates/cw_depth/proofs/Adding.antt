@@ -39,9 +39,6 @@ stands_cases xs y x (k, (low, is)) =
 
 -- ---- what each kind of mention adds
 
-IsCall : Mention → Type 0
-IsCall m = (k : ℕ) → m ≡ mention.Parameter k → ⊥
-
 pub adds_nothing : (us : List SourceUnit) (heads : Specifications) (a : Node) (m : Mention) (row : List ℕ) → called_by us (segment_of a) m ≡ None → ((k : ℕ) (s : Spec) → m ≡ mention.Parameter k → parameter_of us a k ≡ Some s → ⊥) → Adds us heads heads a m row row
 adds_nothing us heads a m row none never = record {
   extends = extends_same heads;
@@ -109,12 +106,6 @@ gives_more : (us : List SourceUnit) (heads heads' : Specifications) (a : Node) (
 gives_more us heads heads' a m x extends (by_call g q p e there is) = by_call g q p e there is
 gives_more us heads heads' a m x extends (by_parameter k j s e is head at') = by_parameter k j s e is (extends s j head) at'
 
-pub row_begun : (us : List SourceUnit) (heads : Specifications) (a : Node) → IsRowFor us heads a [] 0
-row_begun us heads a = record {
-  all = λ k m low. absurd (omega arith);
-  only = λ x s. absurd (omega (arith, s.1.0));
-}
-
 pub row_kept : (us : List SourceUnit) (heads heads' : Specifications) (a : Node) (row : List ℕ) (n : ℕ) → Keeps heads heads' → IsRowFor us heads a row n → IsRowFor us heads' a row n
 row_kept us heads heads' a row n extends r = record {
   all = λ k m low e. given_more us heads heads' a row row m extends (λ x s. s) (r.all k m low e);
@@ -155,12 +146,6 @@ rows_more us heads heads' rows rows' row a extends are e one same n b low f =
 
 -- ---- groups
 
-pub group_begun : (us : List SourceUnit) (handed : List Place) (heads : Specifications) (j : ℕ) → IsGroup us handed heads j [] 0
-group_begun us handed heads j = record {
-  all = λ i g q p low. absurd (omega arith);
-  only = λ x st. absurd (omega (arith, st.1.0));
-}
-
 pub group_more : (us : List SourceUnit) (handed : List Place) (heads : Specifications) (j : ℕ) (row row' : List ℕ) (n g q : ℕ) → slice_get handed n ≡ Some (g, q) → IsGroup us handed heads j row n → Joins us heads g q j row row' → IsGroup us handed heads j row' (n + 1)
 group_more us handed heads j row row' n g q at' r joins = record {
   all = λ i h t p low e there head. elim (cases_eq i n) [
@@ -196,9 +181,6 @@ no_head : (us : List SourceUnit) (heads : Specifications) (g q j : ℕ) (p : Pro
 no_head us heads g q j p o row there number other = joins_same us heads g q j row (λ p' there' head.
     let same : p ≡ p' = same_Some p p' (sym there ∙ there') in
     other (sym number ∙ ap (λ (z : Proc). number_of heads (spec_of z)) same ∙ head))
-
-pub no_group : (us : List SourceUnit) (heads : Specifications) (g q : ℕ) (p : Proc) (groups : List (List ℕ)) → procedure_at us g q ≡ Some p → number_of heads (spec_of p) ≡ None → JoinGroups us heads g q groups groups
-no_group us heads g q p groups there number j = no_head us heads g q j p None (row_of groups j) there number (λ e. none-some j e)
 
 pub one_group : (us : List SourceUnit) (heads : Specifications) (g q h n : ℕ) (p : Proc) (groups groups' : List (List ℕ)) → procedure_at us g q ≡ Some p → number_of heads (spec_of p) ≡ Some h → n ≡ first_number us g + q → h < length groups → groups' ≡ set groups h (row_of groups h ++ n ∷ []) → JoinGroups us heads g q groups groups'
 one_group us heads g q h n p groups groups' there number is-number low same j =

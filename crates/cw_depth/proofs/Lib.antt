@@ -3,7 +3,6 @@ pub mod OneReport
 pub mod Sorted
 pub mod Transport
 pub mod Firsts
-pub mod Heads
 pub mod Adding
 pub mod Handing
 pub mod Graphing

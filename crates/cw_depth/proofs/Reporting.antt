@@ -33,16 +33,10 @@ segment_small us n g q e =
           omega arith
     ]
 
-pub node_found : (us : List SourceUnit) (n : ℕ) (a : Node) → slice_get (nodes_of us) n ≡ Some a → node_at us n ≡ a
-node_found us n a e = get_or_from_slice_get (nodes_of us) n a (Body 0) e
-
 past_body : (xs : List Node) (n : ℕ) → slice_get xs n ≡ None → slice_index_or xs n (Body 0) ≡ Body 0
 past_body [] n e = refl
 past_body (x ∷ xs) zero e = absurd (none-some x (sym e))
 past_body (x ∷ xs) (suc n) e = past_body xs n e
-
-pub node_past : (us : List SourceUnit) (n : ℕ) → slice_get (nodes_of us) n ≡ None → node_at us n ≡ Body 0
-node_past us n e = past_body (nodes_of us) n e
 
 pub bound_told : (us : List SourceUnit) (g : Graph) (chain : List ℕ) (list : List (ℕ × ℕ)) → IsGraphOf us g → list ≡ map told (map (node_at us) chain) → IsBound (LeadsTo g) Below (IsBodyOf g) chain → TellsBound us list
 bound_told us g chain list graph e b = record { nodes = map (node_at us) chain; bound = bound_up us g graph chain b; chain_is = e }

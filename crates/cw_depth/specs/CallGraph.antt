@@ -1,17 +1,16 @@
 -- Which procedures the bodies of a program lead to. A call of a procedure, of the segment's own or of COMMON, leads to it. A call of a procedure
 -- parameter leads to each procedure that stands as an argument anywhere in the program and has the parameter's specification. Segments and
 -- procedures count from 0.
-use Rattle.std.specs.Prelude.{◌≡◌, ◌⊎◌, ℕ, ◌<◌, nat_eq, if◌then◌else◌, List, [], ◌∷◌, length, map, Option, Some, None, slice_get}
+use Rattle.std.specs.Prelude.{◌≡◌, ◌⊎◌, ℕ, ◌<◌, nat_eq, if◌then◌else◌, List, [], ◌∷◌, length, Option, Some, None, slice_get}
 use Rattle.cw_unit.specs.declared.unit.Unit.{Unit as SourceUnit}
 use Rattle.cw_unit.specs.declared.unit.Proc.{Proc}
 use Rattle.cw_unit.specs.declared.unit.Param.{Param}
 use Rattle.cw_unit.specs.declared.unit.Param.TheVariants as param
 use Rattle.cw_unit.specs.declared.descriptor.Spec.{Spec}
-use Rattle.cw_unit.specs.declared.descriptor.SpecParam.{SpecParam}
-use Rattle.cw_unit.specs.declared.descriptor.SpecParam.TheVariants as takes
 use Rattle.cw_unit.specs.Program.{name_of, definition_from}
 use Rattle.cw_unit.specs.Step.{procedure_of_def}
 use Rattle.cw_unit.specs.Configuration.{procedure_in}
+pub use Rattle.cw_keyed.specs.Spelling.{taken_by, spec_of}
 use Rattle.cw_depth.specs.declared.node.Node.{Node}
 use Rattle.cw_depth.specs.declared.node.Node.TheVariants.{Body, Procedure}
 use Rattle.cw_depth.specs.declared.mention.Mention.{Mention}
@@ -30,19 +29,6 @@ Before (Procedure g q) (Body h) = ⊥
 Before (Procedure g q) (Procedure h r) = (g < h) ⊎ ((g ≡ h) × (q < r))
 
 -- ---- specifications
-
-abbrev pub taken_by : Param → SpecParam
-taken_by (param.Value i s) = takes.Value s
-taken_by (param.Location i s) = takes.Location s
-taken_by (param.Array i s) = takes.Array s
-taken_by (param.Table i n) = takes.Table n
-taken_by (param.Label k) = takes.Label
-taken_by (param.Switch k) = takes.Switch
-taken_by (param.Proc k s) = takes.Proc s
-
--- the specification that a procedure has
-abbrev pub spec_of : Proc → Spec
-spec_of p = record { answer = p.answer; params = map taken_by p.params }
 
 -- the specification of the procedure parameter of this number among the control parameters
 abbrev pub spec_in : (control : ℕ) → List Param → Option Spec

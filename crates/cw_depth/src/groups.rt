@@ -88,7 +88,6 @@ pub(crate) fn handed_in_all(
 }
 
 // The head of the specification that a procedure has, if it is one.
-#[tactic(auto, using(crate::proofs::Heads::specification_is))]
 fn head_of(heads: &Specifications, procedure: &Proc) -> Result<Option<usize>, NoMemory>
     ensures { IfOk result (λ head. head ≡ number_of heads.now (spec_of procedure.now)) }
 {

@@ -81,7 +81,7 @@ module _ (known : Given) where
             let inside : word < p.limits.area = ltb-true word p.limits.area is in
             let small : word < 65536 = omega arith in
             puts_with known s by_itself o true (put (signed word) w) 3 e (goes true is) (cheap known s o 3 (lit≤ tt) e) (λ room.
-            frame_homes rows p image g next n a acts (signed word) w low inside (behind known s by_itself o e) (sym (rows.words.forth word small)) (code known s by_itself o e) (landed_here known s by_itself))
+            frame_homes rows p image g next n a acts (signed word) w low inside (behind known s by_itself o e) (sym (rows.words.numbers.words.forth word small)) (code known s by_itself o e) (landed_here known s by_itself))
 
     pub binds_static : (k family offset : ℕ) → slice_get s.orders.list place ≡ Some (order.Bind k family offset) → Follow known (at g place false (a ∷ acts) w Running) q
     binds_static k family offset e =

@@ -10,6 +10,7 @@ use Rattle.cw_i86.specs.declared.instr.Imm.TheVariants as imm
 use Rattle.cw_i86.specs.declared.instr.Rm.TheVariants as rms
 use Rattle.cw_i86.specs.Sums.{overflows}
 use Rattle.cw_run86.specs.Processor.{Told}
+use Rattle.cw_routines.proofs.Facts.{fits_tested, unsigned_pos}
 use Rattle.cw_follow.proofs.Watched.{Watched}
 use Rattle.cw_run86.specs.Views.{compare as compare_of, word_difference, difference_overflows, product_low, product_high, product_overflows, Comparison, NotLess, AtMost, words_compare, compares, condition_of, with_number}
 use Rattle.cw_word.specs.FixedPoint.{FitsWord, fits_word}
@@ -30,7 +31,7 @@ use Rattle.cw_follow.proofs.Orders.{Kept, Check, Checked, later, further, checks
 use Rattle.cw_order.specs.OrderState.{operand_words}
 use Rattle.cw_follow.proofs.Operands.{Setting, words, allowed, One, result, LandedWith, DoesHere, taking_one, calls_stop}
 use Rattle.cw_follow.proofs.Called.{Then, parts}
-use Rattle.cw_follow.proofs.Numbers.{left, right, overflows_same, difference_overflows_is, difference_is, fits_tested, unsigned_pos}
+use Rattle.cw_follow.proofs.Numbers.{left, right, overflows_same, difference_overflows_is, difference_is}
 use Rattle.cw_follow.proofs.Indexed.{below_count, past_count}
 use Rattle.cw_follow.proofs.Facts.{low_is, top_overflows, top_low, top_product, not_below}
 use Rattle.cw_follow.proofs.Standing.{Has, HasWord, Image}
@@ -55,10 +56,10 @@ test_place false at = at + 3 + 2
 -- products of words
 module _ (rows : Rows) (x y : ℤ) (fx : FitsWord x) (fy : FitsWord y) where
   pub product_overflows_is : product_overflows (unsigned x) (unsigned y) ≡ not (fits_word (x *ℤ y))
-  product_overflows_is = ap₂ (λ a b. overflows 32768 (a *ℤ b)) (rows.words.back x fx) (rows.words.back y fy) ∙ overflows_same (x *ℤ y)
+  product_overflows_is = ap₂ (λ a b. overflows 32768 (a *ℤ b)) (rows.words.numbers.words.back x fx) (rows.words.numbers.words.back y fy) ∙ overflows_same (x *ℤ y)
 
   pub product_is : FitsWord (x *ℤ y) → product_low (unsigned x) (unsigned y) ≡ unsigned (x *ℤ y)
-  product_is f = ap₂ (λ a b. low_word (a *ℤ b)) (rows.words.back x fx) (rows.words.back y fy) ∙ low_is (x *ℤ y) f
+  product_is f = ap₂ (λ a b. low_word (a *ℤ b)) (rows.words.numbers.words.back x fx) (rows.words.numbers.words.back y fy) ∙ low_is (x *ℤ y) f
 
 -- those of a number that a template multiplies by
 module _ (rows : Rows) (x : ℤ) (fx : FitsWord x) where
@@ -249,10 +250,10 @@ module _ (c : Setting) (memory : List ℤ) (input output : List ℕ) where
       over = difference_overflows (unsigned x) (unsigned y)
 
       lx : unsigned x < 65536
-      lx = c.rows.words.unsigned_fits x fx
+      lx = c.rows.words.numbers.words.unsigned_fits x fx
 
       ly : unsigned y < 65536
-      ly = c.rows.words.unsigned_fits y fy
+      ly = c.rows.words.numbers.words.unsigned_fits y fy
 
       Between : Watched → Type 0
       Between = IsCompared c.image (at + 3) (view (unsigned x) cx dx bx (2 * suc n) (record_of c.acts) si c.program.limits.area over cells stack left told) (unsigned x) (unsigned y)

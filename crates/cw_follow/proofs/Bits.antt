@@ -10,6 +10,7 @@ use Rattle.cw_i86.specs.Encoding.{bytes_of}
 use Rattle.cw_i86.specs.declared.instr.Instr.TheVariants as i86
 use Rattle.cw_i86.specs.declared.instr.Rm.TheVariants as rms
 use Rattle.cw_run86.specs.Processor.{Told}
+use Rattle.cw_routines.proofs.Facts.{unsigned_pos}
 use Rattle.cw_follow.proofs.Watched.{Watched}
 use Rattle.cw_run86.specs.Views.{View, put_word, with_number, word_difference, word_up, word_down_signed}
 use Rattle.cw_rows86.specs.Operations.{Up}
@@ -34,7 +35,6 @@ use Rattle.cw_follow.proofs.Stacks.{level, record_of}
 use Rattle.cw_follow.proofs.Orders.{further, landed, kept_stored, through_address}
 use Rattle.cw_order.specs.OrderState.{operand_words}
 use Rattle.cw_follow.proofs.Operands.{Setting, words, with_cells, One, Two, result, LandedWith, DoesHere, accessing_one, accessing_two}
-use Rattle.cw_follow.proofs.Numbers.{unsigned_pos}
 use Rattle.cw_follow.proofs.Facts.{down_none, not_below}
 use Rattle.cw_follow.proofs.Standing.{HasPieces, HasAll}
 use Rattle.cw_follow.proofs.Halves.{merged}
@@ -104,7 +104,7 @@ module _ (c : Setting) (memory : List ℤ) (input output : List ℕ) where
           done (result c memory input output to (suc (suc l.top)) (f x y) rest e' (gives x y fx fy) l.under l.kept t)))
 
   unsigned_fits : (x : ℤ) → FitsWord x → unsigned x < 65536
-  unsigned_fits = c.rows.words.unsigned_fits
+  unsigned_fits = c.rows.words.numbers.words.unsigned_fits
 
   -- bits of two words are those of a word, whichever comes first
   logic_fits : (op : LogicOp) (x y : ℤ) → FitsWord x → FitsWord y → logic_word op (unsigned x) (unsigned y) < 65536
@@ -113,7 +113,7 @@ module _ (c : Setting) (memory : List ℤ) (input output : List ℕ) where
   logic_fits logic.Differ x y fx fy = xor_of_16 (unsigned x) (unsigned y) (unsigned_fits x fx) (unsigned_fits y fy)
 
   pub logic_is : (op : LogicOp) (x y : ℤ) → FitsWord x → FitsWord y → logic_word op (unsigned x) (unsigned y) ≡ unsigned (signed (logic_word op (unsigned x) (unsigned y)))
-  logic_is op x y fx fy = sym (c.rows.words.forth (logic_word op (unsigned x) (unsigned y)) (logic_fits op x y fx fy))
+  logic_is op x y fx fy = sym (c.rows.words.numbers.words.forth (logic_word op (unsigned x) (unsigned y)) (logic_fits op x y fx fy))
 
   pub logic_turned : (op : LogicOp) (x y : ℤ) → FitsWord x → FitsWord y → logic_word op (unsigned y) (unsigned x) ≡ unsigned (signed (logic_word op (unsigned x) (unsigned y)))
   logic_turned op x y fx fy = turned op (unsigned y) (unsigned x) ∙ logic_is op x y fx fy
@@ -131,14 +131,14 @@ module _ (c : Setting) (memory : List ℤ) (input output : List ℕ) where
       let lb = unsigned_fits y fy in
       let lt : difference_of_words a b < 65536 = omega arith in
       let same : word_difference a b ≡ difference_of_words a b = omega arith in
-      same ∙ sym (c.rows.words.forth (difference_of_words a b) lt)
+      same ∙ sym (c.rows.words.numbers.words.forth (difference_of_words a b) lt)
 
   -- ---- parts
 
   part_is : (w t b : ℕ) → w < 65536 → bit_and (w / 2 ^ b) (2 ^ t - 1) ≡ unsigned (signed (unsigned_field w t b))
   part_is w t b lt =
       let small : unsigned_field w t b < 65536 = omega (arith, mod-le (w / 2 ^ b) (2 ^ t), div-le_self w (2 ^ b)) in
-      sym (c.rows.words.taken w t b) ∙ sym (c.rows.words.forth (unsigned_field w t b) small)
+      sym (c.rows.words.taken w t b) ∙ sym (c.rows.words.numbers.words.forth (unsigned_field w t b) small)
 
   -- one of all bits has no code
   pub takes : {p : Watched} {at : ℕ} (value : Filling) (to t b : ℕ) (operands : List Operand) → at + length (blanks (taken t b)) ≡ to → 0 < part_steps t b false → t + b ≤ 16
@@ -158,7 +158,7 @@ module _ (c : Setting) (memory : List ℤ) (input output : List ℕ) where
   takes_all {p} at x rest fx l =
       let f = unsigned_fits x fx in
       let all : unsigned_field (unsigned x) 16 0 ≡ unsigned x = omega arith in
-      let same : x ≡ signed (unsigned_field (unsigned x) 16 0) = sym (ap signed all ∙ c.rows.words.back x fx) in
+      let same : x ≡ signed (unsigned_field (unsigned x) 16 0) = sym (ap signed all ∙ c.rows.words.numbers.words.back x fx) in
       subst (λ z. LandedWith c memory input output at true (Word z ∷ rest) p) same l
 
   -- a part of a word of the data area; one of 16 bits is the word
@@ -195,7 +195,7 @@ module _ (c : Setting) (memory : List ℤ) (input output : List ℕ) where
       let small : u < 65536 = omega arith in
       let v = word_down_signed u (k + b) in
       let same : signed v ≡ signed_field w t b = c.rows.words.down u (k + b) small ∙ sym (c.rows.words.signed_shifted w t b k some (omega arith)) in
-      ap (word_down_signed u) en ∙ sym (c.rows.words.forth v (c.rows.words.down_fits u (k + b) small)) ∙ ap unsigned same
+      ap (word_down_signed u) en ∙ sym (c.rows.words.numbers.words.forth v (c.rows.words.numbers.down_fits u (k + b) small)) ∙ ap unsigned same
 
   pub part_of_word : (z : ℤ) (t b : ℕ) (is_signed : Bool) → FitsWord z → 1 ≤ t → t + b ≤ 16 → part_word (unsigned z) t b is_signed ≡ unsigned (field_value (part t b (not is_signed)) z)
   part_of_word z t b true fz some room = signed_part z t b (nat_lt 15 t) refl fz some room
@@ -208,7 +208,7 @@ module _ (c : Setting) (memory : List ℤ) (input output : List ℕ) where
       let w = unsigned old in
       let f = unsigned_fits old fo in
       merged w (word_up (unsigned z) b) (field_mask t b) f (omega arith) (mask_small t b room) ∙ sym (c.rows.words.stored w t b (unsigned z) f room)
-      ∙ sym (c.rows.words.forth (with_field w t b (unsigned z)) (c.rows.words.field_fits w t b (unsigned z) f room))
+      ∙ sym (c.rows.words.numbers.words.forth (with_field w t b (unsigned z)) (c.rows.words.field_fits w t b (unsigned z) f room))
 
   -- the word at an address, of which some instructions take a part
   module _ (all : All FitsWord memory) (long : length memory ≡ c.program.limits.area) where

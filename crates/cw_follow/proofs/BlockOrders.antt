@@ -8,7 +8,7 @@ use Rattle.cw_tmpl.proofs.Sizes.{fetched_long, stored_long}
 use Rattle.cw_follow.proofs.Watched.{Watched}
 use Rattle.cw_word.specs.Word.{signed}
 use Rattle.cw_unit.specs.Stop.{Running}
-use Rattle.cw_unit.specs.Words.{Operand, Word, Held, Words, with_operands, put}
+use Rattle.cw_unit.specs.Words.{Operand, Word, Words, with_operands, put}
 use Rattle.cw_unit.specs.Operation.{Fetch, Store, Divide, WriteByte, perform}
 use Rattle.cw_order.specs.declared.order.Order.{Order}
 use Rattle.cw_order.specs.declared.order.Order.TheVariants as order
@@ -20,6 +20,7 @@ use Rattle.cw_order.specs.OrderActions.{home_word, action_of}
 use Rattle.cw_order.specs.OrderMachine.{unrefused, go_on, after, act, carry_with, step, weight}
 use Rattle.cw_order.specs.declared.order.Place.{Place}
 use Rattle.cw_order.specs.declared.order.Place.TheVariants as cell
+use Rattle.cw_order.proofs.StandingActivations.{words_split}
 use Rattle.cw_tmpl.specs.declared.blocks.Simple.{Simple}
 use Rattle.cw_tmpl.specs.declared.blocks.Simple.TheVariants as simple
 use Rattle.cw_tmpl.specs.declared.blocks.Block.{Block}
@@ -27,7 +28,7 @@ use Rattle.cw_tmpl.specs.declared.blocks.Block.TheVariants as block
 use Rattle.cw_tmpl.specs.Blocks.{address_orders, operand_orders, orders_before, is_plain_divisor, block_at, orders_left}
 use Rattle.cw_follow.specs.Placing.{base_of}
 use Rattle.cw_follow.proofs.Standing.{order_place}
-use Rattle.cw_follow.proofs.Stacks.{level, words_split}
+use Rattle.cw_follow.proofs.Stacks.{level}
 use Rattle.cw_follow.proofs.Orders.{Landed, Does, fetches, assigns, writes_top, over_landed}
 use Rattle.cw_follow.proofs.States.{Given, Sound}
 use Rattle.cw_follow.proofs.InBlocks.{slice_drop, Each, each_of_both, one_before, none_before, Puts, never_refused, puts_word, loaded_then, loaded_silently}
@@ -46,9 +47,8 @@ address_unrefused (Some a) w = refl
 
 -- a byte that is written stops nothing
 pub write_unrefused : (area : ℕ) (operands : List Operand) (w : Words) → unrefused (perform area WriteByte (with_operands w operands)) ≡ perform area WriteByte (with_operands w operands)
-write_unrefused area [] w = refl
-write_unrefused area (Held c ∷ rest) w = refl
 write_unrefused area (Word x ∷ rest) w = refl
+write_unrefused area _ w = refl
 
 -- a divisor of the processor's own division
 plain_divisor : (x : ℕ) → is_plain_divisor x ≡ true → (2 ≤ x) × (x < 32768)

@@ -17,12 +17,13 @@ use Rattle.cw_tmpl.specs.Library.{start_entry, start_place}
 use Rattle.cw_tmpl.specs.Pieces.{Filling}
 use Rattle.cw_tmpl.specs.Templates.{entry_pieces, segment_word}
 use Rattle.cw_routines.specs.Results.{Stands}
+use Rattle.cw_routines.proofs.Facts.{put_at}
 use Rattle.cw_follow.specs.Placing.{Fills, base_of}
 use Rattle.cw_follow.proofs.Watched.{Watched}
 use Rattle.cw_follow.proofs.Standing.{HasPieces, order_place, HasWord, Image, number_there}
 use Rattle.cw_follow.proofs.Rows.{Rows}
 use Rattle.cw_follow.proofs.Chains.{Is, Leads, view, seen, to_place, number, call, jump_to, more}
-use Rattle.cw_follow.proofs.Routines.{Stacked, quiet_in, quiet_library, flags_of, arrives, returned, lifted, ends, leads_on, put_at}
+use Rattle.cw_follow.proofs.Routines.{Stacked, quiet_in, quiet_library, flags_of, arrives, returned, lifted, ends, leads_on}
 use Rattle.cw_follow.proofs.Stacks.{record_of, top_is}
 use Rattle.cw_follow.proofs.Orders.{Landed, further}
 use Rattle.cw_follow.proofs.States.{Given, Sound, Arrived, never_on, not_stuck, before_block}
@@ -109,7 +110,7 @@ enters rows {image} {q} p g next_place value base ax cx dx bx bp si di n overflo
       left = b.record_is.left;
       base = b.record_is.base_is;
       rest = b.record_is.rest_is;
-      stacked = record { ax = b.ax; cx = b.cx; dx = b.dx; bx = b.bx; si = b.si; overflow = b.flags.of; is = seen (let e : base + 3 + 8 ≡ base + 11 = omega arith in e) refl (returned q t.ignores b.is) };
+      stacked = let x = b.here in record { ax = x.ax; cx = x.cx; dx = x.dx; bx = x.bx; si = x.si; overflow = x.flags.of; is = seen (let e : base + 3 + 8 ≡ base + 11 = omega arith in e) refl (returned q t.ignores x.is) };
     }))
 
 module _ (known : Given) where

@@ -4,13 +4,14 @@ use Rattle.std.specs.Prelude.{nat_lt, if◌then◌else◌}
 use borrow.Author.Tests.{ltb-true}
 use Rattle.cw_word.specs.Word.{unsigned}
 use Rattle.cw_unit.specs.Stop.{Running}
-use Rattle.cw_unit.specs.Words.{Words, Word, Outcome, Changed, Refused, Impossible, put, word_at}
+use Rattle.cw_unit.specs.Words.{Words, Word, Outcome, Changed, put, word_at}
 use Rattle.cw_unit.specs.Operation.{Fetch, perform}
 use Rattle.cw_order.specs.declared.order.Order.{Order}
 use Rattle.cw_order.specs.declared.order.Order.TheVariants as order
 use Rattle.cw_order.specs.OrderChanges.{put_address}
 use Rattle.cw_order.specs.OrderMachine.{unrefused, weight}
 use Rattle.cw_order.specs.OrderState.{OrderActivation, at, frame_word}
+use Rattle.cw_order.proofs.StandingActivations.{words_split}
 use Rattle.cw_tmpl.specs.declared.blocks.Block.TheVariants as block
 use Rattle.cw_tmpl.specs.Blocks.{block_at}
 use Rattle.cw_tmpl.specs.Mnemonics.{ax, bx, slot, base_slot, field, load}
@@ -24,7 +25,7 @@ use Rattle.cw_follow.proofs.BlockOrders.{block_follows, modes, step_in}
 use Rattle.cw_follow.proofs.Chains.{IsAt, view, done}
 use Rattle.cw_follow.proofs.InBlocks.{chain}
 use Rattle.cw_follow.proofs.Orders.{Does, LandedAt, further, kept_under, landed, over_landed, through_word}
-use Rattle.cw_follow.proofs.Stacks.{StackIs, level, record_of, base_word, stack_pushed, top_is, words_split, base_there}
+use Rattle.cw_follow.proofs.Stacks.{StackIs, level, record_of, base_word, stack_pushed, top_is, base_there}
 use Rattle.cw_follow.proofs.Standing.{HasFrom}
 use Rattle.cw_follow.proofs.States.{Given, Sound}
 use Rattle.cw_follow.proofs.Steps.{FollowFrom, begins_block, begun_block, block_code, block_ends, last_does, order_here, start_place, weight_is, code_end}
@@ -110,8 +111,7 @@ module _ (known : Given) where
       where
         one_more : (x : Outcome) → Done (chain x loads) → Done (chain (chain x Changed) loads)
         one_more (Changed v) d = d
-        one_more (Refused kind) d = d
-        one_more Impossible d = d
+        one_more _ d = d
 
     -- a segment's body has no frame, and a word that is not in the data area is none of a frame
     both_put : (n m : ℕ) → start_place known s + (frame_size n + (frame_size m + 8)) ≡ code_end known s → Code n m → Here

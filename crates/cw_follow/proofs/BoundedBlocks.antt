@@ -1,6 +1,6 @@
 -- Blocks that compare the top operand with bounds and form an address of it: between the bounds all words are known to be in the data area,
 -- so the address is not tested. The order that compares may stop, and pays for the way to the stop.
-use Rattle.std.proofs.Common.{◌≡◌, ℕ, zero, suc, ◌+◌, ◌*◌, ◌<◌, ◌≤◌, Bool, true, false, ℤ, pos, negsuc, ◌+ℤ◌, ◌-ℤ◌, ◌*ℤ◌, List, [], ◌∷◌, ◌++◌, length, drop, Some, refl, sym, ap, ap₂, ◌∙◌, subst, arith, lit<, lit≤}
+use Rattle.std.proofs.Common.{◌≡◌, ℕ, zero, suc, ◌+◌, ◌*◌, ◌<◌, ◌≤◌, Bool, true, false, ℤ, pos, negsuc, ◌+ℤ◌, ◌-ℤ◌, ◌*ℤ◌, List, [], ◌∷◌, ◌++◌, drop, Some, refl, sym, ap, ap₂, ◌∙◌, subst, arith, lit<, lit≤}
 use Rattle.std.specs.Prelude.{slice_get, int_le, nat_lt, ◌&&◌, ◌==◌, if◌then◌else◌, min}
 use borrow.Author.Tests.{ltb-true, eqb-true}
 use Rattle.std.proofs.Math.Nat.{mul-le-mul_right}
@@ -40,10 +40,12 @@ use Rattle.cw_tmpl.specs.declared.pieces.Target.TheVariants as target
 use Rattle.cw_tmpl.specs.Blocks.{orders_to_form, form_order, form_within, entries_within, block_at, orders_left}
 use Rattle.cw_tmpl.specs.Library.{bounds_entry}
 use Rattle.cw_tmpl.specs.Mnemonics.{set_word, multiply}
-use Rattle.cw_tmpl.specs.Pieces.{Filling, blanks}
+use Rattle.cw_tmpl.specs.Pieces.{Filling}
 use Rattle.cw_tmpl.specs.Templates.{indexes_between, top_below, top_from_lower, formed, block_size}
 use Rattle.cw_tmpl.specs.Sizes.{top_lower_size, formed_size}
+use Rattle.cw_tmpl.proofs.Lengths.{top_lower_long}
 use Rattle.cw_tmpl.proofs.Sizes.{bounded_long}
+use Rattle.cw_routines.proofs.Facts.{fits_tested, unsigned_pos}
 use Rattle.cw_follow.proofs.Watched.{Watched, watched_step}
 use Rattle.cw_follow.proofs.Chains.{Is, Leads, view, last, done, subtract_number}
 use Rattle.cw_follow.proofs.Acting.{act}
@@ -53,15 +55,15 @@ use Rattle.cw_follow.proofs.Routines.{leads_on, leads_then}
 use Rattle.cw_follow.proofs.Stacks.{level, record_of}
 use Rattle.cw_follow.proofs.Orders.{Kept, Landed, Does, later, further}
 use Rattle.cw_follow.proofs.Operands.{Setting, One, one_there, LandedWith, DoesHere, result}
-use Rattle.cw_follow.proofs.Numbers.{fits_tested, unsigned_pos}
 use Rattle.cw_follow.proofs.Addresses.{product_is, count_passes, count_stops}
-use Rattle.cw_follow.proofs.Indexed.{BetweenBounds, both_hold, from_word, between_bounds, past_bounds, formed_between, lower_steps, few_lower}
+use Rattle.cw_follow.proofs.Indexed.{BetweenBounds, from_word, between_bounds, past_bounds, formed_between, lower_steps, few_lower}
 use Rattle.cw_follow.proofs.ElementTests.{many_between, within_span, order_there}
 use Rattle.cw_follow.proofs.ElementOrders.{stops_follow}
 use Rattle.cw_follow.proofs.InBlocks.{silently, puts_word, chain}
 use Rattle.cw_follow.proofs.States.{Given, Sound}
 use Rattle.cw_follow.proofs.Steps.{Follow, setting, calls, by, order_here, weight_is, wrong_way, moded_as, did_as, block_code, block_ends, start_place, does, code_end}
 use Rattle.cw_follow.proofs.BlockOrders.{room_in, within_block, inner_follows, modes, step_in}
+use Rattle.cw_follow.proofs.Naming.{both_true}
 use Rattle.cw_tmpl.specs.declared.blocks.Block.{Block}
 
 -- ---- arithmetic
@@ -139,13 +141,7 @@ formed_entry area b n width word v low within =
     total : pos (n * width) +ℤ pos word ≡ pos (n * width + word)
     total = omega (arith, ints)
 
--- the bytes of the code
-pub lower_long : (l : ℤ) → length (blanks (top_from_lower l)) ≡ top_lower_size l
-lower_long (pos zero) = refl
-lower_long (pos (suc n)) = refl
-lower_long (negsuc n) = refl
-
--- and its instructions
+-- the instructions of the code
 abbrev pub formed_steps : Form → ℕ
 formed_steps (form.Element span line) = 1
 formed_steps (form.Entry width word span line) = if width == 1 then 1 else 3
@@ -215,7 +211,7 @@ module _ (c : Setting) (memory : List ℤ) (input output : List ℕ) (value : Fi
             let most = numbers.1 in
             let some : n * width < 32768 = omega arith in
             let product : product_low n width ≡ n * width =
-            product_small n width some few most (c.rows.words.signed_fits width (omega arith)) (c.rows.words.forth width (omega arith)) (λ x y fx fy f. product_is c.rows x y fx fy f) in
+            product_small n width some few most (c.rows.words.signed_fits width (omega arith)) (c.rows.words.numbers.words.forth width (omega arith)) (λ x y fx fy f. product_is c.rows x y fx fy f) in
             let there : at + 3 + 2 + 4 ≡ at + 9 = omega arith in
             leads_then {n = 2} {m = 1}
             (straight c.rows (Number 3 width ∷ Product 3 ∷ []) {n = 0} kept.wrote (h.0, (h.1.0, tt)) (tt, (tt, tt)) s.is
@@ -286,7 +282,7 @@ module _ (known : Given) where
             let h = coded.codes g (s.from + 0) (order.InBounds b.lower b.upper b.line) compares in
             let last_there : order_at p g (s.from + 2 + 1) ≡ Some o = subst (λ n. order_at p g n ≡ Some o) next (order_there known s 3 o _ list refl) in
             let most = (coded.codes g (s.from + 2 + 1) o last_there).0 in
-            let t = entries_spanned b.lower b.upper width word span (both_hold (entries_within b.lower b.upper width word span) (nat_lt (first + word) 65536) within).0 in
+            let t = entries_spanned b.lower b.upper width word span (both_true (entries_within b.lower b.upper width word span) (nat_lt (first + word) 65536) within).0 in
             let inside = coded.spans g (s.from + 2) family first (t.last * width + word) o (order_there known s 2 (order.Home family first) _ list refl) last_there t.within in
             record {
               last = t.last;
@@ -322,13 +318,13 @@ module _ (known : Given) where
     parts_of : (b : Bounds) (family first : ℕ) (f : Form) → HasPieces image value_of (start_place known s) (top_from_lower b.lower ++ (top_below b.line (indexes_between (b.upper -ℤ b.lower)) ++ formed family first f)) → Parts b family first f
     parts_of b family first f h =
         let rest : List Coded = top_below b.line (indexes_between (b.upper -ℤ b.lower)) ++ formed family first f in
-        record { whole = h; tests = subst (λ n. HasPieces image value_of (start_place known s + n) rest) (lower_long b.lower) (stand_both image value_of (start_place known s) (top_from_lower b.lower) rest h).1 }
+        record { whole = h; tests = subst (λ n. HasPieces image value_of (start_place known s + n) rest) (top_lower_long b.lower) (stand_both image value_of (start_place known s) (top_from_lower b.lower) rest h).1 }
 
     -- the number of the index from the lower bound on
     numbered : (b : Bounds) (family first : ℕ) (f : Form) (x : ℤ) (rest : List Operand) (l : Top x rest) → FitsWord x → Parts b family first f
         → Leads s.before.output (lower_steps b.lower) q (InTop (setting known s) s.before.memory s.before.input s.before.output value_of (test_at b) (from_word b.lower x) l.si l.top l.cells l.stack l.left l.told)
     numbered b family first f x rest l fx h =
-        less_lower (setting known s) s.before.memory s.before.input s.before.output value_of l.top (rows.words.unsigned_fits x fx) l.kept
+        less_lower (setting known s) s.before.memory s.before.input s.before.output value_of l.top (rows.words.numbers.words.unsigned_fits x fx) l.kept
         (record { cx = l.cx; dx = l.dx; bx = l.bx; overflow = l.overflow; is = l.is }) b.lower _ h.whole
 
     -- the stop, where the index is not between the bounds

@@ -49,11 +49,7 @@ branch_arrives base own n to false close =
 -- numbers of its instructions
 pub comparison_small : (c : Comparator) → condition_of (comparison_of c) < 16
 comparison_small comparator.Less = lit< tt
-comparison_small comparator.LessEqual = lit< tt
-comparison_small comparator.Equal = lit< tt
-comparison_small comparator.GreaterEqual = lit< tt
-comparison_small comparator.Greater = lit< tt
-comparison_small comparator.Unequal = lit< tt
+comparison_small _ = lit< tt
 
 pub short_small : (from to : ℕ) → short_distance from to < 256
 short_small from to = omega arith

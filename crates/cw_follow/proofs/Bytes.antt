@@ -1,5 +1,5 @@
 -- Instructions and words that stand one after another in the bytes of an image, and where those of each order do.
-use Rattle.std.proofs.Common.{◌≡◌, ℕ, suc, ◌+◌, ◌≤◌, true, false, List, [], ◌∷◌, ◌++◌, length, drop, Some, None, ap, ◌∙◌, subst, arith, length-append}
+use Rattle.std.proofs.Common.{◌≡◌, ℕ, suc, ◌+◌, ◌≤◌, true, false, List, [], ◌∷◌, ◌++◌, length, drop, Some, None, subst, arith, length-append}
 use Rattle.std.specs.Prelude.{slice_get}
 use Rattle.cw_i86.specs.declared.instr.Instr.TheVariants as i86
 use Rattle.cw_i86.specs.declared.instr.Imm.TheVariants as imm
@@ -20,7 +20,6 @@ use Rattle.cw_tmpl.specs.Library.{entry_place}
 use Rattle.cw_routines.specs.Ways.{HasWord}
 use Rattle.cw_routines.specs.Results.{Stands as LibraryStands}
 use Rattle.cw_tmpl.specs.Templates.{entry_pieces, landing_pieces, switch_pieces}
-use Rattle.cw_tmpl.proofs.Growing.{blanks-append}
 use Rattle.cw_tmpl.specs.Blocks.{block_at, left_at}
 use Rattle.cw_tmpl.specs.ReferenceCode.{names_of, pieces_of, landings_place, switches_place}
 use Rattle.cw_follow.specs.Placing.{Fills, base_of}
@@ -47,10 +46,6 @@ HasPiece code w place (coded.Way t) = Has code place (i86.JumpRm (entry_of_table
 abbrev pub HasPieces : List ℕ → Filling → ℕ → List Coded → Type 0
 HasPieces code value at [] = Unit {0}
 HasPieces code value at (p ∷ ps) = HasPiece code (word_before value (at + size_of p) (target_of p)) at p × HasPieces code value (at + size_of p) ps
-
--- two pieces of code, one behind the other
-pub appended_long : (a b : List Coded) → length (blanks (a ++ b)) ≡ length (blanks a) + length (blanks b)
-appended_long a b = ap length (blanks-append a b) ∙ length-append (blanks a) (blanks b)
 
 pub stand_both : (code : List ℕ) (value : Filling) (at : ℕ) (ps qs : List Coded) → HasPieces code value at (ps ++ qs) → HasPieces code value at ps × HasPieces code value (at + length (blanks ps)) qs
 stand_both code value at [] qs h = let here : at ≡ at + 0 = omega arith in (tt, subst (λ n. HasPieces code value n qs) here h)

@@ -13,15 +13,16 @@ use Rattle.cw_word.specs.Word.{unsigned}
 use Rattle.cw_unit.specs.Words.{Operand, put_value}
 use Rattle.cw_routines.specs.Ways.{QuietAll, Leads as Goes, Back}
 use Rattle.cw_routines.specs.Results.{Quiet, InLibrary, Fitting, WordRoutine, divisor_test}
+use Rattle.cw_routines.proofs.Facts.{put_at}
+use Rattle.cw_routines.proofs.Numbers.{fits_true}
 use Rattle.cw_follow.proofs.Watched.{Watched}
 use Rattle.cw_follow.proofs.Rows.{Rows}
 use Rattle.cw_follow.proofs.Chains.{Is, Leads, view, to_place, call, last}
 use Rattle.cw_follow.proofs.Straight.{Act, Number, codes, behind, instruction, straight}
-use Rattle.cw_follow.proofs.Routines.{put_at, quiet_in, quiet_all, there_all, quiet_library, flags_of, arrives, returned, lifted}
+use Rattle.cw_follow.proofs.Routines.{quiet_in, quiet_all, there_all, quiet_library, flags_of, arrives, returned, lifted}
 use Rattle.cw_follow.proofs.Stacks.{level, record_of, same_put, StackIs, stack_same}
 use Rattle.cw_follow.proofs.Orders.{Kept, kept_under, Checked, checks_end, later}
 use Rattle.cw_follow.proofs.Operands.{Setting, words, DoesHere}
-use Rattle.cw_follow.proofs.Facts.{fits_true}
 use Rattle.cw_follow.proofs.Standing.{Has, HasAll, Image}
 
 -- ---- pieces of code
@@ -39,14 +40,8 @@ parts image at (a ∷ acts) T h = let r = parts image (at + length (bytes_of (in
 
 -- Behind the call, with an answer in AX and the flags; the other registers but SP, BP and DI are of no use.
 pub record Returned (image : Image) (to sp bp area : ℕ) (cells stack : ℕ → ℕ) (input : List ℕ) (told : Told) (Answers : ℕ → Flags → Type 0) (p : Watched) : Type 0 where
-  pub ax : ℕ
-  pub cx : ℕ
-  pub dx : ℕ
-  pub bx : ℕ
-  pub si : ℕ
-  pub flags : Flags
-  pub is : Is image to (view ax cx dx bx sp bp si area flags.of cells stack input told) p
-  pub answers : Answers ax flags
+  pub back : Back image.bytes to sp bp area cells stack input told Answers p.processor
+  pub is : Is image to (view back.ax back.cx back.dx back.bx sp bp back.si area back.flags.of cells stack input told) p
 
 pub comes_back : Rows
     → {image : Image} {at n to sp bp area ax cx dx bx top record_at si di : ℕ} {overflow : Bool} {cells stack cells' stack' : ℕ → ℕ} {left left' output : List ℕ} {told told' : Told} {Answers : ℕ → Flags → Type 0} {p : Watched}
@@ -54,7 +49,7 @@ pub comes_back : Rows
     → Goes (Quiet (quiet_in p.places)) image.bytes output n p.processor (Back image.bytes to sp bp area cells' stack' left' told' Answers)
     → Leads output n p (Returned image to sp bp area cells' stack' left' told' Answers)
 comes_back rows {p = p} s l =
-    lifted rows s.overlooks s.silent l (λ q b. record { ax = b.ax; cx = b.cx; dx = b.dx; bx = b.bx; si = b.si; flags = b.flags; is = returned p s.ignores b.is; answers = b.answers })
+    lifted rows s.overlooks s.silent l (λ q b. record { back = b; is = returned p s.ignores b.is })
 
 fitting : (b : Bool) (z : ℤ) (ax : ℕ) (f : Flags) → Fitting b z ax f → f.of ≡ not b
 fitting true z ax f h = h.1
@@ -105,4 +100,4 @@ module _ (c : Setting) (memory : List ℤ) (input output : List ℕ) where
       later c.program c.image 14 to c.g true line c.acts r.spent (14 + bound) (put_value z (words rest memory input output)) (omega arith)
       (subst (λ o. Leads o r.spent q (Returned c.image back (2 * suc n) bp area cells stack' left told (Fitting (fits_word z) z))) kept.wrote (comes_back c.rows t r.leads))
       (λ u b. checks_end c.rows c.program c.image c.g c.acts to (suc n) line z rest memory input output c.library c.few (omega arith) small
-      (fitting (fits_word z) z b.ax b.flags b.answers) (λ f. (subst (λ d. Fitting d z b.ax b.flags) (fits_true z f) b.answers).0) under' kept' i.1.1 (to_place there b.is)))
+      (fitting (fits_word z) z b.back.ax b.back.flags b.back.answers) (λ f. (subst (λ d. Fitting d z b.back.ax b.back.flags) (fits_true z f) b.back.answers).0) under' kept' i.1.1 (to_place there b.is)))

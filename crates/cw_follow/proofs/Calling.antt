@@ -247,9 +247,7 @@ module _ (known : Given) where
 
     label_or_none : (x : Option (ℕ × Def)) → OfSort (λ y. with_label_owner (length acts) (label_of_def y)) x
     label_or_none (Some (to, def.Label l)) = inr ((to, def.Label l), refl, refl)
-    label_or_none (Some (to, def.Switch n)) = inl refl
-    label_or_none (Some (to, def.Proc n)) = inl refl
-    label_or_none None = inl refl
+    label_or_none _ = inl refl
 
     switch_or_none : (x : Option (ℕ × Def)) → OfSort (λ y. with_switch_owner (length acts) (switch_of_def y)) x
     switch_or_none (Some (to, def.Label l)) = inl refl

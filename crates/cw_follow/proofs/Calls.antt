@@ -10,14 +10,16 @@ use Rattle.cw_unit.specs.Stop.{FramesFull, DepthReached, Stopped}
 use Rattle.cw_unit.specs.Words.{Words}
 use Rattle.cw_order.specs.OrderProgram.{OrderProgram}
 use Rattle.cw_order.specs.OrderState.{OrderActivation, operand_words, stack_words, frame_end}
+use Rattle.cw_order.proofs.StandingActivations.{words_split}
 use Rattle.cw_tmpl.specs.Library.{enter_place, enter_stop_place}
 use Rattle.cw_routines.specs.Results as results
 use Rattle.cw_routines.specs.Results.{Begins, begin}
+use Rattle.cw_routines.proofs.Facts.{put_at}
 use Rattle.cw_follow.proofs.Watched.{Watched, fresh}
 use Rattle.cw_follow.proofs.Rows.{Rows}
 use Rattle.cw_follow.proofs.Chains.{Is, Leads, view, seen, to_place, number, call, more, last, IsAt}
-use Rattle.cw_follow.proofs.Routines.{Over, quiet_in, quiet_library, quiet_all, there_all, flags_of, arrives, returned, lifted, over, put_at}
-use Rattle.cw_follow.proofs.Stacks.{level, record_of, code_place, base_word, words_behind, StackIs, Piled, words_split, words_append, top_is, SameFrom, same_put, same_above, stack_same, piled_same}
+use Rattle.cw_follow.proofs.Routines.{Over, quiet_in, quiet_library, quiet_all, there_all, flags_of, arrives, returned, lifted, over}
+use Rattle.cw_follow.proofs.Stacks.{level, record_of, code_place, base_word, words_behind, StackIs, Piled, words_append, top_is, SameFrom, same_put, same_above, stack_same, piled_same}
 use Rattle.cw_follow.proofs.Orders.{Kept, kept_under, kept_same, Landed, Leading, CalledAt, further, LandedAt, Few, and_few}
 use Rattle.cw_follow.proofs.Standing.{Has, HasAll, HasWord, Image, Ignores, HasFrom}
 
@@ -115,15 +117,7 @@ module _ (rows : Rows) (prog : OrderProgram) (image : Image) where
             stack = e.stack;
             input = input;
             told = told;
-            stacked = record {
-              ax = e.ax;
-              cx = e.cx;
-              dx = e.dx;
-              bx = e.bx;
-              si = e.si;
-              overflow = e.flags.of;
-              is = seen refl (ap (λ b. view e.ax e.cx e.dx e.bx (2 * r) b e.si prog.limits.area e.flags.of cells e.stack input told) record_at) (to_place there (returned u ignores e.is));
-            };
+            stacked = let x = e.here in record { ax = x.ax; cx = x.cx; dx = x.dx; bx = x.bx; si = x.si; overflow = x.flags.of; is = seen refl (ap (λ b. view x.ax x.cx x.dx x.bx (2 * r) b x.si prog.limits.area x.flags.of cells e.stack input told) record_at) (to_place there (returned u ignores x.is)) };
             operands = subst (StackIs prog (begun ∷ acts) e.stack r) (sym none) refl;
             kept = record {
               words = k.words;

@@ -1,5 +1,5 @@
 -- Instructions, one after another.
-use Rattle.std.proofs.Common.{◌≡◌, ℕ, suc, ◌+◌, ◌*◌, ◌%◌, ◌<◌, ◌≤◌, Bool, true, false, not, ℤ, pos, unsigned_abs, int_rem, List, [], ◌∷◌, length, refl, ap, ap₂, ◌∙◌, subst, arith}
+use Rattle.std.proofs.Common.{◌≡◌, ℕ, suc, ◌+◌, ◌*◌, ◌%◌, ◌<◌, ◌≤◌, Bool, true, false, not, ℤ, pos, unsigned_abs, int_rem, List, [], length, refl, ap, ap₂, ◌∙◌, subst, arith}
 use Rattle.cw_track.proofs.Paths.{Path, stay, next}
 use Rattle.cw_i86.specs.Effect.{holds}
 use Rattle.cw_i86.specs.Encoding.{bytes_of}
@@ -14,7 +14,7 @@ use Rattle.cw_follow.proofs.Watched.{Watched, watched_step, watched_machine, ove
 use Rattle.cw_follow.proofs.Standing.{Image, HasAt, Has, Ignores}
 use Rattle.cw_word.specs.FixedPoint.{FitsWord, scaled_quotient}
 use Rattle.cw_word.specs.Word.{unsigned}
-use Rattle.cw_run86.specs.Views.{View, Sees, IsTop, register, on, with_place, with_register, with_result, with_cell, with_stack, with_told, sum_overflows, difference_overflows, word_sum, word_difference, with_overflow, with_other, with_memory, with_number, Compared, Compares, Comparison, condition_of, words_compare, double_overflows, compare as compare_of, sign_of, with_pair}
+use Rattle.cw_run86.specs.Views.{view as view_at, View, Sees, IsTop, register, on, with_place, with_register, with_result, with_cell, with_stack, with_told, sum_overflows, difference_overflows, word_sum, word_difference, with_overflow, with_other, with_memory, with_number, Compared, Compares, Comparison, condition_of, words_compare, double_overflows, compare as compare_of, sign_of, with_pair}
 use Rattle.cw_unit.specs.Stop.{Running}
 use Rattle.cw_unit.specs.Begun.{Begun}
 use Rattle.cw_unit.specs.Behaviour.{Observation}
@@ -53,15 +53,7 @@ pub record Leads (output : List ℕ) (n : ℕ) (p : Watched) (Target : Watched �
 
 -- a view with registers
 abbrev pub view : (ax cx dx bx sp bp si di : ℕ) → (overflow : Bool) → (cells stack : ℕ → ℕ) → (input : List ℕ) → Told → View
-view ax cx dx bx sp bp si di overflow cells stack input told = record {
-  registers = ax ∷ cx ∷ dx ∷ bx ∷ sp ∷ bp ∷ si ∷ di ∷ [];
-  place = 0;
-  overflow = overflow;
-  cells = cells;
-  stack = stack;
-  input = input;
-  told = told;
-}
+view = view_at 0
 
 -- the same, where the flags are those of two words that were compared
 pub record IsCompared (image : Image) (at : ℕ) (v : View) (a b : ℕ) (p : Watched) : Type 0 where
@@ -158,24 +150,6 @@ module _ (rows : Rows) where
       let here = has i (omega arith) h s in
       moved at i (with_cell k (register v r) v) here s (rows.store image.bytes (placed at v) r k here.there lt e p.processor s.sees)
 
-  pub add : {image : Image} {at : ℕ} {v : View} {p : Watched} {first : Bool} (r q : ℕ) → HasAt first image at (i86.AluRm 0 true true r (rms.Reg q)) → IsAt first image at v p → Is image (at + 2) (with_result r (word_sum (register v r) (register v q)) (sum_overflows (register v r) (register v q)) v) (watched_step p)
-  add {image} {at} {v} {p} r q h s =
-      let i = i86.AluRm 0 true true r (rms.Reg q) in
-      let here = has i (omega arith) h s in
-      moved at i (with_result r (word_sum (register v r) (register v q)) (sum_overflows (register v r) (register v q)) v) here s (rows.add image.bytes (placed at v) r q here.there p.processor s.sees)
-
-  pub subtract : {image : Image} {at : ℕ} {v : View} {p : Watched} {first : Bool} (r q : ℕ) → HasAt first image at (i86.AluRm 5 true true r (rms.Reg q)) → IsAt first image at v p → Is image (at + 2) (with_result r (word_difference (register v r) (register v q)) (difference_overflows (register v r) (register v q)) v) (watched_step p)
-  subtract {image} {at} {v} {p} r q h s =
-      let i = i86.AluRm 5 true true r (rms.Reg q) in
-      let here = has i (omega arith) h s in
-      moved at i (with_result r (word_difference (register v r) (register v q)) (difference_overflows (register v r) (register v q)) v) here s (rows.subtract image.bytes (placed at v) r q here.there p.processor s.sees)
-
-  pub negate : {image : Image} {at : ℕ} {v : View} {p : Watched} {first : Bool} (r : ℕ) → HasAt first image at (i86.Unary 3 true (rms.Reg r)) → IsAt first image at v p → Is image (at + 2) (with_result r (word_difference 0 (register v r)) (difference_overflows 0 (register v r)) v) (watched_step p)
-  negate {image} {at} {v} {p} r h s =
-      let i = i86.Unary 3 true (rms.Reg r) in
-      let here = has i (omega arith) h s in
-      moved at i (with_result r (word_difference 0 (register v r)) (difference_overflows 0 (register v r)) v) here s (rows.negate image.bytes (placed at v) r here.there p.processor s.sees)
-
   pub double : {image : Image} {at : ℕ} {v : View} {p : Watched} {first : Bool} (r : ℕ) → register v r < 32768 → HasAt first image at (i86.Shift 4 true false (rms.Reg r)) → IsAt first image at v p → Is image (at + 2) (with_result r (2 * register v r) (double_overflows (register v r)) v) (watched_step p)
   double {image} {at} {v} {p} r lt h s =
       let i = i86.Shift 4 true false (rms.Reg r) in
@@ -231,18 +205,6 @@ module _ (rows : Rows) where
       let here = has i (omega arith) h s in
       moved at i (with_result r (word_sum (register v r) (v.cells k)) (sum_overflows (register v r) (v.cells k)) v) here s (rows.add_at image.bytes (placed at v) r offset k here.there lt e p.processor s.sees)
 
-  pub subtract_at : {image : Image} {at : ℕ} {v : View} {p : Watched} {first : Bool} (r offset k : ℕ) → k < 32768 → offset ≡ 2 * k → HasAt first image at (with_memory 5 r offset) → IsAt first image at v p → Is image (at + 4) (with_result r (word_difference (register v r) (v.cells k)) (difference_overflows (register v r) (v.cells k)) v) (watched_step p)
-  subtract_at {image} {at} {v} {p} r offset k lt e h s =
-      let i = with_memory 5 r offset in
-      let here = has i (omega arith) h s in
-      moved at i (with_result r (word_difference (register v r) (v.cells k)) (difference_overflows (register v r) (v.cells k)) v) here s (rows.subtract_at image.bytes (placed at v) r offset k here.there lt e p.processor s.sees)
-
-  pub add_number : {image : Image} {at : ℕ} {v : View} {p : Watched} {first : Bool} (w : ℕ) → HasAt first image at (with_number 0 w) → IsAt first image at v p → Is image (at + 3) (with_result 0 (word_sum (register v 0) w) (sum_overflows (register v 0) w) v) (watched_step p)
-  add_number {image} {at} {v} {p} w h s =
-      let i = with_number 0 w in
-      let here = has i (omega arith) h s in
-      moved at i (with_result 0 (word_sum (register v 0) w) (sum_overflows (register v 0) w) v) here s (rows.add_number image.bytes (placed at v) w here.there p.processor s.sees)
-
   pub subtract_number : {image : Image} {at : ℕ} {v : View} {p : Watched} {first : Bool} (w : ℕ) → HasAt first image at (with_number 5 w) → IsAt first image at v p → Is image (at + 3) (with_result 0 (word_difference (register v 0) w) (difference_overflows (register v 0) w) v) (watched_step p)
   subtract_number {image} {at} {v} {p} w h s =
       let i = with_number 5 w in
@@ -269,11 +231,6 @@ module _ (rows : Rows) where
   compare {image} {at} {v} r q h s =
       let here = has (with_other 7 r q) (omega arith) h s in
       compares (with_other 7 r q) here (rows.compare image.bytes (placed at v) r q here.there) s
-
-  pub compare_at : {image : Image} {at : ℕ} {v : View} {p : Watched} {first : Bool} (r offset k : ℕ) → k < 32768 → offset ≡ 2 * k → HasAt first image at (with_memory 7 r offset) → IsAt first image at v p → IsCompared image (at + 4) (with_overflow (difference_overflows (register v r) (v.cells k)) v) (register v r) (v.cells k) (watched_step p)
-  compare_at {image} {at} {v} r offset k lt e h s =
-      let here = has (with_memory 7 r offset) (omega arith) h s in
-      compares (with_memory 7 r offset) here (rows.compare_at image.bytes (placed at v) r offset k here.there lt e) s
 
   pub compare_number : {image : Image} {at : ℕ} {v : View} {p : Watched} {first : Bool} (w : ℕ) → HasAt first image at (with_number 7 w) → IsAt first image at v p → IsCompared image (at + 3) (with_overflow (difference_overflows (register v 0) w) v) (register v 0) w (watched_step p)
   compare_number {image} {at} {v} w h s =

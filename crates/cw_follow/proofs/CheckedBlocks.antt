@@ -21,9 +21,10 @@ use Rattle.cw_tmpl.specs.ReferenceCode.{names_of, order_places, reach_of}
 use Rattle.cw_tmpl.proofs.Sizes.{own_place}
 use Rattle.cw_tmpl.proofs.Reaching.{short_arrives}
 use Rattle.cw_tmpl.proofs.Backward.{CallBefore, call_before, back_close}
+use Rattle.cw_tmpl.proofs.Lengths.{appended_long}
 use Rattle.cw_follow.specs.Placing.{base_of}
 use Rattle.cw_follow.proofs.Watched.{Watched}
-use Rattle.cw_follow.proofs.Standing.{HasPieces, HasPiecesFrom, appended_long, stand_behind, first_of, behind_start, order_place, pieces_at}
+use Rattle.cw_follow.proofs.Standing.{HasPieces, HasPiecesFrom, stand_behind, first_of, behind_start, order_place, pieces_at}
 use Rattle.cw_follow.proofs.Orders.{Checked}
 use Rattle.cw_follow.proofs.InBlocks.{slice_drop}
 use Rattle.cw_follow.proofs.States.{Given, Sound}

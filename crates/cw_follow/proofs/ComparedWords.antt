@@ -91,7 +91,7 @@ module _ (known : Given) where
         branches rows p image g acts short (code_end known s) l.top by (start known s) c m y (signed x) v.operands v.memory v.input v.output
         (let there : at + 3 + size + branch_size short ≡ code_end known s = omega (arith, e, long) in there)
         (let there : (at + 3 + size + branch_size short + goes_by short by) % 65536 ≡ start known s m % 65536 = ap (λ k. (k + branch_size short + goes_by short by) % 65536) (let same : at + 3 + size ≡ at + (frame_size n + 7) = omega (arith, long) in same) ∙ arrives in there)
-        (memory_word known s k within) (rows.words.signed_fits x small) refl (sym (rows.words.forth x small)) l.operands kept i.1.1 u))
+        (memory_word known s k within) (rows.words.signed_fits x small) refl (sym (rows.words.numbers.words.forth x small)) l.operands kept i.1.1 u))
 
     -- a segment's body has no frame, and a word that is not in the data area is none of a frame
     compares_word : (short : Bool) (n x by : ℕ) (c : Comparator) (m : ℕ) → x < 65536

@@ -13,6 +13,7 @@ use Rattle.cw_i86.specs.MachineRun.{End}
 use Rattle.cw_i86.specs.MachineRun as run
 use Rattle.cw_image.specs.Begun.{lines_at, beginning, data_words}
 use Rattle.cw_run86.specs.Processor.{Processor, processor_machine, processor_step, observed}
+use Rattle.cw_run86.proofs.Tests.{left_of}
 use Rattle.cw_unit.specs.Begun.{Begun}
 use Rattle.cw_unit.specs.Behaviour.{Observation, is_running}
 use Rattle.cw_unit.specs.Stop.{Running, Ended, Stopped, Stuck}
@@ -43,7 +44,7 @@ use Rattle.cw_tmpl.proofs.Sizes.{size_everywhere, own_place, jump_arrives}
 use Rattle.cw_follow.specs.Passing.{at_work, passes, size_at, NotBehindStart}
 use Rattle.cw_follow.specs.Placing.{StandsBehind, base_of}
 use Rattle.cw_follow.specs.Showing.{shown_as}
-use Rattle.cw_follow.proofs.Watched.{Watched, watched_machine, over, fresh, unwatched, still_fresh, fresh_behind}
+use Rattle.cw_follow.proofs.Watched.{Watched, watched_machine, over, fresh, unwatched, still_fresh, fresh_behind, nothing_begins}
 use Rattle.cw_follow.proofs.Passed.{listed_place, notes_one}
 use Rattle.cw_follow.proofs.Standing.{may_begin, first_of, is_start, behind_start, pieces_at, order_place, HasPiecesFrom, HasPieces}
 use Rattle.cw_follow.proofs.Chains.{Leads, at_work as works, shows}
@@ -120,10 +121,6 @@ path_notes P B notes n t u some (next a st we p) = a.1
 rests_over : (e : End) (output : List ℕ) (begun : List Begun) → is_running (shown_as (record { output = output; end = e })) ≡ false → at_work e begun ≡ []
 rests_over run.Running output begun off = absurd (true≢false off)
 rests_over _ output begun off = refl
-
-resting : (e : End) → at_work e [] ≡ []
-resting run.Running = refl
-resting _ = refl
 
 -- ---- places in a block
 
@@ -371,7 +368,7 @@ module _ (known : Given) where
   ]
 
   none_noted : (q : Processor) → lines_at image.places q.state.instruction_pointer ≡ [] → notes q ≡ []
-  none_noted q none = ap (λ ls. at_work q.end (map (λ x. (x.0, x.1, data_words 0 p.limits.area q.state)) ls)) none ∙ resting q.end
+  none_noted q none = ap (λ ls. at_work q.end (map (λ x. (x.0, x.1, data_words 0 p.limits.area q.state)) ls)) none ∙ nothing_begins q.end
 
   module _ {q : Processor} {g place : ℕ} {loaded : Bool} {acts : List OrderActivation} {w : Words} (m : Sound p image g place loaded acts w (watch q)) where
     at_from : (x : Order) → slice_get m.orders.list m.from ≡ Some x → 0 < size_at m.orders m.from x → (ls : List (ℕ × ℕ)) → lines_at image.places (base_of p g + slice_index (order_places m.orders) m.from) ≡ ls
@@ -469,9 +466,6 @@ module _ (known : Given) where
     abbrev here : OrderState
     here = at g place loaded acts w Running
 
-    abbrev owed : List Begun
-    owed = owed_by (slice_get m.orders.list m.from) q
-
     -- behind a Start its statement is owed
     starts_here : (n : ℕ) → slice_get m.orders.list place ≡ Some (order.Start n) → Owing (owed_by (slice_get m.orders.list m.from) q) (at g place loaded acts w Running) q
     starts_here n e =
@@ -531,15 +525,11 @@ module _ (known : Given) where
           let before = shown S in
           let behind = shown (step p S) in
           let silent = arrives_silent (step p S) reached arrives in
-          let may : may_begin first ≡ true = both_may (may_begin first) (begins_block known m) is in
+          let may : may_begin first ≡ true = left_of (may_begin first) (begins_block known m) is in
           let notes_it : passes image.places p.limits.area q ≡ owed_by (slice_get m.orders.list m.from) q = sym (ap (λ y. owed_by y q) listed ∙ ap (λ c. if c then passes image.places p.limits.area q else []) may) in
           let there = arrives_owing (step p S) reached.processor (subst (Arrives known (step p S)) (fresh_behind (Quiet (before, []) (behind, [])) spent (over true (watch q)) reached some path silent) arrives) free_step in
           block_goes (order_machine p) (starts p) MatchesOwing (left p) image.places p.limits.area (owed_by (slice_get m.orders.list m.from) q) S q reached spent none_here notes_it (inr (shows may)) some within silent
           (weaken (Quiet (before, []) (behind, [])) (Unnoted (Quiet before behind)) watched_machine spent (over true (watch q)) reached (quiet_parts before behind) path) there
-        where
-          both_may : (a b : Bool) → (a && b) ≡ true → a ≡ true
-          both_may true b is = refl
-          both_may false b is = is
 
       carried : (first : Order) → slice_get m.orders.list m.from ≡ Some first → (may_begin first ≡ true → shown_as (observed (processor_step q)) ≡ shown (at g place loaded acts w Running))
           → FollowFrom known (over (first_of first (begins_block known m)) (watch q)) (at g place loaded acts w Running) (watch q) → Owing (owed_by (slice_get m.orders.list m.from) q) (at g place loaded acts w Running) q
@@ -631,9 +621,7 @@ module _ (known : Given) where
 
       starts_over : (s : OrderState) → is_running (shown s) ≡ false → starts p s ≡ []
       starts_over (at g place loaded acts w Running) off = absurd (true≢false off)
-      starts_over (at g place loaded acts w Ended) off = refl
-      starts_over (at g place loaded acts w (Stopped kind s l)) off = refl
-      starts_over (at g place loaded acts w Stuck) off = refl
+      starts_over _ off = refl
 
   follows : (es : List Begun) (s : OrderState) (q : Processor) → MatchesOwing es s q → is_running (shown s) ≡ true → Owing es s q
   follows es (at g place loaded acts w Running) q (inl m) on = subst (λ es. Owing es (at g place loaded acts w Running) q) (sym m.1) (follow_place m.0 m.2 (slice_get m.0.orders.list place) refl)

@@ -16,10 +16,10 @@ use Rattle.cw_unit.specs.Operation.{Divide, divide, perform}
 use Rattle.cw_order.specs.FittingWords.{OperandFits}
 use Rattle.cw_tmpl.specs.Library.{stop_place, quotient_up_place, quotient_down_place}
 use Rattle.cw_routines.specs.Results.{Quiet, InLibrary, WordRoutine}
+use Rattle.cw_routines.proofs.Facts.{unsigned_pos}
+use Rattle.cw_routines.proofs.Numbers.{fits_true}
 use Rattle.cw_follow.proofs.Chains.{Is, Leads, view, seen, divided, last}
 use Rattle.cw_follow.proofs.Straight.{Move, Pop, Number, Sign, straight}
-use Rattle.cw_follow.proofs.Facts.{fits_true}
-use Rattle.cw_follow.proofs.Numbers.{unsigned_pos}
 use Rattle.cw_follow.proofs.Stacks.{level, record_of}
 use Rattle.cw_follow.proofs.Orders.{Checked, later, further, further_on}
 use Rattle.cw_order.specs.OrderState.{operand_words}
@@ -30,7 +30,7 @@ use Rattle.cw_follow.proofs.Standing.{Has, HasAll, HasWord}
 module _ (c : Setting) (memory : List ℤ) (input output : List ℕ) where
   -- the word of a number other than 0
   not_zero : (y : ℤ) → FitsWord y → y ≢ pos 0 → unsigned y ≢ 0
-  not_zero y fy ne e = ne (sym (c.rows.words.back y fy) ∙ ap signed e)
+  not_zero y fy ne e = ne (sym (c.rows.words.numbers.words.back y fy) ∙ ap signed e)
 
   divided_by : (s x y : ℤ) (w : Words) → y ≢ pos 0 → divide s x y w ≡ put_value (scaled_quotient x y s) w
   divided_by s x (pos zero) w ne = absurd (ne refl)

@@ -38,6 +38,7 @@ use Rattle.cw_tmpl.specs.Sizes.{element_size}
 use Rattle.cw_tmpl.specs.ReferenceCode.{names_of, reach_of}
 use Rattle.cw_tmpl.proofs.Shapes.{TestNear, IsNear}
 use Rattle.cw_tmpl.proofs.Sizes.{element_long_as, size_to, own_place, pieces_by}
+use Rattle.cw_tmpl.proofs.Lengths.{appended_long}
 use Rattle.cw_follow.specs.Placing.{base_of}
 use Rattle.std.specs.List.{All}
 use Rattle.std.proofs.lemmas.List.Elements.{All-head}
@@ -46,7 +47,7 @@ use Rattle.cw_follow.proofs.Watched.{Watched, watched_step}
 use Rattle.cw_follow.proofs.Chains.{Is, view, last, move as moved_to}
 use Rattle.cw_run86.specs.Views.{put_word}
 use Rattle.cw_follow.proofs.Acting.{act}
-use Rattle.cw_follow.proofs.Standing.{HasPieces, order_place, stand_both, appended_long, Has, HasPiecesFrom, stand_behind, first_of}
+use Rattle.cw_follow.proofs.Standing.{HasPieces, order_place, stand_both, Has, HasPiecesFrom, stand_behind, first_of}
 use Rattle.cw_follow.proofs.Stacks.{level, record_of, StackIs, OperandsAre}
 use Rattle.cw_follow.proofs.Routines.{leads_on, leads_then}
 use Rattle.cw_follow.proofs.Operating.{word_named}
@@ -472,12 +473,7 @@ module _ (known : Given) where
           where
             compared : drop s.from s.orders.list ≡ order.Save ∷ formed_list e e.test (order.Load ∷ order.JumpIf c m ∷ rest) → block_at 0 (drop s.from s.orders.list) ≡ block.Operate (simple.Element e) (uses.Compare c m) → Follow known (at_order g place loaded acts w Running) q
             compared l b = element_compares e c m rest z is_done l b (ap suc (fetched_many e e.index e.test))
-        ends (uses.Add line) same is_done = computes tt same is_done
-        ends (uses.Subtract line) same is_done = computes tt same is_done
-        ends (uses.Multiply line) same is_done = computes tt same is_done
-        ends uses.Mask same is_done = computes tt same is_done
-        ends uses.Union same is_done = computes tt same is_done
-        ends uses.Differ same is_done = computes tt same is_done
+        ends _ same is_done = computes tt same is_done
 
         cases : (k : ℕ) → s.done ≡ k → Follow known (at_order g place loaded acts w Running) q
         cases k is_done = elim (cases_lt k (suc (suc (suc (homes e.test))))) as (λ _. Follow known (at_order g place loaded acts w Running) q) [

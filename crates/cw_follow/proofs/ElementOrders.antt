@@ -15,8 +15,6 @@ use Rattle.cw_order.specs.OrderChanges.{from_base}
 use Rattle.cw_order.specs.Loading.{loaded_after}
 use Rattle.cw_order.specs.OrderMachine.{act as carry_action, after, carry_with, step}
 use Rattle.cw_order.specs.OrderState.{OrderActivation, at as at_order}
-use Rattle.cw_order.specs.declared.order.Place.{Place}
-use Rattle.cw_order.specs.declared.order.Place.TheVariants as cell
 use Rattle.cw_tmpl.specs.declared.blocks.Element.{Element}
 use Rattle.cw_tmpl.specs.declared.blocks.Test.{Test}
 use Rattle.cw_tmpl.specs.declared.blocks.Test.TheVariants as test
@@ -34,10 +32,10 @@ use Rattle.cw_follow.proofs.Orders.{Leading, Does, later}
 use Rattle.cw_follow.proofs.States.{Given, Sound}
 use Rattle.cw_follow.proofs.Steps.{order_here, weight_is, line_fits, leads_to, stuck_here, step_is, silent_in, start_place, did_as, FollowFrom, begins_block, begun_block}
 use Rattle.cw_follow.proofs.BlockOrders.{room_in, inner_follows}
-use Rattle.cw_follow.proofs.InBlocks.{chain, Puts, puts_word, silently, silently_next}
+use Rattle.cw_follow.proofs.InBlocks.{chain, puts_word, silently, silently_next}
 use Rattle.cw_follow.proofs.Indexed.{element_steps}
 use Rattle.cw_follow.proofs.Operands.{allowed}
-use Rattle.cw_follow.proofs.ElementTests.{address_order, formed_list, homes, IndexRead, ZeroWord, BoundsWords, KnownTest, BeforeForms, before_forms, address_in, formed_as, IndexDone, index_done, is_between, BoundsDone, bounds_done, number_between, formed_so, Before, AtAddress, HasRoom, room_above, AddressedAt, addressed, address_stops, index_addressed, bounds_stop, AtAddressFrom}
+use Rattle.cw_follow.proofs.ElementTests.{address_order, formed_list, homes, IndexRead, ZeroWord, BoundsWords, KnownTest, BeforeForms, before_forms, address_in, formed_as, IndexDone, index_done, is_between, BoundsDone, bounds_done, number_between, formed_so, Before, AtAddress, HasRoom, room_above, AddressedAt, addressed, address_stops, index_addressed, bounds_stop, AtAddressFrom, puts_address}
 
 module _ (known : Given) where
   open known use {rows, p, image, all, coded, few, low}
@@ -202,10 +200,6 @@ module _ (known : Given) where
         absurd (cc)) is more
 
     -- ---- the orders before the last one
-
-    puts_address : (x : Place) → Puts (address_order x)
-    puts_address (cell.Word f n) = tt
-    puts_address (cell.Frame n) = tt
 
     -- an operand on the stack at the beginning of the block
     pub start_room : HasRoom known s s.landed.top

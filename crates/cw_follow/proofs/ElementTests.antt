@@ -26,13 +26,12 @@ use Rattle.cw_tmpl.specs.declared.pieces.Coded.TheVariants as pieces
 use Rattle.cw_tmpl.specs.Blocks.{address_orders, bounds_orders, is_within, element_orders, left_at}
 use Rattle.cw_tmpl.specs.Library.{address_entry, bounds_entry}
 use Rattle.cw_tmpl.specs.Mnemonics.{load, operate, field, si as si_register, di, compare, double, jump_if_below, operate_number}
-use Rattle.cw_tmpl.specs.Pieces.{Filling}
 use Rattle.cw_tmpl.specs.Templates.{frame_size, call_stop, index_added, index_loaded, from_lower, indexes_between, address_tested, index_tested}
 use Rattle.cw_tmpl.specs.ShortForms.{Forms}
 use Rattle.cw_tmpl.specs.Sizes.{index_size, lower_size}
 use Rattle.cw_tmpl.proofs.Shapes.{TestNear}
 use Rattle.cw_tmpl.proofs.Lengths.{field_loaded, field_operated}
-use Rattle.cw_tmpl.proofs.Sizes.{index_long, size_to}
+use Rattle.cw_tmpl.proofs.Sizes.{index_long, lower_long, size_to}
 use Rattle.cw_i86.specs.Encoding.{bytes_of}
 use Rattle.cw_follow.specs.Placing.{base_of}
 use Rattle.cw_follow.proofs.Watched.{Watched}
@@ -42,21 +41,24 @@ use Rattle.cw_follow.proofs.Stacks.{level, record_of, OperandsAre, top_is}
 use Rattle.cw_follow.proofs.Orders.{Landed, later, through_word}
 use Rattle.cw_follow.proofs.States.{Given, Sound}
 use Rattle.cw_follow.proofs.Steps.{setting, calls}
-use Rattle.cw_follow.proofs.InBlocks.{slice_drop, chain, loaded_silently, puts_word, silently}
+use Rattle.cw_follow.proofs.InBlocks.{slice_drop, chain, loaded_silently, puts_word, silently, Puts}
 use Rattle.cw_follow.proofs.FrameBlocks.{frame_word_inside}
-use Rattle.cw_follow.proofs.Indexed.{below_of, formed_by_one, BetweenBounds, from_word, between_bounds, past_bounds, formed_between, Addressed, Summed, index_steps, loaded_steps, loaded_size, lower_steps, few_index, few_loaded, few_lower, loaded_long, lower_long, loaded_index, sum_by_word, sum_by_frame, test_passes, test_stops, index_by_word, index_by_frame, less_lower, index_passes, index_stops}
+use Rattle.cw_follow.proofs.Indexed.{below_of, formed_by_one, BetweenBounds, from_word, between_bounds, past_bounds, formed_between, Addressed, Summed, index_steps, loaded_steps, loaded_size, lower_steps, few_index, few_loaded, few_lower, loaded_long, loaded_index, sum_by_word, sum_by_frame, test_passes, test_stops, index_by_word, index_by_frame, less_lower, index_passes, index_stops}
 use Rattle.cw_follow.proofs.Operands.{allowed, DoesHere}
 use Rattle.cw_follow.proofs.Routines.{leads_then}
 
 chain_chain : (x : Outcome) (f g : Words → Outcome) → chain (chain x f) g ≡ chain x (λ v. chain (f v) g)
 chain_chain (Changed v) f g = refl
-chain_chain (Refused kind) f g = refl
-chain_chain Impossible f g = refl
+chain_chain _ f g = refl
 
 -- the order that puts the address of a place
 abbrev pub address_order : Place → Order
 address_order (cell.Word f n) = order.Home f n
 address_order (cell.Frame n) = order.FrameHome n
+
+pub puts_address : (x : Place) → Puts (address_order x)
+puts_address (cell.Word f n) = tt
+puts_address (cell.Frame n) = tt
 
 pub address_one : (x : Place) → address_orders x ≡ address_order x ∷ []
 address_one (cell.Word f n) = refl
@@ -426,9 +428,6 @@ module _ (known : Given) where
         i : ℤ
         i = word_at s.before.memory r.at
 
-        value : Filling
-        value = (all.stands g s.orders s.unit).value
-
         half : r.at < 32768
         half = let within = r.within in omega arith
 
@@ -532,7 +531,7 @@ module _ (known : Given) where
     numbered l e rest r at top ax cx q' a h h' =
         leads_then (indexed l e (from_lower e.lower ++ rest) r at top ax cx q' a h)
         (λ t u.
-        less_lower (setting known s) s.before.memory s.before.input s.before.output (all.stands g s.orders s.unit).value rest top (unsigned (word_at s.before.memory r.at)) (rows.words.unsigned_fits (word_at s.before.memory r.at) (index_fits e r)) l.kept u.is e.lower h')
+        less_lower (setting known s) s.before.memory s.before.input s.before.output (all.stands g s.orders s.unit).value rest top (unsigned (word_at s.before.memory r.at)) (rows.words.numbers.words.unsigned_fits (word_at s.before.memory r.at) (index_fits e r)) l.kept u.is e.lower h')
 
     -- the test behind it
     abbrev compared_index : Element → (upper : ℤ) → (line : ℕ) → List Coded

@@ -25,6 +25,8 @@ use Rattle.cw_tmpl.specs.Library.{stop_place, address_entry}
 use Rattle.cw_tmpl.specs.Mnemonics.{ax, cx, move, add, multiply, set_word}
 use Rattle.cw_tmpl.specs.Pieces.{Filling, blanks}
 use Rattle.cw_tmpl.specs.Templates.{unless_overflow, times_if, times, in_area, index_by, less_bound, plus_word, times_width, base_kept, based, element, in_row, element_of_two, top_from_lower, times_entry, element_inside, entry}
+use Rattle.cw_routines.proofs.Facts.{fits_tested, unsigned_pos}
+use Rattle.cw_routines.proofs.Numbers.{fits_true}
 use Rattle.cw_follow.proofs.Watched.{Watched}
 use Rattle.cw_follow.proofs.Standing.{HasPieces}
 use Rattle.cw_follow.proofs.Chains.{Is, view, seen, done}
@@ -34,8 +36,8 @@ use Rattle.cw_follow.proofs.Stacks.{level, record_of, StackIs, top_is}
 use Rattle.cw_follow.proofs.Orders.{Kept, later, further}
 use Rattle.cw_follow.proofs.Operands.{Setting, words, allowed, Two, LandedWith, DoesHere, guards, result, taking_two, taking_three, accessing_three}
 use Rattle.cw_follow.proofs.Called.{Then}
-use Rattle.cw_follow.proofs.Numbers.{sum_overflows_is, difference_overflows_is, sum_is, difference_is, fits_tested, unsigned_pos}
-use Rattle.cw_follow.proofs.Facts.{fits_true, not_below}
+use Rattle.cw_follow.proofs.Numbers.{sum_overflows_is, difference_overflows_is, sum_is, difference_is}
+use Rattle.cw_follow.proofs.Facts.{not_below}
 use Rattle.cw_follow.proofs.Addresses.{times_is, times_code, test_place, times_tested, in_area_tested}
 
 same_fitting : (b : Bool) (o : Outcome) → allowed b AddressRange o ≡ fitting b o

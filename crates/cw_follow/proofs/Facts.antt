@@ -33,10 +33,6 @@ not_below a b h = elim (cases_lt a b) as (λ _. b ≤ a) [
 
 -- ---- numbers that fit
 
-pub fits_true : (z : ℤ) → FitsWord z → fits_word z ≡ true
-fits_true (pos n) h = lt-ltb n 32768 (omega (arith, h.sfits))
-fits_true (negsuc n) h = lt-ltb n 32768 (omega (arith, h.sfits))
-
 pub low_is : (z : ℤ) → FitsWord z → cast_unsigned w32 z % 65536 ≡ unsigned z
 low_is (pos n) h = omega (arith, h.sfits)
 low_is (negsuc n) h = omega (arith, h.sfits)

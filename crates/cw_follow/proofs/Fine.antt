@@ -1,14 +1,13 @@
 -- The pieces of each template are instructions with the numbers of their rows, and stand where their bytes do.
 use Rattle.std.proofs.Common.{◌≡◌, ◌≢◌, ℕ, zero, suc, ◌+◌, ◌-◌, ◌/◌, ◌%◌, ◌<◌, ◌≤◌, List, [], ◌∷◌, ◌++◌, length, drop, get_or, sym, refl, ap, ◌∙◌, subst, arith, lit<, append_assoc, length-append, Option, Some, None, Bool, true, false, ℤ, pos, negsuc, ◌*◌, ◌^◌, pow_mono}
 use Rattle.std.specs.Prelude.{slice_get, slice_index, slice_index_or, nat_lt, nat_le, ◌==◌, if◌then◌else◌, ◌-ℤ◌}
-use Rattle.std.proofs.lemmas.List.{get_or_append_left, get_or-append-add}
-use Rattle.cw_i86.specs.Encoding.{IsRm, bytes_of, word, IsInstr}
+use Rattle.cw_i86.specs.Encoding.{IsRm, word, IsInstr}
 use Rattle.cw_unit.specs.declared.unit.Goal.{Goal}
 use Rattle.cw_unit.specs.declared.unit.Goal.TheVariants as goal
 use Rattle.cw_unit.specs.declared.unit.Def.{Def}
 use Rattle.cw_unit.specs.declared.unit.Def.TheVariants as def
 use Rattle.cw_i86.specs.declared.instr.Instr.{Instr}
-use Rattle.cw_run86.specs.Views.{Has, with_memory, with_number, Greater, condition_of}
+use Rattle.cw_run86.specs.Views.{with_memory, with_number, Greater, condition_of}
 use Rattle.cw_order.specs.declared.order.Comparator.{Comparator}
 use Rattle.cw_order.specs.declared.order.Comparator.TheVariants as comparator
 use Rattle.cw_order.specs.declared.order.Order.{Order}
@@ -57,21 +56,10 @@ use Rattle.cw_i86.specs.declared.instr.Imm.TheVariants as imm
 use Rattle.cw_i86.specs.declared.instr.Place.TheVariants as places
 use Rattle.cw_word.specs.FixedPoint.{FitsWord}
 use Rattle.cw_word.specs.Word.{unsigned}
+use Rattle.cw_routines.proofs.Valid.{byte_there, one_there}
 use Rattle.cw_word.specs.BitField.{field_mask}
 use Rattle.cw_order.specs.HasCode.{HasCode}
 use Rattle.cw_order.specs.OrderLines.{line_of}
-
--- ---- instructions one after another
-
-byte_there : (before bytes behind : List ℕ) (k : ℕ) → k < length bytes → get_or (before ++ (bytes ++ behind)) (length before + k) 0 ≡ get_or bytes k 0
-byte_there before bytes behind k lt = get_or-append-add before (bytes ++ behind) k 0 ∙ get_or_append_left bytes behind 0 k lt
-
-one_there : (image before behind : List ℕ) (place : ℕ) (i : Instr) → IsInstr i → place ≡ length before → image ≡ before ++ (bytes_of i ++ behind) → Has image place i
-one_there image before behind place i instr at e = record {
-  is_instr = instr;
-  within = omega (arith, ap length e, length-append before (bytes_of i ++ behind), length-append (bytes_of i) behind);
-  bytes = λ k lt. ap (λ l. get_or l (place + k) 0) e ∙ ap (λ n. get_or (before ++ (bytes_of i ++ behind)) (n + k) 0) at ∙ byte_there before (bytes_of i) behind k lt;
-}
 
 -- ---- pieces with their words filled in
 
@@ -180,11 +168,7 @@ distance_small from to = omega arith
 
 condition_small : (c : Comparator) → condition_of (opposite_of c) < 16
 condition_small comparator.Less = lit< tt
-condition_small comparator.LessEqual = lit< tt
-condition_small comparator.Equal = lit< tt
-condition_small comparator.GreaterEqual = lit< tt
-condition_small comparator.Greater = lit< tt
-condition_small comparator.Unequal = lit< tt
+condition_small _ = lit< tt
 
 definition_small : (p : OrderProgram) (d : Option (ℕ × Def)) → definition_place p d < 65536
 definition_small p (Some (g, def.Label l)) = start_small p g (slice_get p.units g) (λ o. label_start (names_of o) l)
@@ -575,9 +559,7 @@ module _ (p : OrderProgram) (segment next : ℕ) (value : Filling) (fills : Fill
   template_fine names place (order.GoSwitchCommon d line) fits = ((dx_register, fits.2), ((lit< tt, lit< tt), (ahead_filled d, tt)))
   template_fine names place (order.GoSwitchSpecial k line) fits =
       ((dx_register, fits.2), (argument_taken_fine 6 (k + 1) (lit< tt) (few_next k fits.1), (argument_taken_fine 3 k is_bx (few_more k fits.1), (is_bx, tt))))
-  template_fine names place order.Drop fits = tt
-  template_fine names place order.Mark fits = tt
-  template_fine names place (order.Start n) fits = tt
+  template_fine names place _ fits = tt
 
   -- with its jump short or near, and its check whole or a jump back
   checked_by_fine : (short : Bool) (line place to : ℕ) → line < 65536 → AllFine value (checked_by short line place to)

@@ -106,7 +106,7 @@ tested_fits e (test.Bounds upper line) more rest each =
     let h = each (length (address_orders e.index) + 1) (order.InBounds e.lower upper line) (compares_there e.index order.Load (order.InBounds e.lower upper line) behind more rest) in
     (h.1.0, h.2)
 
-count_line : (down : Bool) (line : ℕ) → line_of (count_order down line) ≡ line
+pub count_line : (down : Bool) (line : ℕ) → line_of (count_order down line) ≡ line
 count_line true line = refl
 count_line false line = refl
 
@@ -116,14 +116,12 @@ form_fits lower (form.Entry width word span line) h = let most = h.1.0 in omega 
 
 -- of an element of two dimensions: the orders that compare the second index and make the address
 columns_there : (r : Row) (c : Column) (a b : Order) (rest : List Order) → slice_get ((a ∷ b ∷ (column_orders c ++ orders_in_row r)) ++ row_order r ∷ rest) (length (column_orders c) + 2) ≡ Some (order.InBounds r.columns.lower r.columns.upper r.columns.line)
-columns_there r (column.Number w) a b rest = refl
 columns_there r (column.Contents (cell.Word f n)) a b rest = refl
-columns_there r (column.Contents (cell.Frame n)) a b rest = refl
+columns_there r _ a b rest = refl
 
 row_there : (r : Row) (c : Column) (a b : Order) (rest : List Order) → slice_get ((a ∷ b ∷ (column_orders c ++ orders_in_row r)) ++ row_order r ∷ rest) (length (column_orders c) + 5) ≡ Some (row_order r)
-row_there r (column.Number w) a b rest = refl
 row_there r (column.Contents (cell.Word f n)) a b rest = refl
-row_there r (column.Contents (cell.Frame n)) a b rest = refl
+row_there r _ a b rest = refl
 
 fits_first : (o : Order) (os : List Order) → AllFit (o ∷ os) → BlockFits (block_at 0 (o ∷ os)) o
 fits_first o os fits = cases (block_at 0 (o ∷ os)) (shape (o ∷ os))

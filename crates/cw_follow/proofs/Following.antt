@@ -51,7 +51,7 @@ small_words (w ∷ ws) (suc k) h = small_words ws k (All-tail (λ x. x < 65536) 
 
 module _ (laws : WordLaws) (p : OrderProgram) (words : List ℕ) (memory : List ℤ) (begins : BeginsWith p memory words) where
   cells_begin : (k : ℕ) → k < p.limits.area → slice_index words k ≡ unsigned (word_at memory k)
-  cells_begin k lt = sym (laws.forth (slice_index words k) (small_words words k begins.are_words)) ∙ ap unsigned (sym (begins.same k lt))
+  cells_begin k lt = sym (laws.numbers.words.forth (slice_index words k) (small_words words k begins.are_words)) ∙ ap unsigned (sym (begins.same k lt))
 
   memory_fits : All FitsWord memory
   memory_fits k d lt =

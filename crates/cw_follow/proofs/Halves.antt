@@ -77,7 +77,7 @@ back (negsuc a) k = negative_back a k (suc a * 2 ^ k) refl
 -- so a product with a power of two that is taken down further is a shift
 pub halved_is : WordLaws → (x : ℤ) (j down places : ℕ) → suc down ≡ j + places → scaled_product x (pos (2 ^ j)) (negsuc down) ≡ floor_div x (2 ^ places)
 halved_is laws x j down places e =
-    laws.scaled_down (x *ℤ pos (2 ^ j)) down ∙ ap (floor_div (x *ℤ pos (2 ^ j))) (ap (λ n. 2 ^ n) e ∙ pow-add 2 j places)
+    laws.numbers.scaled_down (x *ℤ pos (2 ^ j)) down ∙ ap (floor_div (x *ℤ pos (2 ^ j))) (ap (λ n. 2 ^ n) e ∙ pow-add 2 j places)
     ∙ sym (laws.again (x *ℤ pos (2 ^ j)) (2 ^ j) (2 ^ places)) ∙ ap (λ z. floor_div z (2 ^ places)) (back x j)
 
 -- ---- parts

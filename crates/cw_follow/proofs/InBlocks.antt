@@ -136,12 +136,7 @@ form_stands lower (form.Entry width word span line) = tt
 
 use_stands : (u : Use) → StandsBehind (order_of u)
 use_stands (uses.Add line) = tt
-use_stands (uses.Subtract line) = tt
-use_stands (uses.Multiply line) = tt
-use_stands uses.Mask = tt
-use_stands uses.Union = tt
-use_stands uses.Differ = tt
-use_stands (uses.Compare c m) = tt
+use_stands _ = tt
 
 ends_with : (xs : List Order) (last : Order) (rest : List Order) → Each StandsBehind xs → StandsBehind last → AllEnd (suc (length xs)) (xs ++ last ∷ rest)
 ends_with [] last rest f h = (h, tt)
@@ -232,8 +227,7 @@ module _ (p : OrderProgram) (g : ℕ) (acts : List OrderActivation) where
 
   one_more : (x : Outcome) → chain x Changed ≡ x
   one_more (Changed v) = refl
-  one_more (Refused kind) = refl
-  one_more Impossible = refl
+  one_more _ = refl
 
   pub silently_next : (n : ℕ) (os : List Order) (o : Order) (w : Words) → slice_get os n ≡ Some o → silently (suc n) os w ≡ chain (silently n os w) (puts_word o)
   silently_next n [] o w e = absurd (cc)

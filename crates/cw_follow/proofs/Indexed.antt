@@ -25,9 +25,10 @@ use Rattle.cw_tmpl.specs.Library.{stop_place, address_entry, bounds_entry}
 use Rattle.cw_tmpl.specs.Mnemonics.{load, operate, bx as bx_register, si as si_register, di, field, memory as memory_at, compare, double, jump_if_below, operate_number}
 use Rattle.cw_tmpl.specs.Pieces.{Filling, blanks}
 use Rattle.cw_tmpl.specs.Templates.{frame_size, call_stop, index_added, index_loaded, indexes_between, from_lower}
+use Rattle.cw_tmpl.proofs.Sizes.{loaded_long as index_loaded_long}
 use Rattle.cw_tmpl.specs.Sizes.{index_size, lower_size}
 use Rattle.cw_order.specs.OrderState.{OrderActivation}
-use Rattle.cw_tmpl.proofs.Lengths.{first_long, field_loaded, field_operated}
+use Rattle.cw_tmpl.proofs.Lengths.{field_loaded, field_operated}
 use Rattle.cw_i86.specs.Encoding.{bytes_of}
 use Rattle.cw_follow.proofs.Fields.{doubled_small, field_denotes}
 use Rattle.cw_follow.proofs.Watched.{Watched, watched_step}
@@ -45,6 +46,7 @@ use Rattle.cw_follow.proofs.Orders.{Kept, further}
 use Rattle.cw_follow.proofs.Operands.{Setting, allowed, DoesHere, calls_stop}
 use Rattle.cw_follow.proofs.Facts.{not_below}
 use Rattle.cw_follow.proofs.Routines.{leads_then}
+use Rattle.cw_follow.proofs.Naming.{both_true}
 
 -- ---- arithmetic
 
@@ -182,15 +184,9 @@ pub record BetweenBounds (lower i : ℤ) (last : ℕ) : Type 0 where
   pub within : number ≤ last
   pub is : from_word lower i ≡ number
 
--- two tests, both of which hold
-pub both_hold : (b c : Bool) → (b && c) ≡ true → (b ≡ true) × (c ≡ true)
-both_hold true true e = (refl, refl)
-both_hold true false e = absurd (cc)
-both_hold false c e = absurd (cc)
-
 pub between_bounds : (lower upper i : ℤ) (last : ℕ) → FitsWord lower → FitsWord upper → FitsWord i → upper -ℤ lower ≡ pos last → (int_le lower i && int_le i upper) ≡ true → BetweenBounds lower i last
 between_bounds lower upper i last fl fu fi e holds =
-    let both = both_hold (int_le lower i) (int_le i upper) holds in
+    let both = both_true (int_le lower i) (int_le i upper) holds in
     let below = rank_true lower i fl fi both.0 in
     let above = rank_true i upper fi fu both.1 in
     let ends = rank_differs lower upper last fl fu e in
@@ -217,7 +213,7 @@ past_bounds lower upper i last fl fu fi e fails = cases (int_le lower i) (int_le
 pub below_count : (upper x : ℤ) → FitsWord upper → FitsWord x → (int_le (pos 0) x && int_le x upper) ≡ true → unsigned x < indexes_between upper
 below_count (pos n) (pos i) fu fx is = let le : i ≤ n = grind (arith, nat_tests) in omega (arith, fu.sfits, fx.sfits)
 below_count (pos n) (negsuc i) fu fx is = absurd (cc)
-below_count (negsuc n) (pos i) fu fx is = absurd (false≢true (both_hold (int_le (pos 0) (pos i)) (int_le (pos i) (negsuc n)) is).1)
+below_count (negsuc n) (pos i) fu fx is = absurd (false≢true (both_true (int_le (pos 0) (pos i)) (int_le (pos i) (negsuc n)) is).1)
 below_count (negsuc n) (negsuc i) fu fx is = absurd (cc)
 
 -- and any other is not
@@ -266,8 +262,7 @@ element_steps e (test.Bounds upper line) = loaded_steps e.index + lower_steps e.
 
 pub few_lower : (lower : ℤ) → lower_steps lower ≤ 1
 few_lower (pos zero) = lit≤ tt
-few_lower (pos (suc n)) = lit≤ tt
-few_lower (negsuc n) = lit≤ tt
+few_lower _ = lit≤ tt
 
 pub few_loaded : (x : Place) → loaded_steps x ≤ 2
 few_loaded (cell.Word f n) = lit≤ tt
@@ -281,18 +276,12 @@ pub few_element : (e : Element) (t : Test) → element_steps e t ≤ 7
 few_element e (test.Address origin) = omega (arith, few_index e.index)
 few_element e (test.Bounds upper line) = omega (arith, few_loaded e.index, few_lower e.lower)
 
-pub loaded_long : (x : Place) → length (blanks (index_loaded x)) ≡ loaded_size x
-loaded_long (cell.Word f n) = refl
-loaded_long (cell.Frame n) = omega (arith, first_long (load si_register (field (2 * n % 65536))) [], field_loaded si_register (2 * n % 65536))
-
-pub lower_long : (lower : ℤ) → length (blanks (from_lower lower)) ≡ lower_size lower
-lower_long (pos zero) = refl
-lower_long (pos (suc n)) = refl
-lower_long (negsuc n) = refl
-
 pub loaded_index : (x : Place) → loaded_size x + 3 ≡ index_size x
 loaded_index (cell.Word f n) = refl
 loaded_index (cell.Frame n) = omega arith
+
+pub loaded_long : (x : Place) → length (blanks (index_loaded x)) ≡ loaded_size x
+loaded_long x = omega (arith, index_loaded_long x, loaded_index x)
 
 -- ---- the code
 

@@ -12,14 +12,14 @@ use Rattle.cw_order.specs.OrderState.{operand_words}
 use Rattle.cw_order.specs.OrderMachine.{unrefused}
 use Rattle.cw_tmpl.specs.Library.{read_place}
 use Rattle.cw_routines.specs.Results.{next_word}
+use Rattle.cw_routines.proofs.Facts.{put_at, unsigned_pos}
 use Rattle.cw_follow.proofs.Watched.{Watched}
 use Rattle.cw_follow.proofs.Chains.{Is, Leads, view, to_place, call, last, IsAt}
-use Rattle.cw_follow.proofs.Routines.{leads_on, put_at, quiet_in, quiet_library, flags_of, arrives, joined}
+use Rattle.cw_follow.proofs.Routines.{leads_on, quiet_in, quiet_library, flags_of, arrives, joined}
 use Rattle.cw_follow.proofs.Stacks.{level, record_of, StackIs, top_is, same_put, stack_same}
 use Rattle.cw_follow.proofs.Orders.{Kept, kept_under, Landed, landed, Leading, LandedAt}
 use Rattle.cw_follow.proofs.Operands.{Setting, words, DoesHere}
 use Rattle.cw_follow.proofs.Called.{Returned, comes_back}
-use Rattle.cw_follow.proofs.Numbers.{unsigned_pos}
 use Rattle.cw_follow.proofs.Standing.{HasAt}
 
 module _ (c : Setting) (memory : List ℤ) (output : List ℕ) where
@@ -31,13 +31,13 @@ module _ (c : Setting) (memory : List ℤ) (output : List ℕ) where
       → Landed c.program c.image to c.g true c.acts (read_byte input (words operands memory input output)) p
   reads_as {to = to} {left = left} n operands [] bytes h k e same r =
       let gone : drop 1 left ≡ [] = ap (drop 1) e in
-      let ax : r.ax ≡ unsigned (negsuc 0) = r.answers ∙ ap next_word e in
+      let ax : r.back.ax ≡ unsigned (negsuc 0) = r.back.answers ∙ ap next_word e in
       landed c.rows c.program c.image c.g c.acts true to n (Word (negsuc 0) ∷ operands) memory [] output refl (ax, h)
       (record { words = k.words; long = k.long; piled = k.piled; read = gone; wrote = k.wrote; kind = k.kind }) (to_place same r.is)
   reads_as {to = to} {left = left} n operands (b ∷ rest) bytes h k e same r =
       let gone : drop 1 left ≡ rest = ap (drop 1) e in
       let byte : b < 256 = All-head (λ x. x < 256) b rest bytes in
-      let ax : r.ax ≡ unsigned (pos b) = r.answers ∙ ap next_word e ∙ sym (unsigned_pos b (omega arith)) in
+      let ax : r.back.ax ≡ unsigned (pos b) = r.back.answers ∙ ap next_word e ∙ sym (unsigned_pos b (omega arith)) in
       landed c.rows c.program c.image c.g c.acts true to n (Word (pos b) ∷ operands) memory rest output refl (ax, h)
       (record { words = k.words; long = k.long; piled = k.piled; read = gone; wrote = k.wrote; kind = k.kind }) (to_place same r.is)
 

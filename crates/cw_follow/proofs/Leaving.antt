@@ -9,16 +9,18 @@ use Rattle.cw_unit.specs.Words.{Control, LabelControl, Operand, Held, Words, wit
 use Rattle.cw_order.specs.OrderProgram.{OrderProgram}
 use Rattle.cw_order.specs.OrderState.{OrderActivation, operand_words, stack_words, argument_behind}
 use Rattle.cw_order.specs.Activations.{segment_below, ControlStands}
+use Rattle.cw_order.proofs.StandingActivations.{words_split}
 use Rattle.cw_i86.specs.Encoding.{bytes_of}
 use Rattle.cw_tmpl.specs.Mnemonics.{slot, segment_slot, argument, load}
 use Rattle.cw_tmpl.specs.Templates.{argument_load_size}
 use Rattle.cw_tmpl.proofs.Lengths.{argument_loaded}
+use Rattle.cw_routines.proofs.Facts.{put_at, put_off}
 use Rattle.cw_follow.proofs.Watched.{Watched, watched_step}
 use Rattle.cw_follow.proofs.Rows.{Rows}
 use Rattle.cw_follow.proofs.Chains.{Is, Leads, view, seen, to_place, store_slot, jump_to, near, more, last, done, IsAt}
 use Rattle.cw_follow.proofs.Straight.{Number, Move, Push, LoadArgument, Difference, straight, straight_from}
-use Rattle.cw_follow.proofs.Routines.{put_at, put_off, leads_then}
-use Rattle.cw_follow.proofs.Stacks.{level, record_of, code_place, control_place, ArgumentIs, OwnerIs, StackIs, words_split, words_append, top_is, SameFrom, same_put, same_then, same_above, stack_same, argument_words, piled_below, control_small, owner_same, owner_above, drop_all}
+use Rattle.cw_follow.proofs.Routines.{leads_then}
+use Rattle.cw_follow.proofs.Stacks.{level, record_of, code_place, control_place, ArgumentIs, OwnerIs, StackIs, words_append, top_is, SameFrom, same_put, same_then, same_above, stack_same, argument_words, piled_below, control_small, owner_same, owner_above, drop_all}
 use Rattle.cw_follow.proofs.Orders.{Kept, kept_under, Landed, landed, CalledAt, Leading, further, LandedAt, around_at}
 use Rattle.cw_follow.proofs.Standing.{Has, HasAll, Image, HasFrom}
 

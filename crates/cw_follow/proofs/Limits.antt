@@ -14,10 +14,10 @@ use Rattle.cw_order.specs.FittingWords.{OperandFits}
 use Rattle.cw_tmpl.specs.Library.{exhausted_place}
 use Rattle.cw_routines.specs.Ways.{Within, Back}
 use Rattle.cw_routines.specs.Results.{Quiet}
+use Rattle.cw_routines.proofs.Facts.{unsigned_pos}
 use Rattle.cw_follow.proofs.Watched.{Watched}
 use Rattle.cw_follow.proofs.Chains.{to_place}
 use Rattle.cw_follow.proofs.Routines.{with_ax, quiet_in, quiet_library, flags_of, arrives, returned}
-use Rattle.cw_follow.proofs.Numbers.{unsigned_pos}
 use Rattle.cw_follow.proofs.Stacks.{level, record_of}
 use Rattle.cw_follow.proofs.Orders.{Leading, landed, jumps, Chooses, further_on}
 use Rattle.cw_follow.proofs.Operands.{Setting, words, LandedWith}

@@ -122,9 +122,7 @@ module _ (known : Given) where
 
   pub defined_label : (x : Option (ℕ × Def)) (l : ℕ × ℕ) → label_of_def x ≡ Some l → definition_place p x ≡ label_place p l.0 l.1
   defined_label (Some (to, def.Label k)) l e = let same : (to, k) ≡ l = cc in ap (λ y. label_place p y.0 y.1) same
-  defined_label (Some (to, def.Switch k)) l e = absurd (cc)
-  defined_label (Some (to, def.Proc k)) l e = absurd (cc)
-  defined_label None l e = absurd (cc)
+  defined_label _ l e = absurd (cc)
 
   -- the word of a goal is the place of its label
   pub goal_place : (to : ℕ) (o : Orders) (unit : slice_get p.units to ≡ Some o) (x : Goal) (l : ℕ × ℕ) (after : ℕ) → label_of p to x ≡ Some l → goal_value (all.stands to o unit).value (names_of o) x after ≡ label_place p l.0 l.1

@@ -15,7 +15,6 @@ use Rattle.cw_order.specs.declared.order.Order.TheVariants as order
 use Rattle.cw_order.specs.FittingWords.{OperandFits}
 use Rattle.cw_order.specs.OrderState.{OrderActivation, at, operand_words}
 use Rattle.cw_order.specs.OrderCosts.{weight_of}
-use Rattle.cw_order.specs.OrderLines.{line_of}
 use Rattle.cw_order.specs.OrderMachine.{after, carry_with, weight}
 use Rattle.cw_order.specs.Loading.{loaded_after}
 use Rattle.cw_tmpl.specs.declared.blocks.Block.TheVariants as block
@@ -44,6 +43,7 @@ use Rattle.cw_follow.proofs.States.{Given, Sound}
 use Rattle.cw_follow.proofs.Steps.{Follow, setting, weight_is, line_fits, block_code, block_ends, start_place, order_here, last_does, code_end}
 use Rattle.cw_follow.proofs.CheckedBlocks.{checked_block}
 use Rattle.cw_follow.proofs.BlockOrders.{room_in, block_follows, saved, step_in, small_number}
+use Rattle.cw_follow.proofs.Fits.{count_line}
 
 -- one more, and one less
 abbrev counting : (down : Bool) → Operation
@@ -91,14 +91,14 @@ module _ (c : Setting) (memory : List ℤ) (input output : List ℕ) where
       does x rest fx l =
           let few = h.few in
           let a = unsigned x in
-          let small : a < 65536 = c.rows.words.unsigned_fits x fx in
+          let small : a < 65536 = c.rows.words.numbers.words.unsigned_fits x fx in
           let z = floor_div x (2 ^ places) in
           let w = words rest memory input output in
-          let same : signed a ≡ x = c.rows.words.back x fx in
+          let same : signed a ≡ x = c.rows.words.numbers.words.back x fx in
           let fz : FitsWord z = subst (λ y. FitsWord (floor_div y (2 ^ places))) same (shifted_fits c memory input output a places small) in
           let value_is : z ≡ scaled_product x (pos n) power = sym (ap₂ (λ m s. scaled_product x (pos m) s) h.word_is h.power_is ∙ halved_is c.rows.words x h.exponent h.down places h.down_is) in
           let word_is : word_down_signed a places ≡ unsigned z =
-          sym (c.rows.words.forth (word_down_signed a places) (c.rows.words.down_fits a places small)) ∙ ap unsigned (c.rows.words.down a places small ∙ ap (λ y. floor_div y (2 ^ places)) same) in
+          sym (c.rows.words.numbers.words.forth (word_down_signed a places) (c.rows.words.numbers.down_fits a places small)) ∙ ap unsigned (c.rows.words.down a places small ∙ ap (λ y. floor_div y (2 ^ places)) same) in
           subst (λ y. DoesHere c memory input output 2 to true line p (put_value y w)) value_is
           (put_shifted c memory input output 2 to line z w fz
           (further (shift_steps places) (few_steps places) (some_steps places h.some)
@@ -115,10 +115,6 @@ module _ (known : Given) where
     count_paid : (down : Bool) (line : ℕ) → 15 ≤ weight_of (count_order down line)
     count_paid true line = lit≤ tt
     count_paid false line = lit≤ tt
-
-    count_line : (down : Bool) (line : ℕ) → line_of (count_order down line) ≡ line
-    count_line true line = refl
-    count_line false line = refl
 
     -- what stands behind the instruction
     count_code : (down : Bool) (line : ℕ) (os : List Order) (short : Bool) → drop s.from s.orders.list ≡ order.Save ∷ os → block_at 0 (drop s.from s.orders.list) ≡ block.Count down line

@@ -21,10 +21,10 @@ use Rattle.cw_tmpl.specs.Pieces.{Filling, blanks}
 use Rattle.cw_tmpl.specs.Names.{no_names, mark_place}
 use Rattle.cw_tmpl.specs.Templates.{frame_size, with_operand, pieces_size, element_address, block_size}
 use Rattle.cw_tmpl.specs.Sizes.{element_size}
-use Rattle.cw_tmpl.proofs.Lengths.{field_operated}
+use Rattle.cw_tmpl.proofs.Lengths.{field_operated, appended_long}
 use Rattle.cw_tmpl.proofs.Sizes.{frame_with_long, element_long_as}
 use Rattle.cw_tmpl.proofs.Endings.{compared_long}
-use Rattle.cw_follow.proofs.Standing.{HasPieces, appended_long, stand_both, Has, HasAll, Image}
+use Rattle.cw_follow.proofs.Standing.{HasPieces, stand_both, Has, HasAll, Image}
 use Rattle.cw_follow.proofs.Branches.{branch_size}
 
 -- where the operation stands, and how many bytes it has

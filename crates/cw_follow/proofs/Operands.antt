@@ -43,9 +43,8 @@ allowed false kind o = Refused kind
 
 -- what is done with the operands on top never stops where it never stops with their words
 pub unrefused_one : (f : ℤ → Words → Outcome) (operands : List Operand) (w : Words) → on_one (λ x v. unrefused (f x v)) operands w ≡ unrefused (on_one f operands w)
-unrefused_one f [] w = refl
-unrefused_one f (Held d ∷ rest) w = refl
 unrefused_one f (Word x ∷ rest) w = refl
+unrefused_one f _ w = refl
 
 unrefused_two : (f : ℤ → ℤ → Words → Outcome) (operands : List Operand) (w : Words) → on_two (λ x y v. unrefused (f x y v)) operands w ≡ unrefused (on_two f operands w)
 unrefused_two f [] w = refl

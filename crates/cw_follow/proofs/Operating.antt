@@ -140,8 +140,7 @@ module _ (c : Setting) (memory : List ℤ) (input output : List ℕ) where
       stepped : (op : LogicOp) {q : Watched} → Is c.image (at + size) (operated_on (instruction_of op) (InRegister 0) (unsigned x) (unsigned y) (view (unsigned x) r.cx r.dx r.bx (2 * r.top) (record_of c.acts) r.si c.program.limits.area r.overflow r.cells r.stack r.left r.told)) q
           → Is c.image (at + size) (view (logic_word op (unsigned x) (unsigned y)) r.cx r.dx r.bx (2 * r.top) (record_of c.acts) r.si c.program.limits.area false r.cells r.stack r.left r.told) q
       stepped logic.Mask there = there
-      stepped logic.Union there = there
-      stepped logic.Differ there = there
+      stepped _ there = there
 
   -- a comparison, and the way on
   pub comparison_of : {p : Watched} {at size : ℕ} {i : WordOperation → Instr} (short : Bool) (to by : ℕ) (start : ℕ → ℕ) (k : Comparator) (m : ℕ) (x y : ℤ) (rest : List Operand) → FitsWord x → FitsWord y → at + size + branch_size short ≡ to

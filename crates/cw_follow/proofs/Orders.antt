@@ -1,10 +1,9 @@
 -- What the code of each order does.
-use Rattle.std.proofs.Common.{◌≡◌, ◌≢◌, ℕ, zero, suc, ◌+◌, ◌*◌, ◌%◌, ◌<◌, ◌≤◌, Bool, true, false, not, ℤ, pos, negsuc, List, [], ◌∷◌, ◌++◌, length, length-set, set, None, refl, sym, ap, ap₂, inl, inr, ◌⊎◌, ◌∙◌, subst, arith, lit<, lit≤}
-use Rattle.std.specs.Prelude.{nat_eq, nat_lt}
-use borrow.Author.Tests.{ltb-true, eqb-true, eqb-false}
+use Rattle.std.proofs.Common.{◌≡◌, ℕ, zero, suc, ◌+◌, ◌*◌, ◌%◌, ◌<◌, ◌≤◌, Bool, true, false, not, ℤ, pos, negsuc, List, [], ◌∷◌, ◌++◌, length, length-set, set, None, refl, sym, ap, ap₂, inl, inr, ◌⊎◌, ◌∙◌, subst, arith, lit<, lit≤}
+use Rattle.std.specs.Prelude.{nat_lt}
+use borrow.Author.Tests.{ltb-true}
 use Rattle.std.specs.List.{All}
 use Rattle.std.proofs.lemmas.List.Elements.{All-head, All-tail}
-use Rattle.std.proofs.lemmas.List.{get_or-set_same, get_or-set_other}
 use Rattle.cw_track.proofs.Paths.{Path, stay, next}
 use Rattle.cw_i86.specs.declared.instr.Instr.TheVariants as i86
 use Rattle.cw_i86.specs.declared.instr.Rm.TheVariants as rms
@@ -25,13 +24,14 @@ use Rattle.cw_tmpl.specs.Mnemonics.{at_bx}
 use Rattle.cw_tmpl.specs.Library.{stop_place}
 use Rattle.cw_tmpl.specs.Templates.{opposite_of, comparison_of}
 use Rattle.cw_routines.specs.Results.{Stands, Tells as SegmentTold}
+use Rattle.cw_routines.proofs.Facts.{put_words, fits_tested, unsigned_pos}
 use Rattle.cw_follow.proofs.Watched.{Watched, watched_step, watched_machine, over}
 use Rattle.cw_follow.proofs.WordLaws.{WordLaws}
 use Rattle.cw_follow.proofs.Rows.{Rows}
 use Rattle.cw_follow.proofs.Chains.{IsAt, Is, over_is, IsCompared, Leads, at_work, view, seen, to_place, move, exchange, push, pop, load, store, load_at, store_at, double, no_overflow, passes, jump_overflow, pass_overflow, near, compare, compared_jumps, compared_passes, out, shows, more, compared_more, last, done, short}
-use Rattle.cw_follow.proofs.Routines.{HasLine, StackedAt, Over, stops, put_at, put_off, with_ax, joined, Around, Beside}
+use Rattle.cw_follow.proofs.Routines.{HasLine, StackedAt, Over, stops, with_ax, joined, Around, Beside}
 use Rattle.cw_follow.proofs.Stacks.{level, record_of, code_place, StackIs, OperandsAre, Piled, top_is, SameFrom, same_put, stack_pushed, piled_same}
-use Rattle.cw_follow.proofs.Numbers.{opposite_is, fits_tested, unsigned_pos, comparison_is}
+use Rattle.cw_follow.proofs.Numbers.{opposite_is, comparison_is}
 use Rattle.cw_follow.proofs.Standing.{Has, HasWord, HasAll, HasFrom, Image, HasAt}
 use Rattle.cw_follow.proofs.Branches.{branch_size, goes_by, branch_code}
 use Rattle.cw_i86.specs.State.{sign_extended}
@@ -62,18 +62,6 @@ kept_same {prog} {g} {acts} {stack = stack} new same k = record {
 pub kept_under : {prog : OrderProgram} {g : ℕ} {acts : List OrderActivation} {memory : List ℤ} {input output : List ℕ} {cells stack : ℕ → ℕ} {left : List ℕ} {told : Told} (n w : ℕ) → n < level acts
     → Kept prog g acts memory input output cells stack left told → Kept prog g acts memory input output cells (put_word stack n w) left told
 kept_under {acts = acts} {stack = stack} n w lt k = kept_same (put_word stack n w) (same_put stack n w (level acts) lt) k
-
--- a word of the data area is stored
-put_words : (cells : ℕ → ℕ) (memory : List ℤ) (n k : ℕ) (z : ℤ) → n < length memory → cells k ≡ unsigned (word_at memory k) → put_word cells n (unsigned z) k ≡ unsigned (word_at (set memory n z) k)
-put_words cells memory n k z lt e = cases (nat_eq k n) refl
-  where
-    cases : (b : Bool) → nat_eq k n ≡ b → put_word cells n (unsigned z) k ≡ unsigned (word_at (set memory n z) k)
-    cases true b =
-        let same : k ≡ n = eqb-true k n b in
-        subst (λ j. put_word cells n (unsigned z) j ≡ unsigned (word_at (set memory n z) j)) (sym same) (put_at cells n (unsigned z) ∙ ap unsigned (sym (get_or-set_same memory n z (pos 0) lt)))
-    cases false b =
-        let other : k ≢ n = eqb-false k n b in
-        put_off cells n (unsigned z) k other ∙ e ∙ ap unsigned (sym (get_or-set_other memory n k z (pos 0) other))
 
 pub kept_stored : {prog : OrderProgram} {g : ℕ} {acts : List OrderActivation} {memory : List ℤ} {input output : List ℕ} {cells stack : ℕ → ℕ} {left : List ℕ} {told : Told} (n : ℕ) (z : ℤ) → n < prog.limits.area
     → Kept prog g acts memory input output cells stack left told → Kept prog g acts (set memory n z) input output (put_word cells n (unsigned z)) stack left told
@@ -192,11 +180,6 @@ pub with_bx : {image : Image} {at ax bx x cx dx sp bp si di : ℕ} {overflow : B
 with_bx {image} {at} {ax} {bx} {x} {cx} {dx} {sp} {bp} {si} {di} {overflow} {cells} {stack} {input} {told} {p} e s =
     subst (λ b. Is image at (view ax cx dx b sp bp si di overflow cells stack input told) p) e s
 
-with_overflow : {image : Image} {at ax bx cx dx sp bp si di : ℕ} {o o' : Bool} {cells stack : ℕ → ℕ} {input : List ℕ} {told : Told} {p : Watched} → o ≡ o'
-    → Is image at (view ax cx dx bx sp bp si di o cells stack input told) p → Is image at (view ax cx dx bx sp bp si di o' cells stack input told) p
-with_overflow {image} {at} {ax} {bx} {cx} {dx} {sp} {bp} {si} {di} {o} {o'} {cells} {stack} {input} {told} {p} e s =
-    subst (λ b. Is image at (view ax cx dx bx sp bp si di b cells stack input told) p) e s
-
 -- an order leads within so many instructions on its way: to the next order, to where the code of a mark starts, or to a stop at a line
 abbrev pub Chooses : (prog : OrderProgram) (image : Image) (limit to : ℕ) (start : ℕ → ℕ) (g : ℕ) (loaded : Bool) (line : ℕ) (acts : List OrderActivation) (output : List ℕ) (p : Watched) → Way → Type 0
 Chooses prog image limit to start g loaded line acts output p (Onward v) = Leading output limit p (Landed prog image to g loaded acts v)
@@ -252,7 +235,7 @@ pub through_word : WordLaws → (area n : ℕ) → area ≤ 32768 → n < 65536 
 through_word laws area n low small f w T none each =
     through_address area f (signed n) w T none (λ k is within.
     let short : k < 65536 = omega arith in
-    each k within (sym (unsigned_pos k short) ∙ ap unsigned (sym is) ∙ laws.forth n small))
+    each k within (sym (unsigned_pos k short) ∙ ap unsigned (sym is) ∙ laws.numbers.words.forth n small))
 
 -- a stop is called where the overflow flag is set
 abbrev pub Check : (image : Image) → (at by line : ℕ) → Type 0
@@ -485,8 +468,6 @@ module _ (rows : Rows) (prog : OrderProgram) (image : Image) (g : ℕ) (acts : L
   pub writes : {p : Watched} {first : Bool} {at : ℕ} (to : ℕ) (operands : List Operand) (memory : List ℤ) (input output : List ℕ) → at + 3 ≡ to → HasFrom first image at (i86.Pop 0 ∷ i86.Out 0x12 ∷ [])
       → LandedAt first prog image at g false acts (record { operands = operands; memory = memory; input = input; output = output }) p
       → Tells prog image 2 to g false acts output p (perform prog.limits.area WriteByte (record { operands = operands; memory = memory; input = input; output = output }))
-  writes to [] memory input output e i l = tt
-  writes to (Held c ∷ rest) memory input output e i l = tt
   writes {p} {at} to (Word x ∷ rest) memory input output e i l =
       let s = l.stacked in
       let k = l.kept in
@@ -503,13 +484,12 @@ module _ (rows : Rows) (prog : OrderProgram) (image : Image) (g : ℕ) (acts : L
         path = next (inl (shows rows s.is k.wrote)) refl (let c : 2 ≡ 1 + 1 = omega arith in c) (next (inl (shows rows popped k.wrote)) refl (let c : 1 ≡ 1 + 0 = omega arith in c) (stay refl refl));
         there = out_low x to (suc l.top) rest memory input output e' i.1.0 h.1 k popped;
       }
+  writes to _ memory input output e i l = tt
 
   -- the argument is in the accumulator
   pub writes_top : {p : Watched} {at : ℕ} (to : ℕ) (operands : List Operand) (memory : List ℤ) (input output : List ℕ) → at + 2 ≡ to → Has image at (i86.Out 0x12)
       → Landed prog image at g true acts (record { operands = operands; memory = memory; input = input; output = output }) p
       → Tells prog image 1 to g false acts output p (perform prog.limits.area WriteByte (record { operands = operands; memory = memory; input = input; output = output }))
-  writes_top to [] memory input output e i l = tt
-  writes_top to (Held c ∷ rest) memory input output e i l = tt
   writes_top {p} {at} to (Word x ∷ rest) memory input output e i l =
       let s = l.stacked in
       let k = l.kept in
@@ -522,6 +502,7 @@ module _ (rows : Rows) (prog : OrderProgram) (image : Image) (g : ℕ) (acts : L
         path = next (inl (shows rows s.is k.wrote)) refl (let c : 1 ≡ 1 + 0 = omega arith in c) (stay refl refl);
         there = out_low x to l.top rest memory input output e i h.1 k (with_ax h.0 s.is);
       }
+  writes_top to _ memory input output e i l = tt
 
   -- ---- jumps
 
@@ -548,10 +529,10 @@ module _ (rows : Rows) (prog : OrderProgram) (image : Image) (g : ℕ) (acts : L
       V = view ax cx dx bx (2 * top) (record_of acts) si prog.limits.area overflow cells stack left told
 
       la : a < 65536
-      la = subst (λ n. n < 65536) (sym ea) (rows.words.unsigned_fits x fx)
+      la = subst (λ n. n < 65536) (sym ea) (rows.words.numbers.words.unsigned_fits x fx)
 
       lb : b < 65536
-      lb = subst (λ n. n < 65536) (sym eb) (rows.words.unsigned_fits y fy)
+      lb = subst (λ n. n < 65536) (sym eb) (rows.words.numbers.words.unsigned_fits y fy)
 
       turned : words_compare (opposite_of c) a b ≡ not (holds (comparison c) x y)
       turned = ap₂ (words_compare (opposite_of c)) ea eb ∙ opposite_is rows.words x y fx fy c
@@ -571,10 +552,10 @@ module _ (rows : Rows) (prog : OrderProgram) (image : Image) (g : ℕ) (acts : L
   short_branches {p} {at} {ax} {cx} {dx} {bx} {si} {a} {b} {overflow} {cells} {stack} {left} {told} to top by start c m x y operands memory input output e arrives fx fy ea eb h k i s = cases (holds (comparison c) x y) refl
     where
       la : a < 65536
-      la = subst (λ n. n < 65536) (sym ea) (rows.words.unsigned_fits x fx)
+      la = subst (λ n. n < 65536) (sym ea) (rows.words.numbers.words.unsigned_fits x fx)
 
       lb : b < 65536
-      lb = subst (λ n. n < 65536) (sym eb) (rows.words.unsigned_fits y fy)
+      lb = subst (λ n. n < 65536) (sym eb) (rows.words.numbers.words.unsigned_fits y fy)
 
       told_so : words_compare (comparison_of c) a b ≡ holds (comparison c) x y
       told_so = ap₂ (words_compare (comparison_of c)) ea eb ∙ comparison_is rows.words x y fx fy c

@@ -75,7 +75,7 @@ module _ (c : Setting) (value : Filling) (memory : List ℤ) (input output : Lis
       cases true is d =
           let y = word_at memory (number_of z) in
           let fy : FitsWord y = word_fits (number_of z) (inside z is) in
-          let small : unsigned y < 65536 = c.rows.words.unsigned_fits y fy in
+          let small : unsigned y < 65536 = c.rows.words.numbers.words.unsigned_fits y fy in
           let more = d.some in
           let within = d.within in
           let few = few_part_steps t b is_signed in
@@ -132,7 +132,7 @@ module _ (c : Setting) (value : Filling) (memory : List ℤ) (input output : Lis
       let low = c.low in
       let lt : k < 32768 = omega arith in
       let offset : (after : ℕ) → value 2 f n after ≡ 2 * k = λ after. (let o = fills after in omega arith) in
-      shifts c.rows c.image value to output Up b {m = 3} {Target = Stored to k z rest} (changed_at t b (cell.Word f n)) (omega arith) (c.rows.words.unsigned_fits z fz) l.kept.wrote (i, e) (with_ax l.operands.0 l.stacked.is)
+      shifts c.rows c.image value to output Up b {m = 3} {Target = Stored to k z rest} (changed_at t b (cell.Word f n)) (omega arith) (c.rows.words.numbers.words.unsigned_fits z fz) l.kept.wrote (i, e) (with_ax l.operands.0 l.stacked.is)
       (λ r place a cx overflow is code s.
       let h = code.0 in
       let end = code.1 in
@@ -153,7 +153,7 @@ module _ (c : Setting) (value : Filling) (memory : List ℤ) (input output : Lis
       let kept = l.kept in
       let twice = 2 * a.frame_base % 65536 in
       let word = frame_word_at c.program.limits.area a.frame_base n k low within same in
-      shifts c.rows c.image value to output Up b {m = 4} {Target = Stored to k z rest} (address_pieces (cell.Frame n) ++ changed_at t b (cell.Frame n)) (omega arith) (c.rows.words.unsigned_fits z fz) kept.wrote (i, e) (with_ax l.operands.0 l.stacked.is)
+      shifts c.rows c.image value to output Up b {m = 4} {Target = Stored to k z rest} (address_pieces (cell.Frame n) ++ changed_at t b (cell.Frame n)) (omega arith) (c.rows.words.numbers.words.unsigned_fits z fz) kept.wrote (i, e) (with_ax l.operands.0 l.stacked.is)
       (λ q' place x cx overflow is code s.
       let h = code.0 in
       let end = code.1 in

@@ -35,7 +35,7 @@ words_are laws s first [] fit same = refl
 words_are laws s first (z ∷ zs) fit same =
     let here : first ≡ first + 0 = omega arith in
     ap₂ (λ x xs. x ∷ xs)
-    (ap (λ n. signed (word_in s.memory data_segment (2 * n))) here ∙ ap signed (same 0 (omega arith)) ∙ laws.back z (All-head FitsWord z zs fit))
+    (ap (λ n. signed (word_in s.memory data_segment (2 * n))) here ∙ ap signed (same 0 (omega arith)) ∙ laws.numbers.words.back z (All-head FitsWord z zs fit))
     (words_are laws s (first + 1) zs (All-tail FitsWord z zs fit)
     (λ k lt. let next : first + 1 + k ≡ first + suc k = omega arith in ap (λ n. word_in s.memory data_segment (2 * n)) next ∙ same (suc k) (omega arith)))
 

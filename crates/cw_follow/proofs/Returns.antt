@@ -159,9 +159,8 @@ module _ (rows : Rows) (prog : OrderProgram) (image : Image) where
       done (landed rows prog image g (a ∷ acts) false to l.top w.operands (set w.memory n z) w.input w.output end l.operands (kept_stored n z within c) u))))
 
   bind_nowhere : (x : Option Operand) (w : Words) → unrefused (bind prog.limits.area x None w) ≡ Impossible
-  bind_nowhere None w = refl
-  bind_nowhere (Some (Held c)) w = refl
   bind_nowhere (Some (Word z)) w = refl
+  bind_nowhere _ w = refl
 
   pub binds_frame : {q : Watched} {at : ℕ} (g to k offset line : ℕ) (a : OrderActivation) (acts : List OrderActivation) (x : Option Operand) (w : Words) → prog.limits.area ≤ 32768
       → argument_behind k a.arguments ≡ x → at + (argument_load_size k + (frame_size offset + 5)) ≡ to

@@ -1,7 +1,6 @@
 -- The routines of the library for the processor that is watched, and what is called in all places: the stops.
 use Rattle.std.proofs.Common.{◌≡◌, ◌≢◌, ℕ, suc, ◌+◌, ◌*◌, ◌%◌, ◌<◌, Bool, true, false, List, [], ◌∷◌, length, lit<, refl, sym, ap, ap₂, ◌∙◌, subst, arith}
 use Rattle.std.proofs.lemmas.Bool.{false≢true}
-use Rattle.std.proofs.lemmas.Bool.Decides.{nat_tests}
 use Rattle.cw_track.proofs.Paths.{Path, stay, next, join}
 use Rattle.cw_i86.specs.declared.flags.Flags.{Flags}
 use Rattle.cw_i86.specs.Encoding.{bytes_of}
@@ -13,11 +12,12 @@ use Rattle.cw_image.specs.Begun.{StatementPlace, lines_at}
 use Rattle.cw_run86.specs.Processor.{Processor, Told, processor_step, observed}
 use Rattle.cw_run86.specs.Views as ways
 use Rattle.cw_run86.specs.Views.{View, Sees, put_word}
-use Rattle.cw_unit.specs.Stop.{StopKind, Overflow, ZeroDivisor, SwitchRange, AddressRange, FramesFull, DepthReached, IndexRange, stop_number, Stopped, Ended}
+use Rattle.cw_unit.specs.Stop.{StopKind, Overflow, ZeroDivisor, AddressRange, IndexRange, stop_number, Stopped, Ended}
 use Rattle.cw_unit.specs.Behaviour.{Observation}
 use Rattle.cw_tmpl.specs.Library.{stop_place, library_bytes}
 use Rattle.cw_routines.specs.Ways.{HasAll as WayHasAll, QuietAll, At, Way, stay as stays, go, Leads as Goes, Over as Rests, view as processor_view}
 use Rattle.cw_routines.specs.Results.{Stands, Quiet, InLibrary, Tells}
+use Rattle.cw_routines.proofs.Facts.{put_at, put_off}
 use Rattle.cw_follow.specs.Showing.{shown_as}
 use Rattle.cw_follow.proofs.Watched.{Watched, watched_step, watched_machine, step_silent, fresh}
 use Rattle.cw_follow.proofs.Rows.{Rows}
@@ -25,12 +25,6 @@ use Rattle.cw_follow.proofs.Chains.{IsAt, Is, Leads, at_work, view, placed, has,
 use Rattle.cw_follow.proofs.Standing.{Has, HasWord, Image, Ignores, HasAll}
 
 -- ---- words
-
-pub put_at : (words : ℕ → ℕ) (k w : ℕ) → put_word words k w k ≡ w
-put_at words k w = grind (arith, nat_tests)
-
-pub put_off : (words : ℕ → ℕ) (k w n : ℕ) → n ≢ k → put_word words k w n ≡ words n
-put_off words k w n ne = grind (arith, nat_tests)
 
 -- ---- the end of a run
 
@@ -42,12 +36,7 @@ pub record Over (shown : Observation) (p : Watched) : Type 0 where
 
 stop_shows : (kind : StopKind) (output : List ℕ) (segment line : ℕ) → shown_as (record { output = output; end = run.Stopped (stop_number kind) segment line }) ≡ record { output = output; end = Stopped kind segment line }
 stop_shows Overflow output segment line = refl
-stop_shows ZeroDivisor output segment line = refl
-stop_shows SwitchRange output segment line = refl
-stop_shows AddressRange output segment line = refl
-stop_shows FramesFull output segment line = refl
-stop_shows DepthReached output segment line = refl
-stop_shows IndexRange output segment line = refl
+stop_shows _ output segment line = refl
 
 end_shows : (o output : List ℕ) (k s l : ℕ) → o ≡ output → k ≡ 0 → shown_as (record { output = o; end = end_told k s l }) ≡ record { output = output; end = Ended }
 end_shows o output k s l eo ek =
@@ -203,9 +192,7 @@ module _ (rows : Rows) where
       lifted rows s.overlooks s.silent (rows.routines.address (quiet_in p.places) image.bytes library (quiet_library s.ignores) at line n r segment ax cx dx bx bp si di (flags_of p) cells stack input told p.processor low there word small tells (arrives s)) (λ q t. over p t)
   stops_at {image} {p} IndexRange at line n r segment ax cx dx bx bp si di overflow cells stack input told has library low there word small tells s =
       lifted rows s.overlooks s.silent (rows.routines.bounds (quiet_in p.places) image.bytes library (quiet_library s.ignores) at line n r segment ax cx dx bx bp si di (flags_of p) cells stack input told p.processor low there word small tells (arrives s)) (λ q t. over p t)
-  stops_at SwitchRange at line n r segment ax cx dx bx bp si di overflow cells stack input told has library low there word small tells s = absurd has
-  stops_at FramesFull at line n r segment ax cx dx bx bp si di overflow cells stack input told has library low there word small tells s = absurd has
-  stops_at DepthReached at line n r segment ax cx dx bx bp si di overflow cells stack input told has library low there word small tells s = absurd has
+  stops_at _ at line n r segment ax cx dx bx bp si di overflow cells stack input told has library low there word small tells s = absurd has
 
   -- a call of a stop, with the line behind it
   pub stops : {image : Image} {p : Watched} (kind : StopKind) (at by line n r segment ax cx dx bx bp si di : ℕ) (overflow : Bool) (cells stack : ℕ → ℕ) (input : List ℕ) (told : Told)

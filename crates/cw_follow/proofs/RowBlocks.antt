@@ -35,8 +35,9 @@ use Rattle.cw_tmpl.specs.Templates.{frame_size, indexes_between, top_below, top_
 use Rattle.cw_tmpl.specs.ShortForms.{is_short}
 use Rattle.cw_tmpl.specs.Sizes.{top_lower_size, lower_size, formed_size, column_size, row_size}
 use Rattle.cw_tmpl.specs.ReferenceCode.{reach_of}
-use Rattle.cw_tmpl.proofs.Lengths.{field_loaded}
-use Rattle.cw_tmpl.proofs.Sizes.{row_long, column_long, formed_long, size_to}
+use Rattle.cw_tmpl.proofs.Lengths.{field_loaded, top_lower_long}
+use Rattle.cw_tmpl.proofs.Sizes.{row_long, column_long, formed_long, lower_long, size_to}
+use Rattle.cw_routines.proofs.Facts.{unsigned_pos}
 use Rattle.cw_follow.proofs.Watched.{Watched}
 use Rattle.cw_follow.proofs.Chains.{Leads, done}
 use Rattle.cw_follow.proofs.Straight.{Number, straight}
@@ -44,18 +45,17 @@ use Rattle.cw_follow.proofs.Standing.{HasPieces, stand_both}
 use Rattle.cw_follow.proofs.Routines.{leads_on, leads_then}
 use Rattle.cw_follow.proofs.Orders.{Landed, Does, later, further}
 use Rattle.cw_follow.proofs.Operands.{One, DoesHere, result}
-use Rattle.cw_follow.proofs.Numbers.{unsigned_pos}
 use Rattle.cw_follow.proofs.Addresses.{count_passes, count_stops}
-use Rattle.cw_follow.proofs.Indexed.{BetweenBounds, from_word, between_bounds, past_bounds, lower_steps, few_lower, loaded_steps, lower_long, index_by_word, index_by_frame, less_lower}
-use Rattle.cw_follow.proofs.ElementTests.{address_order, index_first, index_read, many_between, order_there, none_inside, over_inside}
+use Rattle.cw_follow.proofs.Indexed.{BetweenBounds, from_word, between_bounds, past_bounds, lower_steps, few_lower, loaded_steps, index_by_word, index_by_frame, less_lower}
+use Rattle.cw_follow.proofs.ElementTests.{address_order, index_first, index_read, many_between, order_there, none_inside, over_inside, puts_address}
 use Rattle.cw_follow.proofs.ElementOrders.{stops_follow}
-use Rattle.cw_follow.proofs.BoundedBlocks.{InTop, forms, formed_steps, few_formed, lower_long as top_lower_long, less_lower as top_less_lower, is_between, top_there, top_fits, comparing_follows}
+use Rattle.cw_follow.proofs.BoundedBlocks.{InTop, forms, formed_steps, few_formed, less_lower as top_less_lower, is_between, top_there, top_fits, comparing_follows}
 use Rattle.cw_follow.proofs.FrameBlocks.{frame_word_inside}
 use Rattle.cw_follow.proofs.InBlocks.{silently, puts_word, chain, Puts, loaded_silently}
 use Rattle.cw_follow.proofs.States.{Given, Sound}
 use Rattle.cw_follow.proofs.Steps.{Follow, setting, calls, by, order_here, weight_is, moded_as, did_as, block_code, block_ends, start_place, does, Ends, code_end}
 use Rattle.cw_follow.proofs.BlockOrders.{within_block, inner_follows, modes, step_in}
-use Rattle.cw_follow.proofs.RowOrders.{formed_of_two, LastWord, last_word, column_list, after_column, behind_column, next_after, columns_order, rows_order, tail_of, row_list, row_list_is, many_orders, mode_is, address_puts_one, column_steps, few_column, column_passes, column_stops, adds_column}
+use Rattle.cw_follow.proofs.RowOrders.{formed_of_two, LastWord, last_word, column_list, after_column, behind_column, next_after, columns_order, rows_order, tail_of, row_list, row_list_is, many_orders, mode_is, column_steps, few_column, column_passes, column_stops, adds_column}
 
 -- ---- the block
 
@@ -204,7 +204,7 @@ module _ (known : Given) where
     -- the number of the first index from its lower bound on
     numbered : (r : Row) (x : ℤ) (rest : List Operand) (l : Top x rest) → FitsWord x → Parts r → Leads s.before.output (lower_steps r.rows.lower) q (Both l (first_at r) (from_word r.rows.lower x) l.si)
     numbered r x rest l fx h =
-        top_less_lower (setting known s) s.before.memory s.before.input s.before.output value_of l.top (rows.words.unsigned_fits x fx) l.kept
+        top_less_lower (setting known s) s.before.memory s.before.input s.before.output value_of l.top (rows.words.numbers.words.unsigned_fits x fx) l.kept
         (record { cx = l.cx; dx = l.dx; bx = l.bx; overflow = l.overflow; is = l.is }) r.rows.lower _ h.whole
 
     -- the stop, where it is not between its bounds
@@ -266,7 +266,7 @@ module _ (known : Given) where
     column_loads : (c : Column) (y : ℤ) → Reads c y → (code : List Coded) {a : ℤ} {under : List Operand} (l : Top a under) (at word : ℕ) (q' : Watched) → Both l at word l.si q' → HasPieces image value_of at (column_loaded c ++ code)
         → Leads s.before.output (column_steps c) q' (Both l (at + column_size c) word (unsigned y))
     column_loads (column.Number n) y reads code l at word q' b h =
-        let same : n ≡ unsigned y = sym (rows.words.forth n reads.0) ∙ ap unsigned (sym reads.1) in
+        let same : n ≡ unsigned y = sym (rows.words.numbers.words.forth n reads.0) ∙ ap unsigned (sym reads.1) in
         straight rows (Number 6 n ∷ []) {n = 0} l.kept.wrote (h.0, tt) (tt, tt) b.is
         (λ t u. done {Target = Both l (at + 3) word (unsigned y)} (subst (λ m. Both l (at + 3) word m t) same (record { cx = b.cx; dx = b.dx; bx = b.bx; overflow = b.overflow; is = u })))
     column_loads (column.Contents x) y reads code l at word q' b h =
@@ -289,7 +289,7 @@ module _ (known : Given) where
         (column_loads r.column y reads (from_lower r.columns.lower ++ (column_below r.columns.line (indexes_between (r.columns.upper -ℤ r.columns.lower)) ++ row_summed r)) l (column_at r) (row_number r z x fx holds).number t u h.loads)
         (λ t' v.
         leads_on (λ t'' a. record { cx = v.cx; dx = v.dx; bx = a.bx; overflow = a.overflow; is = a.is })
-        (less_lower (setting known s) s.before.memory s.before.input s.before.output value_of (column_below r.columns.line (indexes_between (r.columns.upper -ℤ r.columns.lower)) ++ row_summed r) l.top (unsigned y) (rows.words.unsigned_fits y fy) l.kept
+        (less_lower (setting known s) s.before.memory s.before.input s.before.output value_of (column_below r.columns.line (indexes_between (r.columns.upper -ℤ r.columns.lower)) ++ row_summed r) l.top (unsigned y) (rows.words.numbers.words.unsigned_fits y fy) l.kept
         v.is r.columns.lower h.lowers)))
 
     -- the stop there
@@ -566,7 +566,7 @@ module _ (known : Given) where
             puts_inside r rest i 2 (order.Const n) is_done (ap (λ c. slice_get (row_list r c rest) 2) is) tt (omega (arith, next_after r.column 0, next_after r.column 1, next_after r.column 2))
         cases (column.Number n) is (suc k) is_done le = behind_follow r rest z h i k (is_done ∙ ap (λ c. suc (suc (after_column c k))) (sym is)) (omega arith)
         cases (column.Contents x) is zero is_done le =
-            puts_inside r rest i 2 (address_order x) is_done (ap (λ c. slice_get (row_list r c rest) 2) is) (address_puts_one x) (omega (arith, next_after r.column 0, next_after r.column 1, next_after r.column 2))
+            puts_inside r rest i 2 (address_order x) is_done (ap (λ c. slice_get (row_list r c rest) 2) is) (puts_address x) (omega (arith, next_after r.column 0, next_after r.column 1, next_after r.column 2))
         cases (column.Contents x) is (suc zero) is_done le =
             puts_inside r rest i 3 order.Load is_done (ap (λ c. slice_get (row_list r c rest) 3) is) tt (omega (arith, ap (λ c. after_column c 3) is))
         cases (column.Contents x) is (suc (suc k)) is_done le = behind_follow r rest z h i k (is_done ∙ ap (λ c. suc (suc (after_column c k))) (sym is)) (omega arith)

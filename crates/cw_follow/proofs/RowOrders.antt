@@ -17,7 +17,6 @@ use Rattle.cw_unit.specs.Words.{Words, Outcome, Changed, Refused, put}
 use Rattle.cw_unit.specs.Operation.{fitting, address_of}
 use Rattle.cw_order.specs.declared.order.Order.{Order}
 use Rattle.cw_order.specs.declared.order.Order.TheVariants as order
-use Rattle.cw_order.specs.declared.order.Place.{Place}
 use Rattle.cw_order.specs.declared.order.Place.TheVariants as cell
 use Rattle.cw_tmpl.specs.declared.rows.Column.{Column}
 use Rattle.cw_tmpl.specs.declared.rows.Column.TheVariants as column
@@ -37,10 +36,11 @@ use Rattle.cw_follow.proofs.Standing.{HasPieces}
 use Rattle.cw_follow.proofs.Stacks.{level, record_of}
 use Rattle.cw_follow.proofs.Orders.{Kept, further}
 use Rattle.cw_follow.proofs.Operands.{Setting, DoesHere, calls_stop}
-use Rattle.cw_follow.proofs.Indexed.{both_hold, loaded_steps, few_loaded, formed_between}
+use Rattle.cw_follow.proofs.Indexed.{loaded_steps, few_loaded, formed_between}
 use Rattle.cw_follow.proofs.ElementTests.{address_order, within_span}
 use Rattle.cw_follow.proofs.BoundedBlocks.{InTop}
-use Rattle.cw_follow.proofs.InBlocks.{Puts, loaded_silently}
+use Rattle.cw_follow.proofs.InBlocks.{loaded_silently}
+use Rattle.cw_follow.proofs.Naming.{both_true}
 
 -- ---- arithmetic
 
@@ -86,8 +86,8 @@ pub record LastWord (rows columns : ℤ) (width span : ℕ) : Type 0 where
 
 pub last_word : (rows columns : ℤ) (width span : ℕ) → (is_within rows span && (is_within columns span && last_within rows columns width span)) ≡ true → LastWord rows columns width span
 last_word rows columns width span e =
-    let a = both_hold (is_within rows span) (is_within columns span && last_within rows columns width span) e in
-    let b = both_hold (is_within columns span) (last_within rows columns width span) a.1 in
+    let a = both_true (is_within rows span) (is_within columns span && last_within rows columns width span) e in
+    let b = both_true (is_within columns span) (last_within rows columns width span) a.1 in
     let m = within_span rows span a.0 in
     let n = within_span columns span b.0 in
     let holds : last_within (pos m.0) (pos n.0) width span ≡ true = ap₂ (λ x y. last_within x y width span) (sym m.1) (sym n.1) ∙ b.1 in
@@ -125,24 +125,17 @@ abbrev pub row_list : Row → Column → List Order → List Order
 row_list r c rest = rows_order r ∷ order.Save ∷ column_list c (tail_of r rest)
 
 pub row_list_is : (r : Row) (c : Column) (rest : List Order) → (rows_order r ∷ order.Save ∷ (column_orders c ++ orders_in_row r)) ++ row_order r ∷ rest ≡ row_list r c rest
-row_list_is r (column.Number w) rest = refl
 row_list_is r (column.Contents (cell.Word f n)) rest = refl
-row_list_is r (column.Contents (cell.Frame n)) rest = refl
+row_list_is r _ rest = refl
 
 -- how many there are, and where they leave the accumulator
 pub many_orders : (r : Row) (c : Column) → length (rows_order r ∷ order.Save ∷ (column_orders c ++ orders_in_row r)) ≡ suc (suc (after_column c 3))
-many_orders r (column.Number w) = refl
 many_orders r (column.Contents (cell.Word f n)) = refl
-many_orders r (column.Contents (cell.Frame n)) = refl
+many_orders r _ = refl
 
 pub mode_is : (r : Row) (c : Column) (rest : List Order) → loaded_silently (suc (after_column c 3)) (order.Save ∷ column_list c (tail_of r rest)) true ≡ Some true
-mode_is r (column.Number w) rest = refl
 mode_is r (column.Contents (cell.Word f n)) rest = refl
-mode_is r (column.Contents (cell.Frame n)) rest = refl
-
-pub address_puts_one : (x : Place) → Puts (address_order x)
-address_puts_one (cell.Word f n) = tt
-address_puts_one (cell.Frame n) = tt
+mode_is r _ rest = refl
 
 -- how many instructions load a second index
 abbrev pub column_steps : Column → ℕ

@@ -59,18 +59,15 @@ pub record Rows : Type 0 where
   pub no_overflow : (code : List ℕ) (v : View) (by : ℕ) → Has code v.place (i86.JumpIf 1 by) → v.overflow ≡ false → Goes code v (with_place ((v.place + 2 + sign_extended by) % 65536) v)
   pub passes : (code : List ℕ) (v : View) (by : ℕ) → Has code v.place (i86.JumpIf 1 by) → v.overflow ≡ true → Goes code v (on (i86.JumpIf 1 by) v)
   pub call : (code : List ℕ) (v : View) (by n : ℕ) → Has code v.place (i86.Call by) → n < 32768 → IsTop v (suc n) → Goes code v (with_place ((v.place + 3 + by) % 65536) (with_register 4 (2 * n) (with_stack n ((v.place + 3) % 65536) v)))
-  pub back : (code : List ℕ) (v : View) (n : ℕ) → Has code v.place i86.Ret → n < 32768 → IsTop v n → Goes code v (with_place (v.stack n) (with_register 4 (2 * suc n % 65536) v))
   pub through_table : (code : List ℕ) (v : View) (by at to : ℕ) → Has code v.place (i86.JumpRm (rms.Mem (record { cs = true; place = places.Far 7 by }))) → (register v 3 + by) % 65536 ≡ at → at + 2 ≤ length code → slice_index code at + 256 * slice_index code (at + 1) ≡ to → Goes code v (with_place to v)
   -- offsets and numbers
   pub load_at : (code : List ℕ) (v : View) (offset k : ℕ) → Has code v.place (i86.MovAcc false true false offset) → k < 32768 → offset ≡ 2 * k → Goes code v (with_register 0 (v.cells k) (on (i86.MovAcc false true false offset) v))
   pub store_at : (code : List ℕ) (v : View) (offset k : ℕ) → Has code v.place (i86.MovAcc false true true offset) → k < 32768 → offset ≡ 2 * k → Goes code v (with_cell k (register v 0) (on (i86.MovAcc false true true offset) v))
   pub add_at : (code : List ℕ) (v : View) (r offset k : ℕ) → Has code v.place (with_memory 0 r offset) → k < 32768 → offset ≡ 2 * k → Goes code v (with_result r (word_sum (register v r) (v.cells k)) (sum_overflows (register v r) (v.cells k)) (on (with_memory 0 r offset) v))
-  pub subtract_at : (code : List ℕ) (v : View) (r offset k : ℕ) → Has code v.place (with_memory 5 r offset) → k < 32768 → offset ≡ 2 * k → Goes code v (with_result r (word_difference (register v r) (v.cells k)) (difference_overflows (register v r) (v.cells k)) (on (with_memory 5 r offset) v))
   pub add_number : (code : List ℕ) (v : View) (w : ℕ) → Has code v.place (with_number 0 w) → Goes code v (with_result 0 (word_sum (register v 0) w) (sum_overflows (register v 0) w) (on (with_number 0 w) v))
   pub subtract_number : (code : List ℕ) (v : View) (w : ℕ) → Has code v.place (with_number 5 w) → Goes code v (with_result 0 (word_difference (register v 0) w) (difference_overflows (register v 0) w) (on (with_number 5 w) v))
   -- comparisons
   pub compare : (code : List ℕ) (v : View) (r q : ℕ) → Has code v.place (with_other 7 r q) → Compares code (register v r) (register v q) (with_other 7 r q) v
-  pub compare_at : (code : List ℕ) (v : View) (r offset k : ℕ) → Has code v.place (with_memory 7 r offset) → k < 32768 → offset ≡ 2 * k → Compares code (register v r) (v.cells k) (with_memory 7 r offset) v
   pub compare_number : (code : List ℕ) (v : View) (w : ℕ) → Has code v.place (with_number 7 w) → Compares code (register v 0) w (with_number 7 w) v
   pub compared_jumps : (code : List ℕ) (v : View) (c : Comparison) (by a b : ℕ) (p : Processor) → Has code v.place (i86.JumpIf (condition_of c) by) → a < 65536 → b < 65536 → words_compare c a b ≡ true → Sees code v p → Compared a b p → Sees code (with_place ((v.place + 2 + sign_extended by) % 65536) v) (processor_step p)
   pub compared_passes : (code : List ℕ) (v : View) (c : Comparison) (by a b : ℕ) (p : Processor) → Has code v.place (i86.JumpIf (condition_of c) by) → a < 65536 → b < 65536 → words_compare c a b ≡ false → Sees code v p → Compared a b p → Sees code (on (i86.JumpIf (condition_of c) by) v) (processor_step p)

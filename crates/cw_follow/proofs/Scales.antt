@@ -17,6 +17,8 @@ use Rattle.cw_unit.specs.Operation.{Rescale, Multiply, perform}
 use Rattle.cw_order.specs.FittingWords.{OperandFits}
 use Rattle.cw_tmpl.specs.Library.{stop_place, product_place}
 use Rattle.cw_routines.specs.Results.{Quiet, InLibrary, WordRoutine}
+use Rattle.cw_routines.proofs.Facts.{fits_tested}
+use Rattle.cw_routines.proofs.Numbers.{fits_true}
 use Rattle.cw_follow.proofs.Chains.{seen, done}
 use Rattle.cw_follow.proofs.Straight.{Pop, Number, Move, DownSigned, Product, straight}
 use Rattle.cw_follow.proofs.Routines.{with_ax}
@@ -25,8 +27,7 @@ use Rattle.cw_follow.proofs.Orders.{Checked, later, further, checks_end}
 use Rattle.cw_order.specs.OrderState.{operand_words}
 use Rattle.cw_follow.proofs.Operands.{Setting, words, allowed, One, Two, result, LandedWith, DoesHere, taking_one, taking_two, guards}
 use Rattle.cw_follow.proofs.Called.{Then, parts, by_routine}
-use Rattle.cw_follow.proofs.Numbers.{fits_tested}
-use Rattle.cw_follow.proofs.Facts.{fits_true, stays_out}
+use Rattle.cw_follow.proofs.Facts.{stays_out}
 use Rattle.cw_follow.proofs.Addresses.{CheckThen, check_of, times_code, product_overflows_is, product_is, times_tested, multiplied}
 use Rattle.cw_follow.proofs.Standing.{HasAll}
 
@@ -65,10 +66,10 @@ module _ (c : Setting) (memory : List ℤ) (input output : List ℕ) where
   shifted_is : (a j : ℕ) → a < 65536 → j ≤ 15 → word_down_signed a (j % 256) ≡ unsigned (floor_div (signed a) (2 ^ j))
   shifted_is a j lt few =
       let e : j % 256 ≡ j = omega arith in
-      ap (word_down_signed a) e ∙ sym (c.rows.words.forth (word_down_signed a j) (c.rows.words.down_fits a j lt)) ∙ ap unsigned (c.rows.words.down a j lt)
+      ap (word_down_signed a) e ∙ sym (c.rows.words.numbers.words.forth (word_down_signed a j) (c.rows.words.numbers.down_fits a j lt)) ∙ ap unsigned (c.rows.words.down a j lt)
 
   pub shifted_fits : (a j : ℕ) → a < 65536 → FitsWord (floor_div (signed a) (2 ^ j))
-  shifted_fits a j lt = subst FitsWord (c.rows.words.down a j lt) (c.rows.words.signed_fits (word_down_signed a j) (c.rows.words.down_fits a j lt))
+  shifted_fits a j lt = subst FitsWord (c.rows.words.down a j lt) (c.rows.words.signed_fits (word_down_signed a j) (c.rows.words.numbers.down_fits a j lt))
 
   pub rescales_down : {p : Watched} {at : ℕ} (to line from scale : ℕ) (operands : List Operand)
       → scale < from → from ≤ 15 → at + 5 ≡ to → operand_words operands < level c.acts → All OperandFits operands
@@ -83,13 +84,13 @@ module _ (c : Setting) (memory : List ℤ) (input output : List ℕ) where
           let j = from - scale in
           let w = words rest memory input output in
           let a = unsigned x in
-          let small : a < 65536 = c.rows.words.unsigned_fits x fx in
+          let small : a < 65536 = c.rows.words.numbers.words.unsigned_fits x fx in
           let few' : j ≤ 15 = omega arith in
           let same : suc (from - scale - 1) ≡ j = omega arith in
           let value : floor_div (signed a) (2 ^ j) ≡ rescaled x from scale =
           sym
-          (ap (floor_scaled x) (down_is from scale lt) ∙ c.rows.words.scaled_down x (from - scale - 1) ∙ ap (λ k. floor_div x (2 ^ k)) same
-          ∙ ap (λ z. floor_div z (2 ^ j)) (sym (c.rows.words.back x fx))) in
+          (ap (floor_scaled x) (down_is from scale lt) ∙ c.rows.words.numbers.scaled_down x (from - scale - 1) ∙ ap (λ k. floor_div x (2 ^ k)) same
+          ∙ ap (λ z. floor_div z (2 ^ j)) (sym (c.rows.words.numbers.words.back x fx))) in
           let acts = Number 1 j ∷ DownSigned 0 ∷ [] in
           let e' : at + 3 + 2 ≡ to = omega arith in
           subst (λ z. DoesHere c memory input output 2 to true line p (put_value z w)) value
@@ -183,19 +184,19 @@ module _ (c : Setting) (memory : List ℤ) (input output : List ℕ) where
     whole = signed (unsigned x) *ℤ signed (unsigned y)
 
     whole_is : whole ≡ x *ℤ y
-    whole_is = ap₂ (λ a b. a *ℤ b) (c.rows.words.back x fx) (c.rows.words.back y fy)
+    whole_is = ap₂ (λ a b. a *ℤ b) (c.rows.words.numbers.words.back x fx) (c.rows.words.numbers.words.back y fy)
 
     whole_fits : FitsSigned w32 whole
-    whole_fits = c.rows.words.product_fits (unsigned x) (unsigned y) (c.rows.words.unsigned_fits x fx) (c.rows.words.unsigned_fits y fy)
+    whole_fits = c.rows.words.numbers.product_fits (unsigned x) (unsigned y) (c.rows.words.numbers.words.unsigned_fits x fx) (c.rows.words.numbers.words.unsigned_fits y fy)
 
     high_fits : product_high (unsigned x) (unsigned y) < 65536
-    high_fits = c.rows.words.high whole whole_fits
+    high_fits = c.rows.words.numbers.high whole whole_fits
 
     low_fits : product_low (unsigned x) (unsigned y) < 65536
-    low_fits = c.rows.words.low whole
+    low_fits = c.rows.words.numbers.low whole
 
     pair_is : signed_pair (product_high (unsigned x) (unsigned y)) (product_low (unsigned x) (unsigned y)) ≡ x *ℤ y
-    pair_is = c.rows.words.halves whole whole_fits ∙ whole_is
+    pair_is = c.rows.words.numbers.halves whole whole_fits ∙ whole_is
 
   pub products_far_down : {p : Watched} {at : ℕ} (to line k : ℕ) (operands : List Operand) → at + 10 ≡ to → 15 ≤ k → k < 30 → operand_words operands < level c.acts → All OperandFits operands
       → HasAll c.image at (i86.Pop 3 ∷ i86.Unary 5 true (rms.Reg 3) ∷ i86.Mov true true 0 (rms.Reg 2) ∷ i86.MovImm 1 (imm.Word (k - 15)) ∷ i86.Shift 7 true true (rms.Reg 0) ∷ [])
@@ -216,7 +217,7 @@ module _ (c : Setting) (memory : List ℤ) (input output : List ℕ) where
           let power : 65536 * 2 ^ j ≡ 2 ^ suc k = sym (pow-add 2 16 j) ∙ ap (λ n. 2 ^ n) s in
           let value : floor_div (signed H) (2 ^ j) ≡ scaled_product x y (negsuc k) =
           ap (λ z. floor_div z (2 ^ j)) (sym (c.rows.words.upper H L lh (low_fits y x fy fx)) ∙ ap (λ z. floor_div z 65536) (pair_is y x fy fx ∙ other_way x y))
-          ∙ c.rows.words.again (x *ℤ y) 65536 (2 ^ j) ∙ ap (floor_div (x *ℤ y)) power ∙ sym (c.rows.words.scaled_down (x *ℤ y) k) in
+          ∙ c.rows.words.again (x *ℤ y) 65536 (2 ^ j) ∙ ap (floor_div (x *ℤ y)) power ∙ sym (c.rows.words.numbers.scaled_down (x *ℤ y) k) in
           let acts = Pop 3 (suc l.top) (unsigned x) ∷ Product 3 ∷ Move 0 2 ∷ Number 1 j ∷ DownSigned 0 ∷ [] in
           let e' : at + 1 + 2 + 2 + 3 + 2 ≡ to = omega arith in
           subst (λ z. DoesHere c memory input output 5 to true line p (put_value z w)) value

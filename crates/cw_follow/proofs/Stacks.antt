@@ -12,9 +12,9 @@ use Rattle.cw_order.specs.declared.order.Orders.{Orders}
 use Rattle.cw_tmpl.specs.Names.{label_start, switch_start, procedure_start}
 use Rattle.cw_tmpl.specs.Named.{is_named_label, is_named_switch}
 use Rattle.cw_tmpl.specs.ReferenceCode.{names_of}
+use Rattle.cw_routines.proofs.Facts.{put_at, put_off}
 use Rattle.cw_follow.specs.Placing.{start_in, label_place, switch_place, procedure_place}
 use Rattle.cw_tmpl.proofs.Sizes.{own_place}
-use Rattle.cw_follow.proofs.Routines.{put_at, put_off}
 
 -- ---- what the words are
 
@@ -111,11 +111,6 @@ pub control_small : (p : OrderProgram) (c : Control) → control_place p c < 655
 control_small p (LabelControl g l owner) = start_small p g (slice_get p.units g) (λ o. label_start (names_of o) l)
 control_small p (SwitchControl g n owner) = start_small p g (slice_get p.units g) (λ o. switch_start (names_of o) n)
 control_small p (ProcedureControl g q) = start_small p g (slice_get p.units g) (λ o. procedure_start (names_of o) q)
-
--- the words of the operands, and those of the activations
-pub words_split : (operands : List Operand) (acts : List OrderActivation) → stack_words operands acts ≡ operand_words operands + stack_words [] acts
-words_split operands [] = omega arith
-words_split operands (a ∷ acts) = omega arith
 
 pub words_append : (xs ys : List Operand) → operand_words (xs ++ ys) ≡ operand_words xs + operand_words ys
 words_append [] ys = omega arith

@@ -1,5 +1,5 @@
 -- Instructions and words that stand one after another in an image, and where those of each order do.
-use Rattle.std.proofs.Common.{◌≡◌, ℕ, zero, suc, ◌+◌, ◌<◌, Bool, true, false, List, [], ◌∷◌, ◌++◌, length, drop, Option, Some, None, refl, ap, ◌∙◌, subst, arith, length-append}
+use Rattle.std.proofs.Common.{◌≡◌, ℕ, zero, suc, ◌+◌, ◌<◌, Bool, true, false, List, [], ◌∷◌, ◌++◌, length, drop, Option, Some, None, refl, subst, arith, length-append}
 use Rattle.std.specs.Prelude.{◌&&◌, slice_get}
 use Rattle.cw_i86.specs.Encoding.{bytes_of}
 use Rattle.cw_i86.specs.declared.instr.Instr.{Instr}
@@ -25,7 +25,6 @@ use Rattle.cw_tmpl.specs.Library.{entry_place, library_bytes}
 use Rattle.cw_routines.specs.Ways as ways
 use Rattle.cw_routines.specs.Results.{Stands as LibraryStands}
 use Rattle.cw_tmpl.specs.Templates.{entry_pieces, segment_word, landing_pieces, switch_pieces}
-use Rattle.cw_tmpl.proofs.Growing.{blanks-append}
 use Rattle.cw_tmpl.specs.Blocks.{block_at, left_at}
 use Rattle.cw_tmpl.specs.ReferenceCode.{names_of}
 use Rattle.cw_follow.specs.Placing.{Fills, base_of}
@@ -85,10 +84,6 @@ HasPiecesFrom first code value at (p ∷ ps) = HasPieceAt first code (word_befor
 
 abbrev pub HasPieces : Image → Filling → ℕ → List Coded → Type 0
 HasPieces code value at ps = HasPiecesFrom false code value at ps
-
--- two pieces of code, one behind the other
-pub appended_long : (a b : List Coded) → length (blanks (a ++ b)) ≡ length (blanks a) + length (blanks b)
-appended_long a b = ap length (blanks-append a b) ∙ length-append (blanks a) (blanks b)
 
 pub stand_both : (code : Image) (value : Filling) (at : ℕ) (ps qs : List Coded) → HasPieces code value at (ps ++ qs) → HasPieces code value at ps × HasPieces code value (at + length (blanks ps)) qs
 stand_both code value at [] qs h = let here : at ≡ at + 0 = omega arith in (tt, subst (λ n. HasPieces code value n qs) here h)

@@ -1,12 +1,12 @@
 -- How states of the machine of orders and of the processor match.
-use Rattle.std.proofs.Common.{◌≡◌, ◌≢◌, ◌⊎◌, ℕ, zero, suc, ◌+◌, ◌-◌, ◌≤◌, Bool, true, false, List, [], ◌∷◌, length, drop, Option, Some, None, refl, ap, ◌∙◌, arith}
+use Rattle.std.proofs.Common.{◌≡◌, ◌≢◌, ℕ, zero, suc, ◌+◌, ◌-◌, ◌≤◌, Bool, true, false, List, [], ◌∷◌, length, drop, Option, Some, None, refl, ap, ◌∙◌, arith}
 use Rattle.std.specs.Prelude.{slice_get, nat_le}
 use Rattle.std.specs.List.{All}
 use Rattle.std.proofs.lemmas.Bool.{leb-true}
 use Rattle.std.proofs.lemmas.Option.{slice_get_within}
 use Rattle.cw_track.specs.Machine.{shown_after}
 use Rattle.cw_follow.proofs.Watched.{Watched}
-use Rattle.cw_unit.specs.Stop.{Running, Ended, Stopped, Stuck}
+use Rattle.cw_unit.specs.Stop.{Running, Stuck}
 use Rattle.cw_unit.specs.Words.{Words, Changed}
 use Rattle.cw_order.specs.declared.order.Order.{Order}
 use Rattle.cw_order.specs.declared.order.Orders.{Orders}
@@ -21,7 +21,6 @@ use Rattle.cw_follow.specs.Passing.{PlacesStand}
 use Rattle.cw_follow.proofs.Standing.{order_place, AllStand, Image}
 use Rattle.cw_follow.proofs.InBlocks.{silently, loaded_silently}
 use Rattle.cw_follow.proofs.Rows.{Rows}
-use Rattle.cw_follow.proofs.Routines.{Over}
 use Rattle.cw_follow.proofs.Orders.{Landed, CalledAt}
 
 -- what is known of a program and its image, and of the places of its statements
@@ -122,12 +121,6 @@ pub record Starting (p : OrderProgram) (image : Image) (g place : ℕ) (loaded :
 abbrev pub LastStarts : OrderProgram → Image → (g place : ℕ) → (loaded : Bool) → List OrderActivation → Words → Watched → Type 0
 LastStarts p image g place loaded [] w q = ⊥
 LastStarts p image g place loaded (a ∷ acts) w q = Starting p image g place loaded a acts w q
-
-abbrev pub Matches : OrderProgram → Image → OrderState → Watched → Type 0
-Matches p image (at g place loaded acts w Running) q = Sound p image g place loaded acts w q ⊎ LastStarts p image g place loaded acts w q
-Matches p image (at g place loaded acts w Ended) q = Over (record { output = w.output; end = Ended }) q
-Matches p image (at g place loaded acts w (Stopped kind s l)) q = Over (record { output = w.output; end = Stopped kind s l }) q
-Matches p image (at g place loaded acts w Stuck) q = ⊥
 
 -- the orders that are left
 abbrev pub length_in : Option Orders → ℕ

@@ -1,7 +1,6 @@
 -- One step of the orders, and how the processor comes to the next state.
 use Rattle.std.proofs.Common.{◌≡◌, inl, inr, ℕ, zero, suc, ◌+◌, ◌-◌, ◌*◌, ◌%◌, ◌<◌, ◌≤◌, Bool, true, false, List, [], ◌∷◌, length, drop, Option, Some, None, refl, sym, ap, ap₂, ◌⊎◌, ◌∙◌, subst, arith, lit<}
-use Rattle.std.specs.Prelude.{slice_get, nat_le}
-use Rattle.std.proofs.lemmas.Bool.{false≢true, le-leb, cases_lt}
+use Rattle.std.specs.Prelude.{slice_get}
 use Rattle.std.proofs.lemmas.Option.{slice_get_within}
 use Rattle.cw_track.proofs.Paths.{Path, weaken}
 use Rattle.cw_track.proofs.Simulations.{Quiet}
@@ -27,7 +26,7 @@ use Rattle.cw_tmpl.specs.declared.blocks.Block.{Block}
 use Rattle.cw_tmpl.specs.declared.blocks.Block.TheVariants as block
 use Rattle.cw_tmpl.specs.Blocks.{block_at, orders_left, left_at}
 use Rattle.cw_tmpl.specs.Library.{places_of_entries, entry_place}
-use Rattle.cw_tmpl.specs.Templates.{block_size, distance, template_by, is_close}
+use Rattle.cw_tmpl.specs.Templates.{block_size, template_by, is_close}
 use Rattle.cw_tmpl.specs.ShortForms.{is_short, jump_of}
 use Rattle.cw_tmpl.specs.ReferenceCode.{mark_starts, names_of, reach_of}
 use Rattle.cw_follow.specs.Placing.{base_of}
@@ -36,12 +35,13 @@ use Rattle.cw_follow.proofs.Standing.{HasPiecesFrom, first_of, behind_start, ord
 use Rattle.cw_follow.proofs.InBlocks.{slice_drop, size_split, left_split, begins_at, chain, puts_word, silently, silently_next, never_writes, loaded_then, loaded_silently, loaded_next}
 use Rattle.cw_follow.proofs.Chains.{at_work}
 use Rattle.cw_follow.proofs.Routines.{Over, leads_on}
-use Rattle.cw_follow.proofs.Stacks.{level, words_split}
+use Rattle.cw_follow.proofs.Stacks.{level}
 use Rattle.cw_follow.proofs.Orders.{Landed, Leading, Does, Tells, Chooses, LandedAt, over_landed}
 use Rattle.cw_follow.proofs.Operands.{Setting}
 use Rattle.cw_follow.proofs.States.{Given, Never, Sound, Arrived, LastStarts, length_in, left, never_on, not_stuck, went_on, before_block}
 use Rattle.cw_tmpl.proofs.Reaching.{closes}
 use Rattle.cw_order.specs.declared.order.Orders.{Orders}
+use Rattle.cw_order.proofs.StandingActivations.{words_split}
 
 -- ---- places
 
@@ -64,16 +64,6 @@ under_low (suc n) le = omega arith
 pub under_is : (top : ℕ) → top ≤ 32764 → 2 * top ≡ 2 * suc (under top) % 65536
 under_is zero le = refl
 under_is (suc n) le = omega arith
-
-pub arrives_at : (base own size to : ℕ) → (base + own + size + 5 + distance (own + size + 5) to) % 65536 ≡ (base + to) % 65536
-arrives_at base own size to = omega arith
-
--- a number that is not at most another one is above it
-pub above : (a b : ℕ) → nat_le a b ≡ false → b < a
-above a b h = elim (cases_lt b a) as (λ _. b < a) [
-  | inl lt ↦ lt
-  | inr ge ↦ let yes : nat_le a b ≡ true = le-leb a b ge in absurd (false≢true (sym h ∙ yes))
-]
 
 -- an order that may have no code
 abbrev pub is_codeless : Order → Bool
@@ -200,10 +190,6 @@ module _ (known : Given) where
         (subst (λ x. Arrives x d.reached) (sym on.goes) (inl (sound_at (place + 1) m v d.reached begins on.goes d.there)))
     tells m (Refused kind) limit begins e paid d = absurd d
     tells m Impossible limit begins e paid d = absurd (not_stuck p g place m acts w (never_next (at g place m acts w Stuck) e))
-
-    -- where the block begins
-    abbrev pub rest : List Order
-    rest = drop s.from s.orders.list
 
     abbrev pub start_place : ℕ
     start_place = order_place (base_of p g) s.orders s.from

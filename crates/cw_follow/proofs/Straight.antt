@@ -182,7 +182,6 @@ module _ (rows : Rows) where
   -- none of them tells anything
   quiet : (a : Act) (v : View) → (after a v).told ≡ v.told
   quiet (Number r w) v = refl
-  quiet (Pop r n w) v = refl
   quiet _ v = refl
 
   -- all of them, and the way on

@@ -20,8 +20,9 @@ use Rattle.cw_tmpl.proofs.Sizes.{size_everywhere, own_place}
 use Rattle.cw_order.specs.BeginsStatement.{BeginsStatement}
 use Rattle.cw_order.specs.declared.order.Order.TheVariants as order
 use Rattle.cw_order.specs.OrderProgram.{order_in}
+use Rattle.cw_run86.proofs.Sizes.{some_bytes}
 use Rattle.cw_follow.specs.Placing.{base_of, Codable}
-use Rattle.cw_follow.proofs.Sized.{instr_some, piece_some}
+use Rattle.cw_follow.proofs.Sized.{piece_some}
 use Rattle.cw_follow.specs.Passing.{size_at, NotBehindStart, PlacesStand}
 use Rattle.cw_follow.proofs.Bytes as raw
 use Rattle.cw_follow.proofs.Standing.{Image, HasPieceAt, HasPiecesFrom, may_begin, first_of, is_start, behind_start, order_place, pieces_at, Stands, AllStand}
@@ -32,18 +33,7 @@ use Rattle.cw_follow.proofs.StatementPlaces.{total_next, own_is}
 one_strong : (first : Bool) (image : Image) (w place : ℕ) (p : Coded) → raw.HasPiece image.bytes w place p → (first ≡ false → lines_at image.places place ≡ []) → HasPieceAt first image w place p
 one_strong first image w place (coded.Word t) h free = h
 one_strong first image w place (coded.Data n) h free = h
-one_strong first image w place (coded.Whole i) h free = record { there = h; free = free }
-one_strong first image w place (coded.Move reg t) h free = record { there = h; free = free }
-one_strong first image w place (coded.Sum reg t) h free = record { there = h; free = free }
-one_strong first image w place (coded.Fetch reg t) h free = record { there = h; free = free }
-one_strong first image w place (coded.Load t) h free = record { there = h; free = free }
-one_strong first image w place (coded.Store t) h free = record { there = h; free = free }
-one_strong first image w place (coded.PushCode t) h free = record { there = h; free = free }
-one_strong first image w place (coded.Operate op reg t) h free = record { there = h; free = free }
-one_strong first image w place (coded.Change op reg t) h free = record { there = h; free = free }
-one_strong first image w place (coded.Call t) h free = record { there = h; free = free }
-one_strong first image w place (coded.Jump t) h free = record { there = h; free = free }
-one_strong first image w place (coded.Way t) h free = record { there = h; free = free }
+one_strong first image w place _ h free = record { there = h; free = free }
 
 pieces_strong : (first : Bool) (image : Image) (value : Filling) (at : ℕ) (ps : List Coded) → raw.HasPieces image.bytes value at ps
     → ((n : ℕ) → n < length (blanks ps) → (n ≡ 0 → first ≡ false) → lines_at image.places (at + n) ≡ []) → HasPiecesFrom first image value at ps
@@ -65,18 +55,8 @@ pieces_strong first image value at (p ∷ ps) h free =
 piece_below : (first : Bool) (image : Image) (w place : ℕ) (p : Coded) → HasPieceAt first image w place p → place < length image.bytes
 piece_below first image w place (coded.Word t) h = let within = h.within in omega arith
 piece_below first image w place (coded.Data n) h = let within = h.within in omega arith
-piece_below first image w place (coded.Whole i) h = let within = h.there.within in let some = instr_some i in omega arith
-piece_below first image w place (coded.Move reg t) h = let within = h.there.within in omega arith
-piece_below first image w place (coded.Sum reg t) h = let within = h.there.within in omega arith
-piece_below first image w place (coded.Fetch reg t) h = let within = h.there.within in omega arith
-piece_below first image w place (coded.Load t) h = let within = h.there.within in omega arith
-piece_below first image w place (coded.Store t) h = let within = h.there.within in omega arith
-piece_below first image w place (coded.PushCode t) h = let within = h.there.within in omega arith
-piece_below first image w place (coded.Operate op reg t) h = let within = h.there.within in omega arith
-piece_below first image w place (coded.Change op reg t) h = let within = h.there.within in omega arith
-piece_below first image w place (coded.Call t) h = let within = h.there.within in omega arith
-piece_below first image w place (coded.Jump t) h = let within = h.there.within in omega arith
-piece_below first image w place (coded.Way t) h = let within = h.there.within in omega arith
+piece_below first image w place (coded.Whole i) h = let within = h.there.within in let some = some_bytes i in omega arith
+piece_below first image w place _ h = let within = h.there.within in omega arith
 
 pub pieces_below : (first : Bool) (image : Image) (value : Filling) (at : ℕ) (ps : List Coded) → 0 < length (blanks ps) → HasPiecesFrom first image value at ps → at < length image.bytes
 pieces_below first image value at [] some h = absurd (omega arith)

@@ -39,7 +39,7 @@ use Rattle.cw_follow.proofs.Straight.{Number, Move, LoadArgument, straight}
 use Rattle.cw_follow.proofs.Routines.{with_ax, leads_then}
 use Rattle.cw_follow.proofs.Named.{shared_switch_named}
 use Rattle.cw_follow.proofs.Stacks.{SwitchNamed, control_small, OperandsAre, owner_above, level, record_of, top_is}
-use Rattle.cw_follow.proofs.Orders.{Kept, further}
+use Rattle.cw_follow.proofs.Orders.{Kept, Landed, further}
 use Rattle.cw_follow.proofs.States.{Given, Sound}
 use Rattle.cw_follow.proofs.Leaving.{argument_of}
 use Rattle.cw_follow.proofs.Tables.{goal_word_is, switches_to, switches_stop}
@@ -66,6 +66,12 @@ module _ (known : Given) where
     pub owner_is : si ≡ record_of (drop (length acts - owner) acts)
     pub low_top : suc below_top ≤ level acts
     pub kept : Kept p g acts w.memory w.input w.output cells stack left_input told
+
+  at_switch : {start place g line owner : ℕ} {loaded : Bool} {acts : List OrderActivation} {z : ℤ} {w : Words} {u q : Watched} (d : Landed p image start g loaded acts w u) (below_top cx bx si : ℕ) (overflow : Bool)
+      → Is image place (view (unsigned z) cx line bx (2 * suc below_top) (record_of acts) si p.limits.area overflow d.cells d.stack d.input d.told) q
+      → si ≡ record_of (drop (length acts - owner) acts) → suc below_top ≤ level acts → AtSwitch place g line acts owner z w q
+  at_switch d below_top cx bx si overflow is owner_is low_top =
+      record { cx = cx; bx = bx; si = si; below_top = below_top; overflow = overflow; cells = d.cells; stack = d.stack; left_input = d.input; told = d.told; is = is; owner_is = owner_is; low_top = low_top; kept = d.kept }
 
   pub goes_through_switch : {q : Watched} {g place : ℕ} {acts : List OrderActivation} {w : Words} (s : Sound p image g place true acts w q) (by_itself : Alone p image g place true acts w q s.orders) (line steps to n owner : ℕ) (z : ℤ) (rest : List Operand)
       → line < 65536 → SwitchNamed p to n
@@ -171,21 +177,7 @@ module _ (known : Given) where
           let there : (here + 3 + 2 + 3 + by) % 65536 ≡ switch_place p to n % 65536 = omega arith in
           let start = with_ax held.0 (subst (λ x. Is image here (view r.ax r.cx r.dx r.bx (2 * x) bp r.si p.limits.area r.overflow d.cells d.stack d.input d.told) q) same r.is) in
           straight rows (Number 2 line ∷ Move 6 5 ∷ []) {n = 1} d.kept.wrote (i.0, (i.1.0, tt)) (tt, (tt, tt)) start (λ u x.
-          last rows x d.kept.wrote (record {
-            cx = r.cx;
-            bx = r.bx;
-            si = bp;
-            below_top = m;
-            overflow = r.overflow;
-            cells = d.cells;
-            stack = d.stack;
-            left_input = d.input;
-            told = d.told;
-            is = to_place there (near rows by i.1.1.0 x);
-            owner_is = owned known s by_itself;
-            low_top = omega arith;
-            kept = d.kept;
-          }))
+          last rows x d.kept.wrote (at_switch d m r.cx r.bx bp r.overflow (to_place there (near rows by i.1.1.0 x)) (owned known s by_itself) (omega arith)))
 
   pub no_word : (line : ℕ) (x : Option (List Goal)) (xs : List Operand) (to owner g place : ℕ) (loaded : Bool) (acts : List OrderActivation) (w : Words)
       → ((z : ℤ) (rest : List Operand) → xs ≢ Word z ∷ rest) → go_by_list p line x xs to owner g place loaded acts w ≡ at g place loaded acts w Stuck
@@ -299,18 +291,4 @@ module _ (known : Given) where
           let whole : to_routine ≡ to_routine % 65536 = omega arith in
           straight rows (Number 2 line ∷ LoadArgument 6 (k + 1) (suc (l + 6 + k)) owner_word ∷ LoadArgument 3 k (l + 6 + k) to_routine ∷ []) {n = 1} d.kept.wrote (i.0, (i.1.0, (i.1.1.0, tt)))
           (tt, ((la', there', refl), ((la, there, arg.0), tt))) start (λ u x.
-          last rows x d.kept.wrote (record {
-            cx = r.cx;
-            bx = to_routine;
-            si = owner_word;
-            below_top = m;
-            overflow = r.overflow;
-            cells = d.cells;
-            stack = d.stack;
-            left_input = d.input;
-            told = d.told;
-            is = jump_to rows 3 to_routine whole i.1.1.1.0 x;
-            owner_is = owner_is;
-            low_top = omega arith;
-            kept = d.kept;
-          }))
+          last rows x d.kept.wrote (at_switch d m r.cx to_routine owner_word r.overflow (jump_to rows 3 to_routine whole i.1.1.1.0 x) owner_is (omega arith)))

@@ -161,7 +161,7 @@ module _ (c : Setting) (memory : List ℤ) (input output : List ℕ) where
     number_from : (n : ℕ) → n < 65536 → NamedFrom c memory input output at 0 (simple.Number n) (signed n) operands p
     number_from n small x rest is =
         let l' = subst (λ xs. Landed c.program c.image at c.g true c.acts (words xs memory input output) p) is l in
-        done (number_named c memory input output n (signed n) x rest (sym (c.rows.words.forth n small)) l' (some_room x rest l' (subst (λ xs. operand_words xs < level c.acts) is room)))
+        done (number_named c memory input output n (signed n) x rest (sym (c.rows.words.numbers.words.forth n small)) l' (some_room x rest l' (subst (λ xs. operand_words xs < level c.acts) is room)))
 
     word_from : (f n offset k : ℕ) → k < c.program.limits.area → offset ≡ 2 * k → NamedFrom c memory input output at offset (simple.Contents (cell.Word f n)) (word_at memory k) operands p
     word_from f n offset k within e x rest is =
@@ -201,7 +201,7 @@ module _ (c : Setting) (memory : List ℤ) (input output : List ℕ) {p : Watche
       let s = l.stacked in
       let y : ℤ = signed n in
       let fy : FitsWord y = c.rows.words.signed_fits n lt in
-      let en : n ≡ unsigned y = sym (c.rows.words.forth n lt) in
+      let en : n ≡ unsigned y = sym (c.rows.words.numbers.words.forth n lt) in
       let tests : product_overflows s.ax n ≡ not (fits_word (x *ℤ y)) = ap₂ product_overflows l.operands.0 en ∙ product_overflows_is c.rows x y fx fy in
       let low : FitsWord (x *ℤ y) → product_low s.ax n ≡ unsigned (x *ℤ y) = λ f. ap₂ product_low l.operands.0 en ∙ product_is c.rows x y fx fy f in
       later c.program c.image 14 to c.g true line c.acts 2 24 (put_value (scaled_product x y (pos 0)) (words rest memory input output)) (lit≤ tt)
@@ -296,12 +296,7 @@ module _ (known : Given) where
 
     pub costs : (u : Use) → bound u ≤ weight_of (order_of u)
     costs (uses.Add line) = lit≤ tt
-    costs (uses.Subtract line) = lit≤ tt
-    costs (uses.Multiply line) = lit≤ tt
-    costs uses.Mask = lit≤ tt
-    costs uses.Union = lit≤ tt
-    costs uses.Differ = lit≤ tt
-    costs (uses.Compare c m) = lit≤ tt
+    costs _ = lit≤ tt
 
     -- the code of a block from its operand on
     abbrev pub Code : Simple → Use → Type 0
@@ -442,10 +437,7 @@ module _ (known : Given) where
     addressed n (uses.Add line) h i = (i.0, tt)
     addressed n (uses.Subtract line) h i = (i.0, tt)
     addressed n (uses.Multiply line) h i = absurd h
-    addressed n uses.Mask h i = (i.0, tt)
-    addressed n uses.Union h i = (i.0, tt)
-    addressed n uses.Differ h i = (i.0, tt)
-    addressed n (uses.Compare c m) h i = (i.0, tt)
+    addressed n _ h i = (i.0, tt)
 
     -- what the orders of a word of the frame do
     abbrev fetched_frame : ℕ → Outcome

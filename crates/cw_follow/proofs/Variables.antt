@@ -1,5 +1,5 @@
 -- What the orders on the control variable of a loop do, by the routines of the library.
-use Rattle.std.proofs.Common.{◌≡◌, ℕ, zero, suc, ◌+◌, ◌-◌, ◌*◌, ◌%◌, ◌<◌, ◌≤◌, Bool, true, false, ℤ, pos, negsuc, ◌+ℤ◌, List, [], ◌∷◌, set, refl, sym, subst, arith, lit≤}
+use Rattle.std.proofs.Common.{◌∙◌, ◌≡◌, ℕ, zero, suc, ◌+◌, ◌-◌, ◌*◌, ◌%◌, ◌<◌, ◌≤◌, Bool, true, false, ℤ, pos, negsuc, ◌+ℤ◌, List, [], ◌∷◌, set, refl, sym, subst, arith, lit≤}
 use Rattle.std.specs.List.{All}
 use Rattle.std.specs.Prelude.{nat_lt}
 use Rattle.std.proofs.lemmas.List.Elements.{All-head, All-tail}
@@ -19,11 +19,11 @@ use Rattle.cw_tmpl.specs.Mnemonics.{dx, set_word}
 use Rattle.cw_tmpl.specs.Library.{set_variable_place, add_step_place, put_variable_place}
 use Rattle.cw_routines.specs.Ways.{Within}
 use Rattle.cw_routines.specs.Results.{Quiet, Holds, Ends, Fetched, Fetches}
+use Rattle.cw_routines.proofs.Facts.{put_at, unsigned_pos}
 use Rattle.cw_follow.proofs.Watched.{Watched, fresh}
 use Rattle.cw_follow.proofs.Chains.{Is, Leads, view, to_place, call, last}
 use Rattle.cw_follow.proofs.Straight.{Number, straight}
-use Rattle.cw_follow.proofs.Routines.{Over, put_at, with_ax, quiet_in, quiet_library, flags_of, arrives, returned, lifted, over, joined, Around}
-use Rattle.cw_follow.proofs.Numbers.{unsigned_pos}
+use Rattle.cw_follow.proofs.Routines.{Over, with_ax, quiet_in, quiet_library, flags_of, arrives, returned, lifted, over, joined, Around}
 use Rattle.cw_follow.proofs.Stacks.{level, record_of, StackIs, top_is, same_put, stack_same}
 use Rattle.cw_follow.proofs.Orders.{Kept, kept_same, kept_under, Landed, Leading, landed}
 use Rattle.cw_follow.proofs.Operands.{Setting, words, LandedWith, DoesHere, tells}
@@ -195,8 +195,6 @@ module _ (c : Setting) (memory : List ℤ) (input output : List ℕ) where
       → operand_words operands < level c.acts
       → LineCode at line by → LandedWith c memory input output at true operands p
       → DoesHere c memory input output 21 to false line p (add_step c.program.limits.area (words operands memory input output))
-  adds_step to by line [] e there small all room i l = tt
-  adds_step to by line (Held d ∷ rest) e there small all room i l = tt
   adds_step {p} to by line (Word a ∷ rest) e there small all room i l =
       let area_low = c.low in
       at_loop p 21 to (c.program.limits.area - 1) line false (λ n. perform c.program.limits.area (AddStep n) (words rest memory input output)) a (omega arith) (λ n within same.
@@ -211,6 +209,7 @@ module _ (c : Setting) (memory : List ℤ) (input output : List ℕ) where
             r.cx l.stacked.bx r.si (flags_of q) r.cells r.stack r.left r.told
             (words rest memory input output) q.processor (omega arith) (holds all r.kept) small (omega arith) r.way (omega arith) (tells c memory input output r.kept) (arrives (with_ax same r.is));
       }))
+  adds_step to by line _ e there small all room i l = tt
 
   -- the value of the variable below the address of the loop
   abbrev variable_put : Bool → (a z : ℤ) → Words → Outcome
@@ -252,9 +251,9 @@ module _ (c : Setting) (memory : List ℤ) (input output : List ℕ) where
           let low = r.low in
           let x = word_at memory (number_of (word_at memory n)) in
           landed c.rows c.program c.image c.g c.acts true to r.top (Word a ∷ Word x ∷ rest) memory input output refl
-          (sym same, (f.word_is, stack_same c.program c.acts r.stack f.stack (suc r.top) rest (λ k le. f.above k (omega arith)) r.under))
+          (f.back.answers ∙ sym same, (f.word_is, stack_same c.program c.acts r.stack f.stack (suc r.top) rest (λ k le. f.above k (omega arith)) r.under))
           (kept_same f.stack (λ k le. f.above k (omega arith)) r.kept)
-          (to_place (let m : to % 65536 % 65536 ≡ to % 65536 = omega arith in m) (returned q r.is.ignores f.is)))
+          (to_place (let m : to % 65536 % 65536 ≡ to % 65536 = omega arith in m) (returned q r.is.ignores f.back.is)))
       puts n within same false is =
           runs 1 16 18 (lit≤ tt) (reaches_at_line to put_variable_place by line a rest e there room i l) (λ q r. law n within same false is q r)
           (λ q r u f. subst (λ x. Over (record { output = x; end = Stopped AddressRange (c.g + 1) line }) (fresh q.places q.area u)) r.kept.wrote (over q f))

@@ -42,7 +42,7 @@ fresh places area q = record { places = places; area = area; processor = q; over
 abbrev pub over : Bool → Watched → Watched
 over first q = record { places = q.places; area = q.area; processor = q.processor; overlooks = first; begun = q.begun }
 
-nothing_begins : (e : End) → at_work e [] ≡ []
+pub nothing_begins : (e : End) → at_work e [] ≡ []
 nothing_begins Running = refl
 nothing_begins _ = refl
 

@@ -20,6 +20,7 @@ use Rattle.cw_tmpl.specs.ShortForms.{check_of, jump_of, is_short}
 use Rattle.cw_tmpl.specs.ReferenceCode.{names_of, reach_of}
 use Rattle.cw_tmpl.proofs.Endings.{checked_long, one_form, rescale_forms, product_forms, quotient_forms}
 use Rattle.cw_tmpl.proofs.Sizes.{own_place, size_by, size_everywhere}
+use Rattle.cw_routines.proofs.Begins.{not_within}
 use Rattle.cw_follow.proofs.Watched.{Watched}
 use Rattle.cw_follow.proofs.Standing.{HasPieces, HasPiecesFrom, first_of, behind_start, Image}
 use Rattle.cw_follow.proofs.States.{Given, Sound}
@@ -31,7 +32,7 @@ use Rattle.cw_follow.proofs.Addresses.{times_code, test_place}
 use Rattle.cw_follow.proofs.Elements.{forms_element, forms_element_of_two, forms_element_inside, forms_entry}
 use Rattle.cw_follow.proofs.Scales.{rescales_up, rescales_down, products, products_up, products_down, products_far_down}
 use Rattle.cw_follow.proofs.Divisions.{divides_up, divides_down}
-use Rattle.cw_follow.proofs.Steps.{Follow, Alone, step_is, does, by, calls, setting, cheap, has_code, line_fits, low_room, here, next, code, behind, begins_next, above}
+use Rattle.cw_follow.proofs.Steps.{Follow, Alone, step_is, does, by, calls, setting, cheap, has_code, line_fits, low_room, here, next, code, behind, begins_next}
 use Rattle.cw_tmpl.specs.declared.blocks.Block.TheVariants as block
 
 -- A multiplication by a number, whose code hangs on whether that is 32,768: where it stands with a check behind it, its parts do, and where the check is.
@@ -120,7 +121,7 @@ module _ (known : Given) where
         let o = order.Rescale from to line in
         let t = whole o (λ t. rescale_if t (2 ^ (to - from) == 32768) line from to) (nat_le from to) refl e refl (ap (λ up. if up then Some line else None) is) refl refl false is in
         does known s true line (perform p.limits.area (Rescale from to) w) 2 (begins_next known s a o e) (step_is known s (Some o) e) (cheap known s o 2 (lit≤ tt) e)
-        (rescales_down (setting known s) w.memory w.input w.output (next known s a) line from to w.operands (above from to is) (has_code known s o e).0 t.ends (low_room known s) s.fits.operands t.stands a.landed)
+        (rescales_down (setting known s) w.memory w.input w.output (next known s a) line from to w.operands (not_within from to is) (has_code known s o e).0 t.ends (low_room known s) s.fits.operands t.stands a.landed)
 
     pub rescale_follows : (from to line : ℕ) → slice_get s.orders.list place ≡ Some (order.Rescale from to line) → Follow known (at g place true acts w Running) q
     rescale_follows from to line e = rescaling from to line e (nat_le from to) refl

@@ -76,7 +76,7 @@ module _ (known : Given) where
         let n = suc k in
         let o = order.Const n in
         let small : n < 65536 = coded.constants g place n (order_is known s (Some o) e) in
-        put_is o n (signed n) e refl (lit≤ tt) (sym (rows.words.forth n small)) (behind known s a o e) (code known s a o e).0
+        put_is o n (signed n) e refl (lit≤ tt) (sym (rows.words.numbers.words.forth n small)) (behind known s a o e) (code known s a o e).0
 
     pub home_follows : (family offset : ℕ) → slice_get s.orders.list place ≡ Some (order.Home family offset) → FollowFrom known (begun_here known s) (at g place false acts w Running) q
     home_follows family offset e =
@@ -84,7 +84,7 @@ module _ (known : Given) where
         let st = all.stands g s.orders s.unit in
         let word = home_word p.addresses g family offset in
         let small : word < 65536 = omega arith in
-        put_is o (st.value 1 family offset (here known s a + 3)) (signed word) e refl (lit≤ tt) (st.fills.homes family offset (here known s a + 3) ∙ sym (rows.words.forth word small))
+        put_is o (st.value 1 family offset (here known s a + 3)) (signed word) e refl (lit≤ tt) (st.fills.homes family offset (here known s a + 3) ∙ sym (rows.words.numbers.words.forth word small))
         (behind known s a o e) (code known s a o e).0
 
     pub read_follows : slice_get s.orders.list place ≡ Some order.ReadByte → FollowFrom known (begun_here known s) (at g place false acts w Running) q

@@ -16,14 +16,14 @@ ghost use Rattle.cw_follow.specs.Placing.{IsImage, Codable, BeginsWith, NeverStu
 
 use cw_order::laws::{activations, words};
 use cw_routines::laws::{
-    bodies, calls, loops, numbers as products_and_quotients, pieces, standing,
+    bodies, calls, loops, numbers as products_and_quotients, pieces, standing, word_laws,
 };
 use cw_rows86::laws::{acting, conditions, jumping};
 use cw_run86::laws::{
     arithmetic, comparing, comparing_below, fetching, fields as stack_fields, jumps, logic, memory,
     moves, multiplying, numbers, offsets, ports, shifting, stacking, starting, tables,
 };
-use cw_word::laws::{fields, many_places, masks, products, quotients, readings, scaling, sums};
+use cw_word::laws::{fields, many_places, masks, readings, scaling, sums};
 
 /// Started with the image of a program of orders, the processor shows what the machine of the orders shows, and begins the statements
 /// that it begins, with the words of the data area: nothing else, and all of it, where each order pays for the instructions that carry
@@ -39,12 +39,11 @@ pub fn code_follows_orders()
     sums();
     fields();
     masks();
-    products();
-    quotients();
     scaling();
     many_places();
     words();
     activations();
+    word_laws();
     fetching();
     starting();
     moves();

@@ -1,16 +1,17 @@
 -- What is known of a statement by its first layer: its orders, and whether a run may come to its end.
-use Rattle.std.proofs.Common.{◌≡◌, ℕ, List, [], ◌∷◌, map, Bool, true, false, Option, refl, sym, ap, ◌∙◌}
+use Rattle.std.proofs.Common.{◌≡◌, ℕ, ◌+◌, List, [], ◌∷◌, map, Bool, true, false, Option, refl, sym, ap, ◌∙◌}
 use Rattle.std.specs.Prelude.{not, ◌&&◌, if◌then◌else◌}
 use Rattle.std.proofs.lemmas.Bool.{false≢true}
 use Rattle.cw_order.specs.declared.order.Order.{Order}
 use Rattle.cw_order.specs.declared.order.Order.TheVariants as order
 use Rattle.cw_unit.specs.declared.unit.Proc.{Proc}
-use Rattle.cw_unit.specs.declared.unit.Stmt.{Stmt, Stmt-F, out-Stmt, roll-Stmt, map-Stmt}
+use Rattle.cw_unit.specs.declared.unit.Stmt.{Stmt, Stmt-F, out-Stmt, roll-Stmt, map-Stmt, fold-Stmt, fold_out-Stmt}
 use Rattle.cw_unit.specs.declared.unit.Stmt.TheFolds.{para-roll-Stmt}
 use Rattle.cw_unit.specs.declared.unit.Stmt.TheViews.{roll-out-Stmt}
 use Rattle.cw_unit.specs.declared.unit.Stmt.TheOpen as statement
 use Rattle.cw_gen_expr.specs.Pieces.{Piece, followed_by, sequence}
 use Rattle.cw_gen_expr.specs.ReferenceExpressions.{Scope, argument_words}
+use Rattle.cw_gen_expr.proofs.Layers.{total}
 use Rattle.cw_gen_unit.specs.Endings.{is_no_statement, is_empty, ending_step, comes_to_end}
 use Rattle.cw_gen_unit.specs.ReferenceStatements.{jump_past, statement_step, statement_piece}
 use Rattle.cw_gen_unit.specs.ReferenceUnits.{leave_orders}
@@ -90,3 +91,21 @@ no-statement x h = absurd (false≢true h)
 -- its first layer is the list of none
 pub empty-is : (t : Stmt) → is_empty t ≡ true → out-Stmt t ≡ statement.Seq []
 empty-is t h = no-statement (out-Stmt t) h
+
+-- ---- its size: how many statements stand in it
+
+abbrev size_step : Stmt-F ℕ → ℕ
+size_step (statement.If line c a b) = 1 + (a + b)
+size_step (statement.For line item r es a) = 1 + a
+size_step (statement.Seq ss) = 1 + total ss
+size_step (statement.Mark ls a) = 1 + a
+size_step _ = 0
+
+abbrev pub statement_size : Stmt → ℕ
+statement_size = fold-Stmt ℕ size_step
+
+abbrev pub size_layer : Stmt-F Stmt → ℕ
+size_layer x = size_step (map-Stmt Stmt ℕ statement_size x)
+
+pub statement-size : (x : Stmt) → statement_size x ≡ size_layer (out-Stmt x)
+statement-size = fold_out-Stmt ℕ size_step

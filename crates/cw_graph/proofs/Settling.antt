@@ -43,13 +43,6 @@ ranked_closed g levels order a m r low none right le =
       count = omega (arith, length-append order (a ∷ []), r.count, count_set levels a m inside none);
     }
 
-pub passed_closed : (g : Graph) (levels : List (Option ℕ)) (from : List ℕ) (a m : ℕ) → ArePassed g levels from → a < length levels → ArePassed g (set levels a (Some m)) from
-passed_closed g levels from a m p low = record {
-  size = p.size;
-  within = p.within;
-  passed = λ b k h none. p.passed b k h (level_lacked levels a m (slice_index (row_of g.rows b) k) low none);
-}
-
 -- a row is passed on to a place
 pub passed_on : (g : Graph) (levels : List (Option ℕ)) (from : List ℕ) (a place : ℕ) → ArePassed g levels from → a < length g.rows → place ≤ length (row_of g.rows a) → ((k : ℕ) → slice_index from a ≤ k → k < place → level_of levels (slice_index (row_of g.rows a) k) ≡ None → ⊥) → ArePassed g levels (set from a place)
 passed_on g levels from a place p low le closed =
@@ -69,36 +62,12 @@ passed_on g levels from a place p low le closed =
       ];
     }
 
-pub waiting_more : (g : Graph) (waiting : List (List ℕ)) (c a : ℕ) → AreWaiting g waiting → c < length g.rows → a < length g.rows → AreWaiting g (set waiting c (row_of waiting c ++ a ∷ []))
-waiting_more g waiting c a w low inside =
-    let row = row_of waiting c ++ a ∷ [] in
-    let low' : c < length waiting = omega (arith, w.size) in
-    record {
-      size = length-set waiting c row ∙ w.size;
-      within = λ d. elim (cases_eq d c) [
-        | inl e ↦ subst (λ (xs : List ℕ). (k : ℕ) → k < length xs → slice_index xs k < length g.rows) (sym (ap (row_of (set waiting c row)) e ∙ row_same waiting c row low')) (each_with (λ b. b < length g.rows) (row_of waiting c) a (w.within c) inside)
-        | inr ne ↦ subst (λ (xs : List ℕ). (k : ℕ) → k < length xs → slice_index xs k < length g.rows) (sym (row_other waiting c d row ne)) (w.within d)
-      ];
-    }
-
 -- ---- all others wait
 
 -- one of these is the first, or behind it
 first_or : (x y : ℕ) (ys : List ℕ) → StandsIn (y ∷ ys) x → (x ≡ y) ⊎ StandsIn ys x
 first_or x y ys (zero, (low, is)) = inl (sym is)
 first_or x y ys (suc k, (low, is)) = inr (k, (omega arith, is))
-
-pub all_wait_still : (g : Graph) (levels : List (Option ℕ)) (order : List ℕ) (waiting : List (List ℕ)) (told a l : ℕ) (late : List ℕ) → level_of levels a ≡ Some l → AllWait g levels order waiting told (a ∷ late) → AllWait g levels order waiting told late
-all_wait_still g levels order waiting told a l late has w = record {
-  low = w.low;
-  held = λ b inside none. elim (w.held b inside none) [
-    | inl s ↦ elim (first_or b a late s) [
-      | inl e ↦ absurd (none-some l (sym none ∙ ap (level_of levels) e ∙ has))
-      | inr t ↦ inl t
-    ]
-    | inr h ↦ inr h
-  ];
-}
 
 stands_still : (waiting : List (List ℕ)) (c a d b : ℕ) → c < length waiting → StandsIn (row_of waiting d) b → StandsIn (row_of (set waiting c (row_of waiting c ++ a ∷ [])) d) b
 stands_still waiting c a d b low s =

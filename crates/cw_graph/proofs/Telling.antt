@@ -11,17 +11,6 @@ use Rattle.cw_graph.specs.Levels.{level_of, AreLevels}
 use Rattle.cw_graph.specs.Ranking.{AreRanked, ArePassed, AreWaiting, StandsFrom, AllWait}
 use Rattle.cw_graph.proofs.Places.{row_same, row_other}
 
-pub waiting_taken : (g : Graph) (waiting : List (List ℕ)) (c : ℕ) → AreWaiting g waiting → c < length g.rows → AreWaiting g (set waiting c [])
-waiting_taken g waiting c w low =
-    let low' : c < length waiting = omega (arith, w.size) in
-    record {
-      size = length-set waiting c [] ∙ w.size;
-      within = λ d. elim (cases_eq d c) [
-        | inl e ↦ subst (λ (xs : List ℕ). (k : ℕ) → k < length xs → slice_index xs k < length g.rows) (sym (ap (row_of (set waiting c [])) e ∙ row_same waiting c [] low')) (λ k h. absurd (omega arith))
-        | inr ne ↦ subst (λ (xs : List ℕ). (k : ℕ) → k < length xs → slice_index xs k < length g.rows) (sym (row_other waiting c d [] ne)) (w.within d)
-      ];
-    }
-
 -- a number of the order is told from its place on, or from the next
 from_next : (order : List ℕ) (told c : ℕ) → StandsFrom order told c → (c ≡ slice_index order told) ⊎ StandsFrom order (told + 1) c
 from_next order told c (k, (from, (low, is))) =
@@ -65,10 +54,6 @@ all_told g levels order waiting told end r w = record {
   ];
 }
 
--- no more numbers have levels than there are
-pub order_short : (g : Graph) (levels : List (Option ℕ)) (order : List ℕ) → AreRanked g levels order → length order ≤ length g.rows
-order_short g levels order r = omega (arith, r.size, r.count, count_by-le-length (is_some {T = ℕ}) levels)
-
 -- ---- at the start no number has a level
 
 no_count : (levels : List (Option ℕ)) → ((a : ℕ) → level_of levels a ≡ None) → count_by is_some levels ≡ 0
@@ -83,19 +68,6 @@ ranked_begun g levels size none = record {
   right = λ a m is. absurd (none-some m (sym (none a) ∙ is));
   low = λ a m is. absurd (none-some m (sym (none a) ∙ is));
   count = sym (no_count levels none);
-}
-
-pub passed_begun : (g : Graph) (levels : List (Option ℕ)) (from : List ℕ) → length from ≡ length g.rows → ((a : ℕ) → slice_index from a ≡ 0) → ArePassed g levels from
-passed_begun g levels from size none = record {
-  size = size;
-  within = λ a. rw (none a) (omega arith);
-  passed = λ a k h. absurd (omega (arith, none a));
-}
-
-pub waiting_begun : (g : Graph) (waiting : List (List ℕ)) → length waiting ≡ length g.rows → ((a : ℕ) → row_of waiting a ≡ []) → AreWaiting g waiting
-waiting_begun g waiting size none = record {
-  size = size;
-  within = λ c k h. absurd (omega (arith, ap length (none c)));
 }
 
 pub all_wait_begun : (g : Graph) (levels : List (Option ℕ)) (waiting : List (List ℕ)) (all : List ℕ) → length all ≡ length g.rows → ((k : ℕ) → k < length all → slice_index all k ≡ k) → AllWait g levels [] waiting 0 all

@@ -51,23 +51,6 @@ visited_more g flags flags' order order' a v low none listed (e, f) =
       marked = each_with (λ b. flag_of (set flags a true) b ≡ true) order a (λ k h. flag_kept flags a (slice_index order k) inside (v.marked k h)) (flag_set flags a inside);
     })
 
-pub grows_more : (flags flags' : List Bool) (order order' : List ℕ) (a : ℕ) → a < length flags → (flags' ≡ set flags a true) × (order' ≡ order ++ a ∷ []) → Grows flags order flags' order'
-grows_more flags flags' order order' a low (e, f) = rw (e, f) (record {
-  kept = λ b is. flag_kept flags a b low is;
-  longer = omega (arith, length-append order (a ∷ []));
-  same = λ k h. get_or-append order (a ∷ []) 0 k h;
-})
-
-pub grows_same : (flags : List Bool) (order : List ℕ) → Grows flags order flags order
-grows_same flags order = record { kept = λ a is. is; longer = omega arith; same = λ k h. refl }
-
-pub grows_then : (flags flags' flags'' : List Bool) (order order' order'' : List ℕ) → Grows flags order flags' order' → Grows flags' order' flags'' order'' → Grows flags order flags'' order''
-grows_then flags flags' flags'' order order' order'' a b = record {
-  kept = λ x is. b.kept x (a.kept x is);
-  longer = omega (arith, a.longer, b.longer);
-  same = λ k h. let h' : k < length order' = omega (arith, a.longer) in b.same k h' ∙ a.same k h;
-}
-
 no_flags : (flags : List Bool) → ((a : ℕ) → flag_of flags a ≡ false) → count_by (λ b. b) flags ≡ 0
 no_flags [] none = refl
 no_flags (false ∷ flags) none = no_flags flags (λ a. none (suc a))
@@ -110,6 +93,3 @@ all_spread g flags order told end v bodies spread = record {
       spread m b (omega arith) (subst (λ (x : ℕ). StandsIn (row_of g.rows x) b) (sym at') stands);
   right = v.right;
 }
-
-pub visits_short : (g : Graph) (flags : List Bool) (order : List ℕ) → AreVisited g flags order → length order ≤ length g.rows
-visits_short g flags order v = omega (arith, v.size, v.count, count_by-le-length (λ (b : Bool). b) flags)

@@ -55,6 +55,11 @@ pub record StandsFor (g : Graph) (levels : List (Option ℕ)) (a first : ℕ) : 
 abbrev pub StandFor : Graph → List (Option ℕ) → (firsts : List ℕ) → Type 0
 StandFor g levels firsts = (a : ℕ) → a < length firsts → StandsFor g levels a (slice_index firsts a)
 
+-- what each number of a graph stands for
+pub record AreFirsts (g : Graph) (levels : List (Option ℕ)) (firsts : List ℕ) : Type 0 where
+  pub size : length firsts ≡ length g.rows
+  pub stand : StandFor g levels firsts
+
 -- the first node of a height that a node leads to
 abbrev pub IsNext : Graph → (a height b : ℕ) → Type 0
 IsNext g a h b = IsFirst Below (λ c. LeadsTo g a c × HasHeight (LeadsTo g) c h) b

@@ -2,7 +2,7 @@
 ghost use Rattle.std.specs.Prelude.{◌≡◌, ℕ, ◌+◌, ◌<◌, ◌≤◌, ◌⊎◌, ◌↔◌, length, slice_index, Some, IsTrue, MatchOption, IfOk};
 ghost use Rattle.cw_graph.specs.Rows.{row_of, IsWhole};
 ghost use Rattle.cw_graph.specs.Levels.{level_of, AreLevels};
-ghost use Rattle.cw_graph.specs.Choosing.{level_or_zero, IsHighest, NoneOpen, IsFirstOpen, IsLeast, TellsLeast, StandsFor, StandFor, IsNext};
+ghost use Rattle.cw_graph.specs.Choosing.{level_or_zero, IsHighest, NoneOpen, IsFirstOpen, IsLeast, TellsLeast, StandsFor, StandFor, AreFirsts, IsNext};
 
 use crate::graph::{Graph, number_at, row_of};
 use crate::levels::level_of;
@@ -115,8 +115,7 @@ pub(crate) fn firsts_in(
 ) -> Result<Vec<usize>, NoMemory>
     requires whole { IsWhole graph.now }
     requires levels { AreLevels graph.now levels.now }
-    ensures size { IfOk result (λ firsts. length firsts.items ≡ length graph.now.rows) }
-    ensures firsts { IfOk result (λ firsts. StandFor graph.now levels.now firsts.items) }
+    ensures { IfOk result (λ firsts. AreFirsts graph.now levels.now firsts.items) }
 {
     let mut firsts = Vec::new(alloc);
     for number in 0..graph.rows.as_slice().len() {
@@ -136,8 +135,7 @@ pub(crate) fn next_of(
 ) -> usize
     requires whole { IsWhole graph.now }
     requires levels { AreLevels graph.now levels.now }
-    requires size { length firsts.now ≡ length graph.now.rows }
-    requires firsts { StandFor graph.now levels.now firsts.now }
+    requires firsts { AreFirsts graph.now levels.now firsts.now }
     requires node { node < graph.now.nodes }
     requires level { level_of levels.now node ≡ Some (level + 1) }
     ensures { (h : ℕ) → level ≡ h + 1 → IsNext graph.now node h result }

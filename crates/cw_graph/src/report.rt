@@ -4,7 +4,7 @@ ghost use Rattle.cw_graph.specs.Chains.{HasHeight, IsReached};
 ghost use Rattle.cw_graph.specs.Reports.{IsFirstChain, IsBound};
 ghost use Rattle.cw_graph.specs.Rows.{IsWhole, LeadsTo, Below, IsBodyOf};
 ghost use Rattle.cw_graph.specs.Levels.{level_of, AreLevels};
-ghost use Rattle.cw_graph.specs.Choosing.{StandFor, IsHighest, IsNumberReport};
+ghost use Rattle.cw_graph.specs.Choosing.{AreFirsts, IsHighest, IsNumberReport};
 
 use crate::choosing::{first_highest, first_open_in, firsts_in, next_of};
 use crate::graph::Graph;
@@ -32,8 +32,7 @@ fn follow(
 ) -> Result<List<usize>, NoMemory>
     requires whole { IsWhole graph.now }
     requires levels { AreLevels graph.now levels.now }
-    requires size { length firsts.now ≡ length graph.now.rows }
-    requires firsts { StandFor graph.now levels.now firsts.now }
+    requires firsts { AreFirsts graph.now levels.now firsts.now }
     requires start { start < graph.now.nodes }
     requires height { level_of levels.now start ≡ Some (height + 1) }
     ensures { IfOk result (λ chain. (length chain ≡ height) × IsFirstChain (LeadsTo graph.now) Below start chain) }

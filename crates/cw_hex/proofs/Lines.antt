@@ -67,20 +67,8 @@ first_of_feed : (cs : List ℕ) → begins_with_feed cs ≡ true → 0 < length 
 first_of_feed [] h = absurd (ft h)
 first_of_feed (c ∷ cs) h = omega arith
 
-pub has_two : (i : ℕ) (text : List ℕ) → i < length text → (eqb (get_or text i 0) 13 && begins_with_feed (drop (i + 1) text)) ≡ true → i + 2 ≤ length text
-has_two i text h is_return =
-    let f = first_of_feed (drop (i + 1) text) (both (eqb (get_or text i 0) 13) (begins_with_feed (drop (i + 1) text)) is_return) in
-    let n = length-drop (i + 1) text in
-    omega (arith, f, n)
-
-return_there : (i : ℕ) (text : List ℕ) (a : Bool) → i + 1 < length text → (a && eqb (get_or text (i + 1) 0) 10) ≡ (a && begins_with_feed (drop (i + 1) text))
-return_there i text a h = ap (λ cs. a && begins_with_feed cs) (sym (drop_more text (i + 1) 0 h))
-
 pub begins_at : (i : ℕ) (text : List ℕ) → i < length text → begins_with_feed (drop i text) ≡ eqb (get_or text i 0) 10
 begins_at i text h = ap begins_with_feed (drop_more text i 0 h)
-
-pub begins_past : (i : ℕ) (text : List ℕ) → length text ≤ i → begins_with_feed (drop i text) ≡ false
-begins_past i text h = ap begins_with_feed (drop_all i text h)
 
 pub other_found : (i : ℕ) (text : List ℕ) → i < length text → get_or text i 0 ≢ 10 → (eqb (get_or text i 0) 13 && begins_with_feed (drop (i + 1) text)) ≡ false → seen i text ≡ lines_of text
     → seen (i + 1) text ≡ lines_of text

@@ -12,45 +12,26 @@ use Rattle.cw_hex.proofs.Fold.{lines_told, or_fault}
 use Rattle.cw_hex.specs.HexText.{digit_of, digits_of, checksum, record_line, record_text, record_bytes, pieces, piece, all_pieces}
 use Rattle.cw_hex.proofs.Digits.{sum-cons}
 
-value_digit : (n : ℕ) → n < 16 → digit_value (digit_of n) ≡ n
-unfolding digit_value digit_of
-value_digit zero h = refl
-value_digit (suc zero) h = refl
-value_digit (suc (suc zero)) h = refl
-value_digit (suc (suc (suc zero))) h = refl
-value_digit (suc (suc (suc (suc zero)))) h = refl
-value_digit (suc (suc (suc (suc (suc zero))))) h = refl
-value_digit (suc (suc (suc (suc (suc (suc zero)))))) h = refl
-value_digit (suc (suc (suc (suc (suc (suc (suc zero))))))) h = refl
-value_digit (suc (suc (suc (suc (suc (suc (suc (suc zero)))))))) h = refl
-value_digit (suc (suc (suc (suc (suc (suc (suc (suc (suc zero))))))))) h = refl
-value_digit (suc (suc (suc (suc (suc (suc (suc (suc (suc (suc zero)))))))))) h = refl
-value_digit (suc (suc (suc (suc (suc (suc (suc (suc (suc (suc (suc zero))))))))))) h = refl
-value_digit (suc (suc (suc (suc (suc (suc (suc (suc (suc (suc (suc (suc zero)))))))))))) h = refl
-value_digit (suc (suc (suc (suc (suc (suc (suc (suc (suc (suc (suc (suc (suc zero))))))))))))) h = refl
-value_digit (suc (suc (suc (suc (suc (suc (suc (suc (suc (suc (suc (suc (suc (suc zero)))))))))))))) h = refl
-value_digit (suc (suc (suc (suc (suc (suc (suc (suc (suc (suc (suc (suc (suc (suc (suc zero))))))))))))))) h = refl
-value_digit (suc (suc (suc (suc (suc (suc (suc (suc (suc (suc (suc (suc (suc (suc (suc (suc n)))))))))))))))) h = absurd (omega arith)
-
-is_digit_digit : (n : ℕ) → n < 16 → is_digit (digit_of n) ≡ true
-unfolding is_digit digit_of
-is_digit_digit zero h = refl
-is_digit_digit (suc zero) h = refl
-is_digit_digit (suc (suc zero)) h = refl
-is_digit_digit (suc (suc (suc zero))) h = refl
-is_digit_digit (suc (suc (suc (suc zero)))) h = refl
-is_digit_digit (suc (suc (suc (suc (suc zero))))) h = refl
-is_digit_digit (suc (suc (suc (suc (suc (suc zero)))))) h = refl
-is_digit_digit (suc (suc (suc (suc (suc (suc (suc zero))))))) h = refl
-is_digit_digit (suc (suc (suc (suc (suc (suc (suc (suc zero)))))))) h = refl
-is_digit_digit (suc (suc (suc (suc (suc (suc (suc (suc (suc zero))))))))) h = refl
-is_digit_digit (suc (suc (suc (suc (suc (suc (suc (suc (suc (suc zero)))))))))) h = refl
-is_digit_digit (suc (suc (suc (suc (suc (suc (suc (suc (suc (suc (suc zero))))))))))) h = refl
-is_digit_digit (suc (suc (suc (suc (suc (suc (suc (suc (suc (suc (suc (suc zero)))))))))))) h = refl
-is_digit_digit (suc (suc (suc (suc (suc (suc (suc (suc (suc (suc (suc (suc (suc zero))))))))))))) h = refl
-is_digit_digit (suc (suc (suc (suc (suc (suc (suc (suc (suc (suc (suc (suc (suc (suc zero)))))))))))))) h = refl
-is_digit_digit (suc (suc (suc (suc (suc (suc (suc (suc (suc (suc (suc (suc (suc (suc (suc zero))))))))))))))) h = refl
-is_digit_digit (suc (suc (suc (suc (suc (suc (suc (suc (suc (suc (suc (suc (suc (suc (suc (suc n)))))))))))))))) h = absurd (omega arith)
+-- a digit is one, and has its value
+digit_read : (n : ℕ) → n < 16 → (is_digit (digit_of n) ≡ true) × (digit_value (digit_of n) ≡ n)
+unfolding is_digit digit_value digit_of
+digit_read zero h = (refl, refl)
+digit_read (suc zero) h = (refl, refl)
+digit_read (suc (suc zero)) h = (refl, refl)
+digit_read (suc (suc (suc zero))) h = (refl, refl)
+digit_read (suc (suc (suc (suc zero)))) h = (refl, refl)
+digit_read (suc (suc (suc (suc (suc zero))))) h = (refl, refl)
+digit_read (suc (suc (suc (suc (suc (suc zero)))))) h = (refl, refl)
+digit_read (suc (suc (suc (suc (suc (suc (suc zero))))))) h = (refl, refl)
+digit_read (suc (suc (suc (suc (suc (suc (suc (suc zero)))))))) h = (refl, refl)
+digit_read (suc (suc (suc (suc (suc (suc (suc (suc (suc zero))))))))) h = (refl, refl)
+digit_read (suc (suc (suc (suc (suc (suc (suc (suc (suc (suc zero)))))))))) h = (refl, refl)
+digit_read (suc (suc (suc (suc (suc (suc (suc (suc (suc (suc (suc zero))))))))))) h = (refl, refl)
+digit_read (suc (suc (suc (suc (suc (suc (suc (suc (suc (suc (suc (suc zero)))))))))))) h = (refl, refl)
+digit_read (suc (suc (suc (suc (suc (suc (suc (suc (suc (suc (suc (suc (suc zero))))))))))))) h = (refl, refl)
+digit_read (suc (suc (suc (suc (suc (suc (suc (suc (suc (suc (suc (suc (suc (suc zero)))))))))))))) h = (refl, refl)
+digit_read (suc (suc (suc (suc (suc (suc (suc (suc (suc (suc (suc (suc (suc (suc (suc zero))))))))))))))) h = (refl, refl)
+digit_read (suc (suc (suc (suc (suc (suc (suc (suc (suc (suc (suc (suc (suc (suc (suc (suc n)))))))))))))))) h = absurd (omega arith)
 
 ft : false ≡ true → ⊥
 ft e = cc
@@ -120,8 +101,8 @@ spelled : (bs : List ℕ) → Bytes bs → bytes_of (digits_of bs) ≡ bs
 spelled [] h = refl
 spelled (b ∷ bs) h =
     let small : b < 256 = h.0 in
-    let one = value_digit (b / 16) (omega arith) in
-    let two = value_digit (b % 16) (omega arith) in
+    let one = (digit_read (b / 16) (omega arith)).1 in
+    let two = (digit_read (b % 16) (omega arith)).1 in
     let byte : 16 * digit_value (digit_of (b / 16)) + digit_value (digit_of (b % 16)) ≡ b = omega (arith, one, two) in
     rw byte (ap (λ (cs : List ℕ). b ∷ cs) (spelled bs h.1))
 
@@ -129,8 +110,8 @@ all_digits : (bs : List ℕ) → Bytes bs → list_all is_digit (digits_of bs) �
 all_digits [] h = refl
 all_digits (b ∷ bs) h =
     let small : b < 256 = h.0 in
-    let one = is_digit_digit (b / 16) (omega arith) in
-    let two = is_digit_digit (b % 16) (omega arith) in
+    let one = (digit_read (b / 16) (omega arith)).0 in
+    let two = (digit_read (b % 16) (omega arith)).0 in
     rw (one, two) (all_digits bs h.1)
 
 length-digits : (bs : List ℕ) → length (digits_of bs) ≡ 2 * length bs

@@ -47,10 +47,6 @@ flat-append : (xs ys : List (List ℕ)) → flat_map record_text (xs ++ ys) ≡ 
 flat-append [] ys = refl
 flat-append (x ∷ xs) ys = ap (λ cs. record_text x ++ cs) (flat-append xs ys) ∙ sym (append_assoc (record_text x) (flat_map record_text xs) (flat_map record_text ys))
 
-pub words_put : (old a b : List ℕ) (ws : List ℕ) → 0 < length ws → a ≡ old ++ record_text (base_record 0x2000) → b ≡ a ++ flat_map record_text (all_pieces (word_bytes ws)) → b ≡ old ++ flat_map record_text (words_records ws)
-words_put old a b [] some base put = absurd (omega arith)
-words_put old a b (w ∷ ws) some base put = rw (put, base) (append_assoc old (record_text (base_record 0x2000)) (flat_map record_text (all_pieces (word_bytes (w ∷ ws)))))
-
 pub text_put : (code words t1 t2 t3 t4 t5 : List ℕ) → t1 ≡ [] ++ record_text (base_record 0x1000) → t2 ≡ t1 ++ flat_map record_text (all_pieces code) → t3 ≡ t2 ++ flat_map record_text (words_records words)
     → t4 ≡ t3 ++ record_text (record_bytes 3 0 (16 ∷ 0 ∷ 0 ∷ 0 ∷ [])) → t5 ≡ t4 ++ record_text (record_bytes 1 0 []) → t5 ≡ hex_text code words
 text_put code words t1 t2 t3 t4 t5 a b c d e =
@@ -68,7 +64,3 @@ text_put code words t1 t2 t3 t4 t5 a b c d e =
     ∙ ap (λ cs. (base ++ code_text) ++ (words_text ++ cs)) (sym end)
     ∙ ap (λ cs. (base ++ code_text) ++ cs) (sym behind)
     ∙ sym whole)
-
-pub no_words_put : (old : List ℕ) (ws : List ℕ) → length ws ≡ 0 → old ≡ old ++ flat_map record_text (words_records ws)
-no_words_put old [] h = sym (append-nil old)
-no_words_put old (w ∷ ws) h = absurd (omega arith)

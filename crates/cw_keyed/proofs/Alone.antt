@@ -42,12 +42,7 @@ module _ (f : SpecParam → Spelled) (begins : (p : SpecParam) → (n : ℕ) × 
 
 taken_begins : (x : SpecParam-F SpecParam Spec) → (n : ℕ) × ((rest : Spelled) × (taken_layer x ≡ suc n ∷ rest))
 taken_begins (layer.Value s) = (_, (_, refl))
-taken_begins (layer.Location s) = (_, (_, refl))
-taken_begins (layer.Array s) = (_, (_, refl))
-taken_begins (layer.Table n) = (_, (_, refl))
-taken_begins layer.Label = (_, (_, refl))
-taken_begins layer.Switch = (_, (_, refl))
-taken_begins (layer.Proc s) = (_, (_, refl))
+taken_begins _ = (_, (_, refl))
 
 begins : (p : SpecParam) → (n : ℕ) × ((rest : Spelled) × (spelled_taken p ≡ suc n ∷ rest))
 begins p = let (n, (rest, is)) = taken_begins (out-SpecParam p) in (n, (rest, taken-by_layer p ∙ is))
@@ -66,54 +61,13 @@ known_spec y = map-Spec Known KnownSpec SpecParam Spec (λ a. a.0) (λ a. a.0) y
 
 layer_alone : (y : SpecParam-F Known KnownSpec) (z : SpecParam-F SpecParam Spec) (xs ys : List ℕ) → taken_layer (known_taken y) ++ xs ≡ taken_layer z ++ ys → (known_taken y ≡ z) × (xs ≡ ys)
 layer_alone (layer.Value s) (layer.Value t) xs ys e = let (same, rest) = scale_alone 1 s t xs ys e in (ap layer.Value same, rest)
-layer_alone (layer.Value s) (layer.Location t) xs ys e = absurd cc
-layer_alone (layer.Value s) (layer.Array t) xs ys e = absurd cc
-layer_alone (layer.Value s) (layer.Table m) xs ys e = absurd cc
-layer_alone (layer.Value s) layer.Label xs ys e = absurd cc
-layer_alone (layer.Value s) layer.Switch xs ys e = absurd cc
-layer_alone (layer.Value s) (layer.Proc t) xs ys e = absurd cc
-layer_alone (layer.Location s) (layer.Value t) xs ys e = absurd cc
 layer_alone (layer.Location s) (layer.Location t) xs ys e = let (same, rest) = scale_alone 2 s t xs ys e in (ap layer.Location same, rest)
-layer_alone (layer.Location s) (layer.Array t) xs ys e = absurd cc
-layer_alone (layer.Location s) (layer.Table m) xs ys e = absurd cc
-layer_alone (layer.Location s) layer.Label xs ys e = absurd cc
-layer_alone (layer.Location s) layer.Switch xs ys e = absurd cc
-layer_alone (layer.Location s) (layer.Proc t) xs ys e = absurd cc
-layer_alone (layer.Array s) (layer.Value t) xs ys e = absurd cc
-layer_alone (layer.Array s) (layer.Location t) xs ys e = absurd cc
 layer_alone (layer.Array s) (layer.Array t) xs ys e = let (same, rest) = scale_alone 3 s t xs ys e in (ap layer.Array same, rest)
-layer_alone (layer.Array s) (layer.Table m) xs ys e = absurd cc
-layer_alone (layer.Array s) layer.Label xs ys e = absurd cc
-layer_alone (layer.Array s) layer.Switch xs ys e = absurd cc
-layer_alone (layer.Array s) (layer.Proc t) xs ys e = absurd cc
-layer_alone (layer.Table n) (layer.Value t) xs ys e = absurd cc
-layer_alone (layer.Table n) (layer.Location t) xs ys e = absurd cc
-layer_alone (layer.Table n) (layer.Array t) xs ys e = absurd cc
 layer_alone (layer.Table n) (layer.Table m) xs ys e = (let same : n ≡ m = cc in ap layer.Table same, cc)
-layer_alone (layer.Table n) layer.Label xs ys e = absurd cc
-layer_alone (layer.Table n) layer.Switch xs ys e = absurd cc
-layer_alone (layer.Table n) (layer.Proc t) xs ys e = absurd cc
-layer_alone layer.Label (layer.Value t) xs ys e = absurd cc
-layer_alone layer.Label (layer.Location t) xs ys e = absurd cc
-layer_alone layer.Label (layer.Array t) xs ys e = absurd cc
-layer_alone layer.Label (layer.Table m) xs ys e = absurd cc
 layer_alone layer.Label layer.Label xs ys e = (refl, cc)
-layer_alone layer.Label layer.Switch xs ys e = absurd cc
-layer_alone layer.Label (layer.Proc t) xs ys e = absurd cc
-layer_alone layer.Switch (layer.Value t) xs ys e = absurd cc
-layer_alone layer.Switch (layer.Location t) xs ys e = absurd cc
-layer_alone layer.Switch (layer.Array t) xs ys e = absurd cc
-layer_alone layer.Switch (layer.Table m) xs ys e = absurd cc
-layer_alone layer.Switch layer.Label xs ys e = absurd cc
 layer_alone layer.Switch layer.Switch xs ys e = (refl, cc)
-layer_alone layer.Switch (layer.Proc t) xs ys e = absurd cc
-layer_alone (layer.Proc s) (layer.Value t) xs ys e = absurd cc
-layer_alone (layer.Proc s) (layer.Location t) xs ys e = absurd cc
-layer_alone (layer.Proc s) (layer.Array t) xs ys e = absurd cc
-layer_alone (layer.Proc s) (layer.Table m) xs ys e = absurd cc
-layer_alone (layer.Proc s) layer.Label xs ys e = absurd cc
-layer_alone (layer.Proc s) layer.Switch xs ys e = absurd cc
 layer_alone (layer.Proc s) (layer.Proc t) xs ys e = let (same, rest) = s.1 t xs ys cc in (ap layer.Proc same, rest)
+layer_alone _ _ xs ys e = absurd cc
 
 spec_alone : (y : Spec-F Known KnownSpec) (z : Spec-F SpecParam Spec) (xs ys : List ℕ) → spec_layer (known_spec y) ++ xs ≡ spec_layer z ++ ys → (known_spec y ≡ z) × (xs ≡ ys)
 spec_alone y z xs ys e =

@@ -48,7 +48,7 @@ spelled = fold-Spec Spelled Spelled taken_step spec_step
 abbrev pub spelled_taken : SpecParam → Spelled
 spelled_taken = fold-SpecParam Spelled Spelled taken_step spec_step
 
--- what a parameter takes, and the specification that a procedure has
+-- what a parameter takes
 abbrev pub taken_by : Param → SpecParam
 taken_by (param.Value i s) = takes.Value s
 taken_by (param.Location i s) = takes.Location s
@@ -58,8 +58,9 @@ taken_by (param.Label k) = takes.Label
 taken_by (param.Switch k) = takes.Switch
 taken_by (param.Proc k s) = takes.Proc s
 
-abbrev pub specification_of : Proc → Spec
-specification_of p = record { answer = p.answer; params = map taken_by p.params }
+-- the specification that a procedure has
+abbrev pub spec_of : Proc → Spec
+spec_of p = record { answer = p.answer; params = map taken_by p.params }
 
 pub same_input : (a b : List ℕ) → IsTrue (pointwise nat_eq a b) → fed.slice fed.u16 a ≡ fed.slice fed.u16 b
 same_input a b e = ap (fed.slice fed.u16) ((bytes_decides a b).0 e)

@@ -1,6 +1,6 @@
 //! The table of specifications.
 ghost use Rattle.std.specs.Prelude.{◌≡◌, Some, OnOk, IfOk};
-ghost use Rattle.cw_keyed.specs.Spelling.{spelled, specification_of};
+ghost use Rattle.cw_keyed.specs.Spelling.{spelled, spec_of};
 ghost use Rattle.cw_keyed.specs.Numbered.{count, number_of, Keeps};
 
 use crate::key::Key;
@@ -26,7 +26,7 @@ fn key_of(alloc: Global, spec: &Spec) -> Result<Key, NoMemory>
 }
 
 fn key_of_procedure(alloc: Global, procedure: &Proc) -> Result<Key, NoMemory>
-    ensures { IfOk result (λ key. key.numbers ≡ spelled (specification_of procedure.now)) }
+    ensures { IfOk result (λ key. key.numbers ≡ spelled (spec_of procedure.now)) }
 {
     let mut numbers = List::new(alloc);
     add_procedure(&mut numbers, procedure)?;
@@ -62,7 +62,7 @@ impl Specifications {
 
     /// The number of the specification that a procedure has, if it has one.
     pub fn find(&self, procedure: &Proc) -> Result<Option<usize>, NoMemory>
-        ensures { IfOk result (λ n. n ≡ number_of self.now (specification_of procedure.now)) }
+        ensures { IfOk result (λ n. n ≡ number_of self.now (spec_of procedure.now)) }
     {
         let key = key_of_procedure(*self.keys.allocator(), procedure)?;
         Ok(self.keys.get_index_of(&key))

@@ -1,6 +1,6 @@
 //! Specifications spelled in numbers.
 ghost use Rattle.std.specs.Prelude.{◌≡◌, ◌++◌, map, OnOk};
-ghost use Rattle.cw_keyed.specs.Spelling.{spelled_scale, spelled_table, spelled_answer, spelled_taken, spelled, ended, taken_by, specification_of};
+ghost use Rattle.cw_keyed.specs.Spelling.{spelled_scale, spelled_table, spelled_answer, spelled_taken, spelled, ended, taken_by, spec_of};
 
 use cw_unit::descriptor::{Scale, Spec, SpecParam};
 use cw_unit::unit::{Param, Proc};
@@ -100,7 +100,7 @@ fn add_parameters(out: &mut List<u16>, parameters: &[Param]) -> Result<(), NoMem
 /// Of the specification that a procedure has.
 #[tactic(auto, using(crate::proofs::Layers::layers))]
 pub(crate) fn add_procedure(out: &mut List<u16>, procedure: &Proc) -> Result<(), NoMemory>
-    ensures { OnOk result (out.new ≡ out.old ++ spelled (specification_of procedure.now)) }
+    ensures { OnOk result (out.new ≡ out.old ++ spelled (spec_of procedure.now)) }
 {
     add_answer(out, procedure.answer)?;
     add_parameters(out, procedure.params.as_slice())

@@ -1,5 +1,5 @@
 -- The definitions of a layout, where they have come one item further.
-use Rattle.std.proofs.Common.{◌≡◌, ℕ, zero, suc, ◌+◌, ◌<◌, ◌≤◌, max, List, [], ◌∷◌, ◌++◌, length, take, map, Bool, true, false, ◌&&◌, cond, nat_eq, Some, None, is_none, slice_get, get_or, refl, sym, ap, ◌∙◌, arith, append_assoc, append-nil}
+use Rattle.std.proofs.Common.{◌≡◌, ℕ, zero, suc, ◌+◌, ◌<◌, ◌≤◌, max, List, [], ◌∷◌, ◌++◌, length, take, map, Bool, true, false, ◌&&◌, cond, nat_eq, Option, Some, None, is_none, slice_get, get_or, refl, sym, ap, ◌∙◌, arith, append_assoc, append-nil}
 use Rattle.std.proofs.lemmas.List.{take_more, length-take-le}
 use Rattle.std.proofs.lemmas.Option.{none-some, same_Some}
 use Rattle.cw_unit.specs.declared.unit.Unit.{Unit as SourceUnit}
@@ -99,6 +99,15 @@ families_next u k i at =
 
 pub roots_next : (u : SourceUnit) (k : ℕ) (i : Item) → IsAt u k i → roots_in u (take (k + 1) u.items) ≡ roots_in u (take k u.items) + cond (is_none (base_of_home u i.home)) 1 0
 roots_next u k i at = ap (roots_in u) (taken u k i at) ∙ roots-end u (take k u.items) i
+
+-- where an item is a root, there is one root more
+pub roots_more : (u : SourceUnit) (k : ℕ) (i : Item) (base : Option (ℕ × ℕ)) (more roots roots' : ℕ) → IsAt u k i → base_of_home u i.home ≡ base → cond (is_none base) 1 0 ≡ more → roots ≡ roots_in u (take k u.items) → roots' ≡ roots + more → roots' ≡ roots_in u (take (k + 1) u.items)
+roots_more u k i base more roots roots' at is counts so e =
+    let one : ℕ = 1 in
+    let nothing : ℕ = 0 in
+    let next = roots_next u k i at in
+    let counted : cond (is_none (base_of_home u i.home)) one nothing ≡ more = ap (λ b. cond (is_none b) one nothing) is ∙ counts in
+    omega (arith, next, counted, so, e)
 
 pub extent_next : (u : SourceUnit) (r k : ℕ) (i : Item) → IsAt u k i → extent_from 0 u r (take (k + 1) u.items) ≡ max (extent_from 0 u r (take k u.items)) (cond (nat_eq (root_of u k) r) (family_offset u k + i.words) 0)
 extent_next u r k i at =

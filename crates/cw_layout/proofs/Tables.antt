@@ -146,12 +146,6 @@ raised_extent u h xs k f e i at before this inside end lt =
     ap (λ m. get_or (set xs f e) m 0) (sym this) ∙ goal ∙ ap₂ (λ m n. max (get_or xs m 0) n) this end)
     (λ m ne. get_or-set_other xs f m e 0 (λ same. ne (same ∙ this)))
 
-pub whole_extents : (u : SourceUnit) (n : ℕ) (xs : List ℕ) → ExtentsTo u n xs → n ≡ length u.items → TellsExtents u xs
-whole_extents u n xs to e = record {
-  len = to.len;
-  at = λ r within root. to.at r within root ∙ ap (extent_from 0 u r) (take_all n u.items (omega (arith, e)));
-}
-
 -- a family's number is below the number of items
 pub family_within : (u : SourceUnit) (k : ℕ) (i : Item) → IsStorable u → IsAt u k i → family_of u k < length u.items
 family_within u k i h at =

@@ -24,7 +24,8 @@ reads_member = record {
       ∙ ap (λ o. o >>= λ n. bytes_in n.0 n.1) (reads_long.again (length m) (m ++ rest) h) ∙ (reads_bytes (length m)).again m rest refl;
 }
 
-guard_none : {A : Type 0} (b : Bool) (x : A) → cond b None (Some x) ≡ None → b ≡ true
+-- what is none where a test holds
+pub guard_none : {A : Type 0} (b : Bool) (x : A) → cond b None (Some x) ≡ None → b ≡ true
 guard_none true x e = refl
 guard_none false x e = absurd cc
 

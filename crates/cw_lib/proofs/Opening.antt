@@ -14,7 +14,7 @@ use Rattle.cw_lib.specs.declared.fault.LibFault.TheVariants.{Truncated, BadField
 use Rattle.cw_lib.specs.declared.library.Lib.{Lib}
 use Rattle.cw_lib.specs.LibraryFormat.{Bytes, header, start, IsNumber, IsMember, member_bytes, front_bytes, IsLibrary, FailsBehind, no_length, cut, no_object, trailing, IsFirstLibraryFault, no_number, bad_number, behind}
 use Rattle.cw_lib.specs.Reading.{first_member, members_in, members_of, IsBehindMember, FailsMember, Reaches, IsLibOf}
-use Rattle.cw_lib.proofs.Members.{reads_member, IsCut, in_length, in_member, is_cut, rest_fits, members_again, AllByRecursion-push, each-push}
+use Rattle.cw_lib.proofs.Members.{reads_member, guard_none, IsCut, in_length, in_member, is_cut, rest_fits, members_again, AllByRecursion-push, each-push}
 
 -- ---- the mark and the version
 
@@ -22,10 +22,6 @@ pub first_version : (bytes : Bytes) (v : ℕ) → bytes ≡ header v ++ drop 6 b
 first_version bytes v e one = e ∙ ap (λ w. header w ++ drop 6 bytes) one
 
 -- ---- the number of members
-
-guard_none : {A : Type 0} (b : Bool) (x : A) → cond b None (Some x) ≡ None → b ≡ true
-guard_none true x e = refl
-guard_none false x e = absurd cc
 
 word_none : (rest : Bytes) → word_in rest ≡ None → length rest < 2
 unfolding number_in

@@ -53,15 +53,11 @@ IsOwn n x = IsOfDescriptor n x.sort
 
 more-sort : (n m : ℕ) (s : Sort) → n ≤ m → IsOfDescriptor n s → IsOfDescriptor m s
 more-sort n m (sorts.Common d) le h = omega (arith, h, le)
-more-sort n m sorts.Own le h = h
-more-sort n m (sorts.Absolute a) le h = h
-more-sort n m (sorts.Frame o) le h = h
+more-sort n m _ le h = h
 
 placed-sort : (n extent : ℕ) (s : Sort) → is_placed n s extent ≡ true → IsOfDescriptor n s
 placed-sort n extent (sorts.Common d) h = ltb-true d n h
-placed-sort n extent sorts.Own h = tt
-placed-sort n extent (sorts.Absolute a) h = tt
-placed-sort n extent (sorts.Frame o) h = tt
+placed-sort n extent _ h = tt
 
 all-one : (n : ℕ) (f : Family) → IsOwn n f → All (IsOwn n) (f ∷ [])
 all-one n f h zero d lt = h

@@ -26,7 +26,8 @@ fn descriptors_of(alloc: Global, view: &View) -> Result<List<Desc>, NoMemory>
     Ok(descs)
 }
 
-fn families_of(alloc: Global, view: &View) -> Result<List<Family>, NoMemory>
+/// The families of an object.
+pub fn families_of(alloc: Global, view: &View) -> Result<List<Family>, NoMemory>
     ensures { IfOk result (λ families. families ≡ records_of family_in 3 view.now) }
 {
     let mut families = List::new(alloc);

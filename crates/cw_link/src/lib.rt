@@ -12,6 +12,7 @@ mod presets;
 mod relocation;
 mod words;
 
+pub use contents::families_of;
 pub use fault::LinkFault;
 pub use filled::{Filled, fill_word, no_words};
 pub use linking::{Linked, link};

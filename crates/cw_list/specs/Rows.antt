@@ -34,8 +34,9 @@ frame_in l n = is_frame_family (slice_get l.families (home_in l n).0)
 abbrev pub address_in : Layout → (addresses : List ℕ) → (item : ℕ) → ℕ
 address_in l addresses n = slice_index addresses (home_in l n).0 + (home_in l n).1
 
-abbrev pub row_in : SourceUnit → Layout → (addresses : List ℕ) → (item : ℕ) → Item → Row
-row_in u l addresses n i =
+-- the row of an item of a unit, which stands there, maybe in a frame
+abbrev pub row_at : SourceUnit → Item → (frame : Bool) → (address : ℕ) → Row
+row_at u i frame address =
     record {
       segment = u.name;
       procedure = owner_of u.procs i.owner;
@@ -43,10 +44,13 @@ row_in u l addresses n i =
       line = i.line;
       kind = i.kind;
       common = is_common i.home;
-      frame = frame_in l n;
-      address = address_in l addresses n;
+      frame = frame;
+      address = address;
       words = i.words;
     }
+
+abbrev pub row_in : SourceUnit → Layout → (addresses : List ℕ) → (item : ℕ) → Item → Row
+row_in u l addresses n i = row_at u i (frame_in l n) (address_in l addresses n)
 
 abbrev pub segment_rows : SourceUnit → Layout → (addresses : List ℕ) → (n : ℕ) → List Item → List Row
 segment_rows u l addresses n [] = []
@@ -60,18 +64,7 @@ in_frame p g n = is_frame_family (slice_get (layout_at p g).families (position_o
 
 -- the address where it stands, in a frame that of the frame's first word being 0
 abbrev pub row_of : Program → (segment : ℕ) → SourceUnit → (item : ℕ) → Item → Row
-row_of p g u n i =
-    record {
-      segment = u.name;
-      procedure = owner_of u.procs i.owner;
-      name = i.name;
-      line = i.line;
-      kind = i.kind;
-      common = is_common i.home;
-      frame = in_frame p g n;
-      address = item_address p g n 0;
-      words = i.words;
-    }
+row_of p g u n i = row_at u i (in_frame p g n) (item_address p g n 0)
 
 abbrev pub rows_in : Program → (segment : ℕ) → SourceUnit → (n : ℕ) → List Item → List Row
 rows_in p g u n [] = []

@@ -22,6 +22,7 @@ use crate::segment::add_segment;
 use cw_unit::layout::{Layout, Limits, Map};
 use cw_unit::unit::Unit;
 use cw_word::{List, NoMemory};
+pub use lines::{add, unnamed};
 use std::alloc::Global;
 
 // Those in a frame, or those that are not.
@@ -61,8 +62,8 @@ pub fn listing_text(alloc: Global, rows: &[Row], limits: &Limits) -> Result<Vec<
     ordered_text(alloc, lines.as_slice(), limits)
 }
 
-// The addresses of a segment's families.
-fn addresses(map: &Map, segment: usize) -> &[u16]
+/// The addresses of a segment's families.
+pub fn addresses(map: &Map, segment: usize) -> &[u16]
     ensures { result.now ≡ slice_index_or map.now.homes segment [] }
 {
     match map.homes.as_slice().get(segment) {

@@ -38,7 +38,8 @@ fn kind_name(kind: ItemKind) -> &'static [u8]
     }
 }
 
-fn unnamed(kind: ItemKind) -> &'static [u8]
+/// What stands for the name of an item that has none, before its line.
+pub fn unnamed(kind: ItemKind) -> &'static [u8]
     ensures { result.now ≡ unnamed kind }
 {
     match kind {
@@ -47,7 +48,8 @@ fn unnamed(kind: ItemKind) -> &'static [u8]
     }
 }
 
-fn add(text: &mut Vec<u8>, piece: &[u8]) -> Result<(), NoMemory>
+/// Adds bytes to a text.
+pub fn add(text: &mut Vec<u8>, piece: &[u8]) -> Result<(), NoMemory>
     ensures { OnOk result (text.new.items ≡ text.old.items ++ piece.now) }
 {
     text.extend_from_slice(piece).map_err(|_| NoMemory)

@@ -12,8 +12,8 @@ use Rattle.cw_tmpl.specs.Library.{front, joined, routines, library_bytes, no_ins
 use Rattle.cw_listing.specs.declared.line.Shown.TheVariants.{Byte}
 use Rattle.cw_listing.specs.declared.line.Line.{Line}
 use Rattle.cw_listing.specs.Lines.{is_among, IsLineAt, AreLinesBetween}
+use Rattle.cw_run86.proofs.Sizes.{some_bytes}
 use Rattle.cw_listed.specs.ProgramLines.{instruction_lines, library_lines}
-use Rattle.cw_follow.proofs.Sized.{instr_some}
 use Rattle.cw_listed.proofs.Lines.{instruction_shown}
 
 -- lines, and others behind them
@@ -37,7 +37,7 @@ instructions_between code words before behind end at [] f e le none all = omega 
 instructions_between code words before behind end at (i ∷ is) f e le none all =
     let B = bytes_of i in
     let R = bytes_of_all is in
-    let some : 0 < length B = instr_some i in
+    let some : 0 < length B = some_bytes i in
     let next : code ≡ (before ++ B) ++ (R ++ behind) = e ∙ ap (λ l. before ++ l) (append_assoc B R behind) ∙ sym (append_assoc before B (R ++ behind)) in
     let here : drop at code ≡ B ++ (R ++ behind) = ap₂ (λ n l. drop n l) f
     (next ∙ append_assoc before B (R ++ behind)) ∙ drop-append_seam before (B ++ (R ++ behind)) in

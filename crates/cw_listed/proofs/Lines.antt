@@ -119,10 +119,3 @@ lines_from code words front behind value done (p ∷ ps) base at f b e knows cod
       },
       subst (λ n. AreLinesBetween code words end (piece_lines value end ps) n) (omega (arith, length-append (bytes_with 0 p) (blanks ps))) further,
     )
-
--- the lines of filled pieces that stand from a place on
-pub lines_of_pieces : (code words front behind : List ℕ) (value : Filling) (ps : List Coded)
-    → code ≡ front ++ (filled value (length front) ps ++ behind) → KnowsWords words (length front) ps → AllCoded ps
-    → AreLinesBetween code words (length front) (piece_lines value (length front) ps) (length front + length (blanks ps))
-lines_of_pieces code words front behind value ps e knows coded =
-    lines_from code words front behind value [] ps (length front) (length front) refl (omega arith) e knows coded

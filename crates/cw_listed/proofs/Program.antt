@@ -74,9 +74,6 @@ unit_places start [] k c less = absurd (omega arith)
 unit_places start (u ∷ us) zero c less = places_of_words start u (roots_of u) c.relocs
 unit_places start (u ∷ us) (suc k) c less = unit_places start us k c (omega arith)
 
-all_pieces : List Orders → List Coded
-all_pieces os = flat_map pieces_of os
-
 same_words : (segment start s at : ℕ) (us : List SourceUnit) (os : List Orders) (q : ℕ) → start ≡ s + at → segment + length os ≤ length us
     → is_among (map (λ w. w.place) (words_from segment start us (map orders_code os)) ++ data_from start (map orders_code os)) q
     ≡ is_among (word_places s (relocations at (flat_map pieces_of os))) q

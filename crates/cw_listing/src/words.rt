@@ -1,5 +1,5 @@
 //! What relocated words mean, and the words of data behind calls of the library.
-ghost use Rattle.std.specs.Prelude.{◌≡◌, ◌≤◌, ◌+◌, ◌%◌, ◌++◌, map, flat_map, Some, All, ◌^◌, codes, slice_get, slice_index, IfOk, OnOk};
+ghost use Rattle.std.specs.Prelude.{◌≡◌, ◌≤◌, ◌+◌, ◌%◌, ◌++◌, map, flat_map, Some, All, ◌^◌, slice_get, slice_index, IfOk, OnOk};
 ghost use Rattle.cw_nasm.specs.Assembly.{label_of};
 ghost use Rattle.cw_unit.specs.Storage.{layout_of};
 ghost use Rattle.cw_list.specs.Listing.{segment_owner, unnamed, name_or_line};
@@ -181,19 +181,6 @@ fn limit_name(index: u16) -> &'static [u8]
     }
 }
 
-fn add_address(
-    text: &mut Vec<u8>,
-    unit: &Unit,
-    roots: &[u64],
-    family: u16,
-    offset: u16,
-) -> Result<(), NoMemory>
-    ensures { OnOk result (text.new.items ≡ text.old.items ++ codes "address of " ++ word_name unit.now roots.now family offset) }
-{
-    add(text, b"address of ")?;
-    add_word_name(text, unit, roots, family, offset)
-}
-
 fn add_place(text: &mut Vec<u8>, start: u64, add: u16) -> Result<(), NoMemory>
     requires { start ≤ 65536 }
     ensures { OnOk result (text.new.items ≡ text.old.items ++ label_of ((start + add) % 65536)) }
@@ -213,7 +200,8 @@ fn add_word_text(
     ensures { OnOk result (text.new.items ≡ text.old.items ++ word_text start unit.now roots.now reloc.now) }
 {
     if reloc.sort == 1 {
-        add_address(text, unit, roots, reloc.index, reloc.add)
+        add(text, b"address of ")?;
+        add_word_name(text, unit, roots, reloc.index, reloc.add)
     } else if reloc.sort == 2 {
         add_word_name(text, unit, roots, reloc.index, reloc.add)
     } else if reloc.sort == 3 {

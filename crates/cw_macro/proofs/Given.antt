@@ -1,9 +1,9 @@
 -- What holds of each token left holds of those of the arguments of a call, and of those behind it.
-use Rattle.std.proofs.Common.{List, [], ◌∷◌, Some, None}
+use Rattle.std.proofs.Common.{ℕ, zero, suc, List, [], ◌∷◌, Some, None}
 use Rattle.cw_macro.specs.declared.arguments.Bracket.{Bracket}
 use Rattle.cw_macro.specs.declared.arguments.Role.{Role}
 use Rattle.cw_macro.specs.declared.arguments.Role.TheVariants.{Inside, Separates, Ends, Mismatched}
-use Rattle.cw_macro.specs.Expansion.{Leveled, role_of, innermost, open_behind, GivenArguments, given, arguments}
+use Rattle.cw_macro.specs.Expansion.{Leveled, Parameter, role_of, innermost, open_behind, GivenArguments, given, arguments, tokens_of}
 use Rattle.cw_macro.specs.Premises.{Each}
 
 module _ (P : Leveled → Type 0) where
@@ -26,3 +26,14 @@ module _ (P : Leveled → Type 0) where
 
   pub arguments_each : (ts : List Leveled) → Each P ts → GivenEach (arguments [] ts)
   arguments_each ts h = each_behind [] ts h
+
+module _ (P Q : Leveled → Type 0) (weaker : (t : Leveled) → P t → Q t) where
+  each_weaker : (ts : List Leveled) → Each P ts → Each Q ts
+  each_weaker [] h = tt
+  each_weaker (t ∷ ts) h = (weaker t h.0, each_weaker ts h.1)
+
+  -- what stands for a parameter
+  pub argument_each : (args : List (List Leveled)) (k : ℕ) → Each (Each P) args → Each Q (tokens_of args (Parameter k))
+  argument_each [] k h = tt
+  argument_each (a ∷ args) zero h = each_weaker a h.0
+  argument_each (a ∷ args) (suc k) h = argument_each args k h.1

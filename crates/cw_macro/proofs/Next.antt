@@ -1,8 +1,8 @@
 -- What a step keeps, and that it ends.
 use Rattle.std.proofs.Common.{◌≡◌, ℕ, zero, suc, ◌+◌, ◌-◌, ◌^◌, ◌<◌, ◌≤◌, ◌==◌, Bool, true, false, cond, not, ◌&&◌, List, [], ◌∷◌, ◌++◌, length, Option, Some, None, refl, sym, ap, subst, arith}
 use Rattle.std.specs.Prelude.{nat_lt, nat_le, IfSome}
-use Rattle.std.specs.List.{flat_map, slice_get}
-use Rattle.std.specs.Option.{is_some, option_map_or}
+use Rattle.std.specs.List.{flat_map}
+use Rattle.std.specs.Option.{is_some}
 use Rattle.std.specs.Str.{bytes_eq}
 use Rattle.std.proofs.lemmas.List.{length-append}
 use Rattle.std.proofs.lemmas.Bool.{and_parts}
@@ -19,6 +19,7 @@ use Rattle.cw_macro.specs.declared.fault.TheConstants.{MOST_LEVELS, MOST_TOKENS,
 use Rattle.cw_macro.specs.Expansion.{Leveled, BodyPart, Own, Parameter, Macro, Definitions, Expansion, Step, Finished, Refused, Moved, Defining, Heading, HasBody, GivenArguments, name_of, is_name, is_string, is_open, is_close, is_comma, number_of, parameters, parameters_if_any, closed, heading_of, part, part_if_any, role_of, innermost, open_behind, given, arguments, counted, argument_list, tokens_of, replacement, brought, moving, defining, defined, removing, deleting, redefined, replacing, naming, step_at, step_in, expansion_step}
 use Rattle.cw_macro.specs.Premises.{Each, HasForm, IsWithin, IsPlaced, IsPartWithin, AreWithin, IsSound}
 use Rattle.cw_macro.specs.Views.{Follows, moves, defines}
+use Rattle.cw_macro.proofs.Given.{argument_each}
 use Rattle.cw_macro.proofs.Lists.{each_append, each_map, each_flat_map}
 use Rattle.cw_macro.proofs.Sound.{within_body}
 
@@ -131,18 +132,9 @@ list_rest (suc k) (t ∷ ts) h =
 abbrev LiesWithin : Leveled → Type 0
 LiesWithin t = IsWithin t.lexeme
 
-within_all : (ts : List Leveled) → Each IsPlaced ts → Each LiesWithin ts
-within_all [] h = tt
-within_all (t ∷ ts) h = (h.0.within, within_all ts h.1)
-
-argument_within : (args : List (List Leveled)) (k : ℕ) → Each (Each IsPlaced) args → Each LiesWithin (option_map_or (λ a. a) (slice_get args k) [])
-argument_within [] k h = tt
-argument_within (a ∷ args) zero h = within_all a h.0
-argument_within (a ∷ args) (suc k) h = argument_within args k h.1
-
 part_within : (args : List (List Leveled)) → Each (Each IsPlaced) args → (p : BodyPart) → IsPartWithin p → Each LiesWithin (tokens_of args p)
 part_within args h (Own t) w = (w, tt)
-part_within args h (Parameter k) w = argument_within args k h
+part_within args h (Parameter k) w = argument_each IsPlaced LiesWithin (λ t p. p.within) args k h
 
 brought_placed : (call : Leveled) → IsPlaced call → (t : Leveled) → LiesWithin t → IsPlaced (brought call t)
 brought_placed call p t w = record { line = p.line; within = record { place = w.place; form = w.form } }

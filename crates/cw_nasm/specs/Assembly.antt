@@ -22,12 +22,15 @@ two_hex n = hex_digit (n / 16 % 16) ∷ hex_digit (n % 16) ∷ []
 unfoldable pub four_hex : ℕ → Text
 four_hex n = hex_digit (n / 4096 % 16) ∷ hex_digit (n / 256 % 16) ∷ hex_digit (n / 16 % 16) ∷ hex_digit (n % 16) ∷ []
 
--- a number of a byte or a word, told with its sign
+-- a number of a byte or a word, told with its sign, where half is half of what the width holds
+abbrev pub signed_text : (half n : ℕ) → Text
+signed_text half n = if nat_lt n half then codes "+" ++ decimal n else codes "-" ++ decimal (half + half - n)
+
 abbrev pub signed_byte : ℕ → Text
-signed_byte b = if nat_lt b 128 then codes "+" ++ decimal b else codes "-" ++ decimal (256 - b)
+signed_byte b = signed_text 128 b
 
 abbrev pub signed_word : ℕ → Text
-signed_word w = if nat_lt w 32768 then codes "+" ++ decimal w else codes "-" ++ decimal (65536 - w)
+signed_word w = signed_text 32768 w
 
 -- the label of a place
 abbrev pub label_of : (place : ℕ) → Text

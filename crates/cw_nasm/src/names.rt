@@ -1,5 +1,5 @@
 // The names of registers, address forms and operations, by the numbers that stand in the bytes of instructions.
-ghost use Rattle.std.specs.Prelude.{◌≡◌};
+ghost use Rattle.std.specs.Prelude.{◌≡◌, map};
 ghost use Rattle.cw_nasm.specs.Names.{register, form, name_in, sums, condition, shifts, loops, unaries};
 
 const WORD_REGISTERS: [&[u8]; 8] = [b"ax", b"cx", b"dx", b"bx", b"sp", b"bp", b"si", b"di"];
@@ -26,67 +26,62 @@ const LOOPS: [&[u8]; 4] = [b"loopnz", b"loopz", b"loop", b"jcxz"];
 
 const UNARIES: [&[u8]; 8] = [b"", b"", b"not", b"neg", b"mul", b"imul", b"div", b"idiv"];
 
+// The name of a number, or nothing behind the last.
+fn name_in(names: &[&'static [u8]], number: u8) -> &'static [u8]
+    ensures { result.now ≡ name_in (map (λ name. name.now) names.now) number }
+{
+    match names.get(number as usize) {
+        Some(name) => *name,
+        None => &[],
+    }
+}
+
 pub(crate) fn register(wide: bool, reg: u8) -> &'static [u8]
     ensures { result.now ≡ register wide reg }
 {
-    let names = if wide { WORD_REGISTERS } else { BYTE_REGISTERS };
-    match names.get(reg as usize) {
-        Some(name) => *name,
-        None => &[],
+    if wide {
+        name_in(&WORD_REGISTERS, reg)
+    } else {
+        name_in(&BYTE_REGISTERS, reg)
     }
 }
 
 pub(crate) fn form(rm: u8) -> &'static [u8]
     ensures { result.now ≡ form rm }
 {
-    match FORMS.get(rm as usize) {
-        Some(name) => *name,
-        None => &[],
-    }
+    name_in(&FORMS, rm)
 }
 
 pub(crate) fn sum(op: u8) -> &'static [u8]
     ensures { result.now ≡ name_in sums op }
 {
-    match SUMS.get(op as usize) {
-        Some(name) => *name,
-        None => &[],
-    }
+    name_in(&SUMS, op)
 }
 
 pub(crate) fn condition(cond: u8) -> &'static [u8]
     ensures { result.now ≡ condition cond }
 {
-    let names = if cond % 2 == 0 { CONDITIONS } else { OPPOSITES };
-    match names.get((cond / 2) as usize) {
-        Some(name) => *name,
-        None => &[],
+    if cond % 2 == 0 {
+        name_in(&CONDITIONS, cond / 2)
+    } else {
+        name_in(&OPPOSITES, cond / 2)
     }
 }
 
 pub(crate) fn shift(op: u8) -> &'static [u8]
     ensures { result.now ≡ name_in shifts op }
 {
-    match SHIFTS.get(op as usize) {
-        Some(name) => *name,
-        None => &[],
-    }
+    name_in(&SHIFTS, op)
 }
 
 pub(crate) fn loop_name(kind: u8) -> &'static [u8]
     ensures { result.now ≡ name_in loops kind }
 {
-    match LOOPS.get(kind as usize) {
-        Some(name) => *name,
-        None => &[],
-    }
+    name_in(&LOOPS, kind)
 }
 
 pub(crate) fn unary(op: u8) -> &'static [u8]
     ensures { result.now ≡ name_in unaries op }
 {
-    match UNARIES.get(op as usize) {
-        Some(name) => *name,
-        None => &[],
-    }
+    name_in(&UNARIES, op)
 }

@@ -1,7 +1,7 @@
 //! Text that grows piece by piece: numbers, operands, instructions.
-ghost use Rattle.std.specs.Prelude.{◌≡◌, ◌<◌, ◌++◌, codes, decimal, flat_map, OnOk};
+ghost use Rattle.std.specs.Prelude.{◌≡◌, ◌<◌, ◌≤◌, ◌+◌, ◌^◌, ◌++◌, codes, decimal, flat_map, OnOk};
 ghost use Rattle.cw_i86.specs.Encoding.{IsInstr, bytes_of};
-ghost use Rattle.cw_nasm.specs.Assembly.{hex_digit, two_hex, four_hex, signed_byte, signed_word, label_of};
+ghost use Rattle.cw_nasm.specs.Assembly.{hex_digit, two_hex, four_hex, signed_text, label_of};
 ghost use Rattle.cw_nasm.specs.Assembly.{width_text, segment_text, near_size, far_size, place_text};
 ghost use Rattle.cw_nasm.specs.Assembly.{operand_text, behind, operation_text, hex_byte, next_byte, bytes_text, text_by_bytes, assembly_text};
 
@@ -65,27 +65,18 @@ pub fn add_label(text: &mut Vec<u8>, place: u16) -> Result<(), NoMemory>
     add_four_hex(text, place)
 }
 
-fn add_signed_byte(text: &mut Vec<u8>, byte: u8) -> Result<(), NoMemory>
-    ensures { OnOk result (text.new.items ≡ text.old.items ++ signed_byte byte) }
+// A number of a byte or a word with its sign, where half is half of what the width holds.
+fn add_signed(text: &mut Vec<u8>, half: u32, number: u32) -> Result<(), NoMemory>
+    requires half { half ≤ 2 ^ 15 }
+    requires number { number < half + half }
+    ensures { OnOk result (text.new.items ≡ text.old.items ++ signed_text half number) }
 {
-    if byte < 128 {
+    if number < half {
         add(text, b"+")?;
-        add_decimal(text, u32::from(byte))
+        add_decimal(text, number)
     } else {
         add(text, b"-")?;
-        add_decimal(text, 256 - u32::from(byte))
-    }
-}
-
-fn add_signed_word(text: &mut Vec<u8>, word: u16) -> Result<(), NoMemory>
-    ensures { OnOk result (text.new.items ≡ text.old.items ++ signed_word word) }
-{
-    if word < 32768 {
-        add(text, b"+")?;
-        add_decimal(text, u32::from(word))
-    } else {
-        add(text, b"-")?;
-        add_decimal(text, 65536 - u32::from(word))
+        add_decimal(text, half + half - number)
     }
 }
 
@@ -137,13 +128,13 @@ fn add_place(text: &mut Vec<u8>, cs: bool, place: Place) -> Result<(), NoMemory>
             add(text, near_size(by))?;
             add(text, segment_text(cs))?;
             add(text, form(rm))?;
-            add_signed_byte(text, by)
+            add_signed(text, 0x80, u32::from(by))
         }
         Place::Far(rm, by) => {
             add(text, far_size(by))?;
             add(text, segment_text(cs))?;
             add(text, form(rm))?;
-            add_signed_word(text, by)
+            add_signed(text, 0x8000, u32::from(by))
         }
     }
 }
@@ -174,7 +165,7 @@ fn add_operand(text: &mut Vec<u8>, operand: Operand) -> Result<(), NoMemory>
         Operand::Memory { width, mem } => add_memory(text, width, mem),
         Operand::Number(number) => add_decimal(text, u32::from(number)),
         Operand::StrictWord(word) => add_strict(text, word),
-        Operand::Signed(byte) => add_signed_byte(text, byte),
+        Operand::Signed(byte) => add_signed(text, 0x80, u32::from(byte)),
         Operand::Label(place) => add_label(text, place),
     }
 }

@@ -71,13 +71,8 @@ spec-fits test F one s h =
     (answer-fits (out-Spec s).answer a.0, ltb-true (length params) 256 b.0, all-fit test F one params b.1)
 
 layer-fits : (p : SpecParam-F SpecParam Spec) → IsTrue (fits_layer p) → FitsLayer p
-layer-fits (takes.Value s) h = scale-fits s h
-layer-fits (takes.Location s) h = scale-fits s h
-layer-fits (takes.Array s) h = scale-fits s h
-layer-fits (takes.Table width) h = ltb-true width 65536 h
-layer-fits takes.Label h = tt
-layer-fits takes.Switch h = tt
 layer-fits (takes.Proc s) h = spec-fits fits_plain_parameter FitsPlainParameter plain-parameter s h
+layer-fits p h = plain-layer p h
 
 parameter-fits : (p : SpecParam) → IsTrue (fits_parameter p) → FitsParameter p
 parameter-fits p h = layer-fits (out-SpecParam p) h

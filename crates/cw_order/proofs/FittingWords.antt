@@ -1,5 +1,5 @@
 -- Each step keeps the words within a word.
-use Rattle.std.proofs.Common.{◌≡◌, ℕ, zero, suc, ◌+◌, ◌-◌, ◌^◌, min, ◌<◌, ◌≤◌, ℤ, pos, negsuc, ◌+ℤ◌, ◌-ℤ◌, ◌*ℤ◌, neg_ℤ, List, [], ◌∷◌, ◌++◌, length, set, Bool, true, false, not, Option, Some, None, refl, arith, pow_mono, pow_pos}
+use Rattle.std.proofs.Common.{◌≡◌, ℕ, zero, suc, ◌+◌, ◌-◌, ◌^◌, min, ◌<◌, ◌≤◌, ℤ, pos, negsuc, ◌+ℤ◌, ◌-ℤ◌, neg_ℤ, List, [], ◌∷◌, ◌++◌, length, set, Bool, true, false, not, Option, Some, None, refl, arith, pow_mono, pow_pos}
 use Rattle.std.specs.Prelude.{nat_eq, nat_le, nat_lt, int_le, ◌&&◌, slice_get, if◌then◌else◌}
 use Rattle.std.specs.List.{All}
 use Rattle.std.proofs.lemmas.Bool.Decides.{nat_tests}
@@ -13,10 +13,11 @@ use Rattle.cw_word.specs.BitField.{unsigned_field, twos_complement}
 use Rattle.cw_word.specs.Word.{signed, unsigned, word_difference}
 use Rattle.cw_unit.specs.declared.unit.Field.{Field}
 use Rattle.cw_unit.specs.declared.unit.Goal.{Goal}
-use Rattle.cw_unit.specs.Stop.{StopKind, Overflow, AddressRange, Running, Ended, Stopped, Stuck, IndexRange}
-use Rattle.cw_unit.specs.Words.{Control, LabelControl, SwitchControl, ProcedureControl, Operand, Word, Held, Words, Outcome, Changed, Refused, Impossible, with_operands, with_memory, put, put_if, put_value, on_one, on_two, through, at_address, is_below, number_of, word_at, field_value, with_bits, byte_of, read_byte}
+use Rattle.cw_unit.specs.Stop.{StopKind, Overflow, AddressRange, Running, IndexRange}
+use Rattle.cw_unit.specs.Words.{Control, LabelControl, SwitchControl, ProcedureControl, Operand, Word, Held, Words, Outcome, Changed, Refused, Impossible, with_operands, with_memory, put, put_if, put_value, on_one, on_two, at_address, is_below, number_of, word_at, field_value, with_bits, byte_of, read_byte}
 use Rattle.cw_unit.specs.Operation.{Addressing, Known, Taken, Indexed, Indexed2, Scaled, Constant, Fetch, SetVariable, AddStep, fitting, form_address, store_with, store_sum, divide, address_of, perform, holds}
 use Rattle.cw_unit.specs.Step.{held, goal_at, with_label_owner}
+use Rattle.cw_unit.proofs.Forms.{row_address, entry_address, of_row, of_entry}
 use Rattle.cw_order.specs.declared.order.Order.{Order}
 use Rattle.cw_order.specs.declared.order.Order.TheVariants as order
 use Rattle.cw_order.specs.declared.order.Orders.{Orders}
@@ -27,13 +28,14 @@ use Rattle.cw_order.specs.Loading.{loaded_after}
 use Rattle.cw_order.specs.OrderActions.{Action, Perform, Access, Alter, AlterWithin, Pass, Branch, GoMain, GoLabel, GoSwitch, Call, Enter, Return, EndBody, home_word, common_label, common_switch, common_procedure, place_address, action_of}
 use Rattle.cw_order.specs.OrderMachine.{go_on, go_at, after, unrefused, leave_for, dropped_by, called, call_at, enter_with, return_with, next_body, branch, go_to_entry, go_to, go_to_goal, go_by_list, go_through, call_entry, call, enter, come_back, end_body, act, carry_with, carry_out, step}
 use Rattle.cw_order.specs.FittingWords.{OperandFits, WordsFit, ActivationFits, StateFits}
+use Rattle.cw_order.proofs.Keeping.{OutcomeIs, KeepsIt, through-kept, fitting-kept, if_inside-kept, unrefused-kept, ActionIs}
 
 -- ---- numbers
 
-signed-fits : (n : ℕ) → FitsWord (signed n)
+pub signed-fits : (n : ℕ) → FitsWord (signed n)
 signed-fits n = omega (arith, ints)
 
-tested-fits : (z : ℤ) → fits_word z ≡ true → FitsWord z
+pub tested-fits : (z : ℤ) → fits_word z ≡ true → FitsWord z
 tested-fits (pos n) h = grind (arith, ints, nat_tests)
 tested-fits (negsuc n) h = grind (arith, ints, nat_tests)
 
@@ -63,12 +65,10 @@ field-fits (Some f) z fits = part-fits (nat_lt 15 f.t) f.unsigned f.t (unsigned_
 -- ---- outcomes
 
 abbrev OutcomeFits : Outcome → Type 0
-OutcomeFits (Changed w) = WordsFit w
-OutcomeFits (Refused kind) = Unit {0}
-OutcomeFits Impossible = Unit {0}
+OutcomeFits = OutcomeIs WordsFit
 
 abbrev Keeps : (Words → Outcome) → Type 0
-Keeps f = (w : Words) → WordsFit w → OutcomeFits (f w)
+Keeps = KeepsIt WordsFit
 
 less-fits : (x : Operand) (rest : List Operand) (w : Words) → All OperandFits (x ∷ rest) → WordsFit w → WordsFit (with_operands w rest)
 less-fits x rest w all fits = record { operands = All-tail OperandFits x rest all; memory = fits.memory; input = fits.input }
@@ -103,12 +103,7 @@ on_two-fits f h w fits =
     w
     fits
 
-through-fits : (b : Bool) (f : ℕ → Words → Outcome) → ((i : ℕ) → Keeps (f i)) → (a : ℤ) → Keeps (through b f a)
-through-fits true f h (pos n) w fits = h n w fits
-through-fits true f h (negsuc n) w fits = h 0 w fits
-through-fits false f h a w fits = tt
-
-word_at-fits : (memory : List ℤ) (i : ℕ) → All FitsWord memory → FitsWord (word_at memory i)
+pub word_at-fits : (memory : List ℤ) (i : ℕ) → All FitsWord memory → FitsWord (word_at memory i)
 word_at-fits [] i all = let z : FitsWord (pos 0) = omega (arith, ints) in z
 word_at-fits (z ∷ zs) zero all = All-head FitsWord z zs all
 word_at-fits (z ∷ zs) (suc i) all = word_at-fits zs i (All-tail FitsWord z zs all)
@@ -120,7 +115,7 @@ fetch-fits : (area : ℕ) (f : Option Field) → Keeps (perform area (Fetch f))
 fetch-fits area f =
     on_top-fits (at_address area (λ i v. Changed (put (field_value f (word_at v.memory i)) v)))
     (λ a fa v fv.
-    through-fits (is_below a area) (λ i t. Changed (put (field_value f (word_at t.memory i)) t))
+    through-kept WordsFit (is_below a area) (λ i t. Changed (put (field_value f (word_at t.memory i)) t))
     (λ i t ft. put-fits _ (field-fits f _ (word_at-fits t.memory i ft.memory)) t ft)
     a
     v
@@ -130,7 +125,7 @@ store-fits : (area : ℕ) (f : ℤ → ℤ → ℤ) → ((x z : ℤ) → FitsWor
 store-fits area f h =
     on_two-fits (λ z a v. at_address area (λ i t. Changed (with_memory t (set t.memory i (f (word_at t.memory i) z)))) a v)
     (λ z a fz fa v fv.
-    through-fits (is_below a area) (λ i t. Changed (with_memory t (set t.memory i (f (word_at t.memory i) z))))
+    through-kept WordsFit (is_below a area) (λ i t. Changed (with_memory t (set t.memory i (f (word_at t.memory i) z))))
     (λ i t ft. set-fits i (f (word_at t.memory i) z) t (h (word_at t.memory i) z fz) ft)
     a
     v
@@ -167,10 +162,6 @@ read-fits (b ∷ rest) w all fits =
 index-fits : (f : ℤ → ℤ) → Keeps (λ w. on_one (λ i v. put_index (f i) v) w.operands w)
 index-fits f = on_top-fits (λ i v. put_index (f i) v) (λ i fi v fv. put_index-fits (f i) v fv)
 
-fitting-fits : (b : Bool) (f : Words → Outcome) → Keeps f → Keeps (λ w. fitting b (f w))
-fitting-fits true f h w fits = h w fits
-fitting-fits false f h w fits = tt
-
 -- an address of an area of words fits a word
 below_fits : (area : ℕ) (z : ℤ) → area ≤ 32768 → is_below z area ≡ true → FitsWord z
 below_fits area (pos n) low is = let lt = ltb-true n area is in let f : FitsWord (pos n) = omega (arith, ints, low, lt) in f
@@ -188,46 +179,20 @@ form-fits area (Known z) low = address-in-fits area z low
 form-fits area Taken low = on_top-fits (address_of area) (λ z fz. address-in-fits area z low)
 form-fits area (Indexed base lower) low =
     on_top-fits (λ i v. fitting (fits_word (i -ℤ lower)) (address_of area (base +ℤ (i -ℤ lower)) v))
-    (λ i fi. fitting-fits (fits_word (i -ℤ lower)) (address_of area (base +ℤ (i -ℤ lower))) (address-in-fits area (base +ℤ (i -ℤ lower)) low))
+    (λ i fi. fitting-kept WordsFit (fits_word (i -ℤ lower)) (address_of area (base +ℤ (i -ℤ lower))) (address-in-fits area (base +ℤ (i -ℤ lower)) low))
 form-fits area (Indexed2 base l1 l2 width) low =
-    on_two-fits
-    (λ i j v.
-    fitting (fits_word (i -ℤ l1))
-    (fitting (fits_word ((i -ℤ l1) *ℤ pos width))
-    (fitting (fits_word (j -ℤ l2))
-    (fitting (fits_word ((i -ℤ l1) *ℤ pos width +ℤ (j -ℤ l2))) (address_of area (base +ℤ ((i -ℤ l1) *ℤ pos width +ℤ (j -ℤ l2))) v)))))
-    (λ i j fi fj.
-    let row : ℤ = (i -ℤ l1) *ℤ pos width in
-    let place : ℤ = row +ℤ (j -ℤ l2) in
-    let last : Words → Outcome = address_of area (base +ℤ place) in
-    let fourth : Words → Outcome = λ v. fitting (fits_word place) (last v) in
-    let third : Words → Outcome = λ v. fitting (fits_word (j -ℤ l2)) (fourth v) in
-    fitting-fits (fits_word (i -ℤ l1)) (λ v. fitting (fits_word row) (third v))
-    (fitting-fits (fits_word row) third
-    (fitting-fits (fits_word (j -ℤ l2)) fourth
-    (fitting-fits (fits_word place) last (address-in-fits area (base +ℤ place) low)))))
+    on_two-fits (row_address area base l1 l2 width) (λ i j fi fj. of_row Keeps (fitting-kept WordsFit) area (λ z. address-in-fits area z low) base l1 l2 width i j)
 form-fits area (Scaled base width word) low =
-    on_top-fits
-    (λ i v.
-    fitting (fits_word (i *ℤ pos width)) (fitting (fits_word (i *ℤ pos width +ℤ pos word)) (address_of area (base +ℤ (i *ℤ pos width +ℤ pos word)) v)))
-    (λ i fi.
-    let place : ℤ = i *ℤ pos width +ℤ pos word in
-    let last : Words → Outcome = address_of area (base +ℤ place) in
-    let second : Words → Outcome = λ v. fitting (fits_word place) (last v) in
-    fitting-fits (fits_word (i *ℤ pos width)) second (fitting-fits (fits_word place) last (address-in-fits area (base +ℤ place) low)))
+    on_top-fits (entry_address area base width word) (λ i fi. of_entry Keeps (fitting-kept WordsFit) area (λ z. address-in-fits area z low) base width word i)
 
 from_base-fits : (area : ℕ) (f : ℤ → Addressing) → Keeps (from_base area f)
 from_base-fits area f = on_top-fits (λ base v. form_address (min area 32768) (f base) v) (λ base fb. form-fits (min area 32768) (f base) (min-le_right area 32768))
-
-if_inside-fits : (b : Bool) (f : Words → Outcome) → Keeps f → Keeps (λ w. if_inside b (f w))
-if_inside-fits true f h w fits = h w fits
-if_inside-fits false f h w fits = tt
 
 variable-fits : (area loop : ℕ) → Keeps (perform area (SetVariable loop))
 variable-fits area loop =
     on_top-fits (λ x v. at_address area (λ i t. Changed (with_memory t (set t.memory i x))) (word_at v.memory loop) v)
     (λ x fx v fv.
-    through-fits (is_below (word_at v.memory loop) area) (λ i t. Changed (with_memory t (set t.memory i x))) (λ i t ft. set-fits i x t fx ft)
+    through-kept WordsFit (is_below (word_at v.memory loop) area) (λ i t. Changed (with_memory t (set t.memory i x))) (λ i t ft. set-fits i x t fx ft)
     (word_at v.memory loop)
     v
     fv)
@@ -238,7 +203,7 @@ store_sum-fits false i z h w fits = tt
 
 step-added-fits : (area loop : ℕ) → Keeps (perform area (AddStep loop))
 step-added-fits area loop w fits =
-    through-fits (is_below (word_at w.memory loop) area)
+    through-kept WordsFit (is_below (word_at w.memory loop) area)
     (λ i v. store_sum (fits_word (word_at v.memory i +ℤ word_at v.memory (loop + 1))) i (word_at v.memory i +ℤ word_at v.memory (loop + 1)) v)
     (λ i v fv. store_sum-fits (fits_word (word_at v.memory i +ℤ word_at v.memory (loop + 1))) i (word_at v.memory i +ℤ word_at v.memory (loop + 1)) refl v fv)
     (word_at w.memory loop)
@@ -247,7 +212,7 @@ step-added-fits area loop w fits =
 
 variable-put-fits : (area loop : ℕ) (a : ℤ) → FitsWord a → Keeps (λ w. at_address area (λ i t. Changed (put a (put (word_at t.memory i) t))) (word_at w.memory loop) w)
 variable-put-fits area loop a fa w fits =
-    through-fits (is_below (word_at w.memory loop) area) (λ i t. Changed (put a (put (word_at t.memory i) t)))
+    through-kept WordsFit (is_below (word_at w.memory loop) area) (λ i t. Changed (put a (put (word_at t.memory i) t)))
     (λ i t ft. put-fits a fa (put (word_at t.memory i) t) (put-fits (word_at t.memory i) (word_at-fits t.memory i ft.memory) t ft))
     (word_at w.memory loop)
     w
@@ -270,7 +235,7 @@ bind-fits area None a fx w fits = tt
 bind-fits area (Some (Held c)) a fx w fits = tt
 bind-fits area (Some (Word z)) None fx w fits = tt
 bind-fits area (Some (Word z)) (Some a) fx w fits =
-    through-fits (is_below (pos a) area) (λ i v. Changed (with_memory v (set v.memory i z))) (λ i v fv. set-fits i z v fx fv) (pos a) w fits
+    through-kept WordsFit (is_below (pos a) area) (λ i v. Changed (with_memory v (set v.memory i z))) (λ i v fv. set-fits i z v fx fv) (pos a) w fits
 
 behind-fits : (n : ℕ) (operands : List Operand) → All OperandFits operands → ArgumentFits (argument_behind n operands)
 behind-fits n [] all = tt
@@ -353,12 +318,7 @@ bounded-fits false z h w fits = tt
 -- ---- orders
 
 abbrev ActionFits : (area : ℕ) → Action → Type 0
-ActionFits area (Perform line op) = Keeps (perform area op)
-ActionFits area (Access op) = Keeps (perform area op)
-ActionFits area (Alter line f) = Keeps f
-ActionFits area (AlterWithin f) = Keeps f
-ActionFits area (Branch line f) = Leads f
-ActionFits area _ = Unit {0}
+ActionFits = ActionIs Keeps Leads
 
 constant-fits : (area n : ℕ) → Keeps (perform area (Constant (signed n)))
 constant-fits area n w fits = put-fits (signed n) (signed-fits n) w fits
@@ -401,17 +361,17 @@ action-fits p g acts (order.Exhausted m) all = way_of_two-fits (λ x a v. way_pa
 action-fits p g acts (order.NextStep x line m) all = next_step-fits p.limits.area m (place_address p g acts x)
 action-fits p g acts (order.SetVariable line) all =
     on_top-fits (λ a v. if_inside (is_below a p.limits.area) (perform p.limits.area (SetVariable (number_of a)) v))
-    (λ a fa. if_inside-fits (is_below a p.limits.area) (perform p.limits.area (SetVariable (number_of a))) (variable-fits p.limits.area (number_of a)))
+    (λ a fa. if_inside-kept WordsFit (is_below a p.limits.area) (perform p.limits.area (SetVariable (number_of a))) (variable-fits p.limits.area (number_of a)))
 action-fits p g acts (order.AddStep line) all =
     on_top-fits (λ a v. if_inside (is_below a (p.limits.area - 1)) (perform p.limits.area (AddStep (number_of a)) v))
-    (λ a fa. if_inside-fits (is_below a (p.limits.area - 1)) (perform p.limits.area (AddStep (number_of a))) (step-added-fits p.limits.area (number_of a)))
+    (λ a fa. if_inside-kept WordsFit (is_below a (p.limits.area - 1)) (perform p.limits.area (AddStep (number_of a))) (step-added-fits p.limits.area (number_of a)))
 action-fits p g acts (order.PutVariable line) all =
     on_top-fits
     (λ a v.
     if_inside (is_below a p.limits.area)
     (at_address p.limits.area (λ i t. Changed (put a (put (word_at t.memory i) t))) (word_at v.memory (number_of a)) v))
     (λ a fa.
-    if_inside-fits (is_below a p.limits.area)
+    if_inside-kept WordsFit (is_below a p.limits.area)
     (λ v. at_address p.limits.area (λ i t. Changed (put a (put (word_at t.memory i) t))) (word_at v.memory (number_of a)) v)
     (variable-put-fits p.limits.area (number_of a) a fa))
 action-fits p g acts (order.LoopWay marks) all = λ w fits.
@@ -450,11 +410,6 @@ after-fits room line Impossible g place loaded acts w all fits h = record { word
 go_at-fits : (q : Option ℕ) (g place : ℕ) (loaded : Bool) (acts : List OrderActivation) (w v : Words) → All ActivationFits acts → WordsFit w → WordsFit v → StateFits (go_at q g place loaded acts w v)
 go_at-fits None g place loaded acts w v all fits h = record { words = fits; activations = all }
 go_at-fits (Some q) g place loaded acts w v all fits h = record { words = h; activations = all }
-
-unrefused-fits : (o : Outcome) → OutcomeFits o → OutcomeFits (unrefused o)
-unrefused-fits (Changed v) h = h
-unrefused-fits (Refused kind) h = tt
-unrefused-fits Impossible h = tt
 
 leave_for-fits : (q : Option ℕ) (to n g place : ℕ) (loaded : Bool) (acts : List OrderActivation) (w : Words) → All ActivationFits acts → WordsFit w → StateFits (leave_for q to n g place loaded acts w)
 leave_for-fits None to n g place loaded acts w all fits = record { words = fits; activations = all }
@@ -512,9 +467,7 @@ module _ (p : OrderProgram) where
 
   go_to-fits : (c : Option Control) (g place : ℕ) (loaded : Bool) (acts : List OrderActivation) (w : Words) → All ActivationFits acts → WordsFit w → StateFits (go_to p c g place loaded acts w)
   go_to-fits (Some (LabelControl to l owner)) g place loaded acts w all fits = go_to_entry-fits (label_at p to l) to owner g place loaded acts w all fits
-  go_to-fits (Some (SwitchControl to n owner)) g place loaded acts w all fits = record { words = fits; activations = all }
-  go_to-fits (Some (ProcedureControl to q)) g place loaded acts w all fits = record { words = fits; activations = all }
-  go_to-fits None g place loaded acts w all fits = record { words = fits; activations = all }
+  go_to-fits _ g place loaded acts w all fits = record { words = fits; activations = all }
 
   go_to_goal-fits : (line : ℕ) (x : Option Goal) (to owner g place : ℕ) (loaded : Bool) (acts : List OrderActivation) (w : Words) → All ActivationFits acts → WordsFit w → StateFits (go_to_goal p line x to owner g place loaded acts w)
   go_to_goal-fits line None to owner g place loaded acts w all fits = record { words = fits; activations = all }
@@ -528,9 +481,7 @@ module _ (p : OrderProgram) where
 
   go_through-fits : (line : ℕ) (c : Option Control) (g place : ℕ) (loaded : Bool) (acts : List OrderActivation) (w : Words) → All ActivationFits acts → WordsFit w → StateFits (go_through p line c g place loaded acts w)
   go_through-fits line (Some (SwitchControl to n owner)) g place loaded acts w all fits = go_by_list-fits line (switch_at p to n) w.operands to owner g place loaded acts w all fits
-  go_through-fits line (Some (LabelControl to l owner)) g place loaded acts w all fits = record { words = fits; activations = all }
-  go_through-fits line (Some (ProcedureControl to q)) g place loaded acts w all fits = record { words = fits; activations = all }
-  go_through-fits line None g place loaded acts w all fits = record { words = fits; activations = all }
+  go_through-fits line _ g place loaded acts w all fits = record { words = fits; activations = all }
 
   call_entry-fits : (line : ℕ) (e : Option ProcedureEntry) (to g place : ℕ) (loaded : Bool) (acts : List OrderActivation) (w : Words) → All ActivationFits acts → WordsFit w → StateFits (call_entry p line e to g place loaded acts w)
   call_entry-fits line None to g place loaded acts w all fits = record { words = fits; activations = all }
@@ -542,9 +493,7 @@ module _ (p : OrderProgram) where
 
   call-fits : (line : ℕ) (c : Option Control) (g place : ℕ) (loaded : Bool) (acts : List OrderActivation) (w : Words) → All ActivationFits acts → WordsFit w → StateFits (call p line c g place loaded acts w)
   call-fits line (Some (ProcedureControl to q)) g place loaded acts w all fits = call_entry-fits line (procedure_at p to q) to g place loaded acts w all fits
-  call-fits line (Some (LabelControl to l owner)) g place loaded acts w all fits = record { words = fits; activations = all }
-  call-fits line (Some (SwitchControl to n owner)) g place loaded acts w all fits = record { words = fits; activations = all }
-  call-fits line None g place loaded acts w all fits = record { words = fits; activations = all }
+  call-fits line _ g place loaded acts w all fits = record { words = fits; activations = all }
 
   enter-fits : (size g place : ℕ) (loaded : Bool) (acts : List OrderActivation) (w : Words) → All ActivationFits acts → WordsFit w → StateFits (enter p size g place loaded acts w)
   enter-fits size g place loaded [] w all fits = record { words = fits; activations = all }
@@ -562,9 +511,9 @@ module _ (p : OrderProgram) where
   act-fits : (x : Action) (g place : ℕ) (loaded : Bool) (acts : List OrderActivation) (w : Words) → ActionFits p.limits.area x → All ActivationFits acts → WordsFit w → StateFits (act p x g place loaded acts w)
   act-fits (Perform line op) g place loaded acts w h all fits = after-fits p.room line (perform p.limits.area op w) g place loaded acts w all fits (h w fits)
   act-fits (Access op) g place loaded acts w h all fits =
-      after-fits p.room 0 (unrefused (perform p.limits.area op w)) g place loaded acts w all fits (unrefused-fits (perform p.limits.area op w) (h w fits))
+      after-fits p.room 0 (unrefused (perform p.limits.area op w)) g place loaded acts w all fits (unrefused-kept WordsFit (perform p.limits.area op w) (h w fits))
   act-fits (Alter line f) g place loaded acts w h all fits = after-fits p.room line (f w) g place loaded acts w all fits (h w fits)
-  act-fits (AlterWithin f) g place loaded acts w h all fits = after-fits p.room 0 (unrefused (f w)) g place loaded acts w all fits (unrefused-fits (f w) (h w fits))
+  act-fits (AlterWithin f) g place loaded acts w h all fits = after-fits p.room 0 (unrefused (f w)) g place loaded acts w all fits (unrefused-kept WordsFit (f w) (h w fits))
   act-fits Pass g place loaded acts w h all fits = record { words = fits; activations = all }
   act-fits (Branch line f) g place loaded acts w h all fits = branch-fits line (f w) g place loaded acts w all fits (h w fits)
   act-fits (GoMain m) g place loaded acts w h all fits = leave_for-fits (place_of p g m) g (length acts) g place loaded acts w all fits
@@ -585,6 +534,4 @@ module _ (p : OrderProgram) where
 
   pub step-fits : (s : OrderState) → StateFits s → StateFits (step p s)
   step-fits (at g place loaded acts w Running) h = carry_out-fits (order_at p g place) g place loaded acts w h.activations h.words
-  step-fits (at g place loaded acts w Ended) h = record { words = h.words; activations = h.activations }
-  step-fits (at g place loaded acts w (Stopped kind s l)) h = record { words = h.words; activations = h.activations }
-  step-fits (at g place loaded acts w Stuck) h = record { words = h.words; activations = h.activations }
+  step-fits _ h = record { words = h.words; activations = h.activations }

@@ -1,5 +1,5 @@
 -- Each step keeps the activations and the control arguments as the orders rely on them.
-use Rattle.std.proofs.Common.{◌≡◌, inl, inr, ⊎_elim, ℕ, zero, suc, ◌+◌, ◌-◌, min, ◌≤◌, ℤ, pos, negsuc, ◌+ℤ◌, ◌-ℤ◌, ◌*ℤ◌, neg_ℤ, List, [], ◌∷◌, ◌++◌, length, set, drop, Bool, true, false, not, Option, Some, None, refl, sym, ap, ◌∙◌, subst, arith}
+use Rattle.std.proofs.Common.{◌≡◌, inl, inr, ⊎_elim, ℕ, zero, suc, ◌+◌, ◌-◌, min, ◌≤◌, ℤ, pos, negsuc, ◌+ℤ◌, ◌-ℤ◌, neg_ℤ, List, [], ◌∷◌, ◌++◌, length, set, drop, Bool, true, false, not, Option, Some, None, refl, sym, ap, ◌∙◌, subst, arith}
 use Rattle.std.specs.Prelude.{int_le, ◌&&◌, nat_eq, nat_le, nat_lt, slice_get, ◌&&◌}
 use Rattle.std.specs.List.{All}
 use Rattle.std.proofs.lemmas.Bool.{leb-true, true≢false, false≢true}
@@ -12,10 +12,11 @@ use Rattle.cw_unit.specs.declared.unit.Goal.{Goal}
 use Rattle.cw_unit.specs.declared.unit.Goal.TheVariants as goal
 use Rattle.cw_unit.specs.declared.unit.Def.{Def}
 use Rattle.cw_unit.specs.declared.unit.Def.TheVariants as def
-use Rattle.cw_unit.specs.Stop.{StopKind, Overflow, AddressRange, IndexRange, Running, Ended, Stopped, Stuck}
+use Rattle.cw_unit.specs.Stop.{StopKind, Overflow, AddressRange, IndexRange, Running}
 use Rattle.cw_unit.specs.Words.{Control, LabelControl, SwitchControl, ProcedureControl, Operand, Word, Held, Words, Outcome, Changed, Refused, Impossible, with_operands, with_memory, put, put_if, put_value, on_one, on_two, through, at_address, is_below, number_of, word_at, field_value, with_bits, byte_of, read_byte}
 use Rattle.cw_unit.specs.Operation.{Addressing, Known, Taken, Indexed, Indexed2, Scaled, Fetch, SetVariable, AddStep, fitting, form_address, store_with, store_sum, divide, address_of, perform, holds}
 use Rattle.cw_unit.specs.Step.{held, goal_at, label_of_def, switch_of_def, procedure_of_def, with_label_owner, with_switch_owner, as_procedure}
+use Rattle.cw_unit.proofs.Forms.{row_address, entry_address, of_row, of_entry}
 use Rattle.cw_order.specs.declared.order.Order.{Order}
 use Rattle.cw_order.specs.declared.order.Order.TheVariants as order
 use Rattle.cw_order.specs.declared.order.Orders.{Orders}
@@ -26,10 +27,11 @@ use Rattle.cw_order.specs.Loading.{loaded_after}
 use Rattle.cw_order.specs.OrderActions.{Action, Perform, Access, Alter, AlterWithin, Pass, Branch, GoMain, GoLabel, GoSwitch, Call, Enter, Return, EndBody, home_word, common_label, common_switch, common_procedure, place_address, action_of}
 use Rattle.cw_order.specs.OrderMachine.{go_on, go_at, after, unrefused, leave_for, dropped_by, called, call_at, enter_with, return_with, next_body, branch, go_to_entry, go_to, go_to_goal, go_by_list, go_through, call_entry, call, enter, come_back, end_body, act, carry_with, carry_out, step}
 use Rattle.cw_order.specs.Activations.{segment_below, IsThere, OwnsLabel, ControlStands, OperandStands, ActivationsStand, Beginning, LastStands, StateStands, Callable}
+use Rattle.cw_order.proofs.Keeping.{OutcomeIs, KeepsIt, through-kept, fitting-kept, if_inside-kept, unrefused-kept, ActionIs}
 
 -- ---- numbers
 
-words_split : (operands : List Operand) (acts : List OrderActivation) → stack_words operands acts ≡ operand_words operands + stack_words [] acts
+pub words_split : (operands : List Operand) (acts : List OrderActivation) → stack_words operands acts ≡ operand_words operands + stack_words [] acts
 words_split operands [] = omega arith
 words_split operands (a ∷ acts) = omega arith
 
@@ -44,14 +46,15 @@ both_true false b e = absurd (false≢true e)
 
 -- ---- outcomes
 
+abbrev AllOf : (Operand → Type 0) → Words → Type 0
+AllOf P w = All P w.operands
+
 module _ (P : Operand → Type 0) (plain : (z : ℤ) → P (Word z)) where
   abbrev OutcomeStands : Outcome → Type 0
-  OutcomeStands (Changed w) = All P w.operands
-  OutcomeStands (Refused kind) = Unit {0}
-  OutcomeStands Impossible = Unit {0}
+  OutcomeStands = OutcomeIs (AllOf P)
 
   abbrev Keeps : (Words → Outcome) → Type 0
-  Keeps f = (w : Words) → All P w.operands → OutcomeStands (f w)
+  Keeps = KeepsIt (AllOf P)
 
   put-stands : (z : ℤ) (w : Words) → All P w.operands → All P (put z w).operands
   put-stands z w h = All-cons P (Word z) w.operands (plain z) h
@@ -72,20 +75,15 @@ module _ (P : Operand → Type 0) (plain : (z : ℤ) → P (Word z)) where
   two-stands f h w fits =
       one-stands (λ y v. on_one (λ x t. f x y t) v.operands v) (λ y v fv. one-stands (λ x t. f x y t) (λ x t ft. h x y t ft) v.operands fv v fv) w.operands fits w fits
 
-  through-stands : (b : Bool) (f : ℕ → Words → Outcome) → ((i : ℕ) → Keeps (f i)) → (a : ℤ) → Keeps (through b f a)
-  through-stands true f h (pos n) w fits = h n w fits
-  through-stands true f h (negsuc n) w fits = h 0 w fits
-  through-stands false f h a w fits = tt
-
   fetch-stands : (area : ℕ) (f : Option Field) → Keeps (perform area (Fetch f))
   fetch-stands area f =
       top-stands (at_address area (λ i v. Changed (put (field_value f (word_at v.memory i)) v)))
-      (λ a. through-stands (is_below a area) (λ i t. Changed (put (field_value f (word_at t.memory i)) t)) (λ i t ft. put-stands (field_value f (word_at t.memory i)) t ft) a)
+      (λ a. through-kept (AllOf P) (is_below a area) (λ i t. Changed (put (field_value f (word_at t.memory i)) t)) (λ i t ft. put-stands (field_value f (word_at t.memory i)) t ft) a)
 
   store-stands : (area : ℕ) (f : ℤ → ℤ → ℤ) → Keeps (store_with area f)
   store-stands area f =
       two-stands (λ z a v. at_address area (λ i t. Changed (with_memory t (set t.memory i (f (word_at t.memory i) z)))) a v)
-      (λ z a. through-stands (is_below a area) (λ i t. Changed (with_memory t (set t.memory i (f (word_at t.memory i) z)))) (λ i t ft. ft) a)
+      (λ z a. through-kept (AllOf P) (is_below a area) (λ i t. Changed (with_memory t (set t.memory i (f (word_at t.memory i) z)))) (λ i t ft. ft) a)
 
   value-stands : (f : ℤ → ℤ) → Keeps (λ w. on_one (λ x v. put_value (f x) v) w.operands w)
   value-stands f = top-stands (λ x v. put_value (f x) v) (λ x. put_if-stands Overflow (f x) (fits_word (f x)))
@@ -111,54 +109,24 @@ module _ (P : Operand → Type 0) (plain : (z : ℤ) → P (Word z)) where
   index-stands : (f : ℤ → ℤ) → Keeps (λ w. on_one (λ i v. put_index (f i) v) w.operands w)
   index-stands f = top-stands (λ i v. put_index (f i) v) (λ i. put_if-stands AddressRange (f i) (fits_word (f i)))
 
-  fitting-stands : (b : Bool) (f : Words → Outcome) → Keeps f → Keeps (λ w. fitting b (f w))
-  fitting-stands true f h w fits = h w fits
-  fitting-stands false f h w fits = tt
-
   form-stands : (area : ℕ) (f : Addressing) → Keeps (form_address area f)
   form-stands area (Known z) = address-stands area z
   form-stands area Taken = top-stands (address_of area) (λ z. address-stands area z)
   form-stands area (Indexed base lower) =
       top-stands (λ i v. fitting (fits_word (i -ℤ lower)) (address_of area (base +ℤ (i -ℤ lower)) v))
-      (λ i. fitting-stands (fits_word (i -ℤ lower)) (address_of area (base +ℤ (i -ℤ lower))) (address-stands area (base +ℤ (i -ℤ lower))))
+      (λ i. fitting-kept (AllOf P) (fits_word (i -ℤ lower)) (address_of area (base +ℤ (i -ℤ lower))) (address-stands area (base +ℤ (i -ℤ lower))))
   form-stands area (Indexed2 base l1 l2 width) =
-      two-stands
-      (λ i j v.
-      fitting (fits_word (i -ℤ l1))
-      (fitting (fits_word ((i -ℤ l1) *ℤ pos width))
-      (fitting (fits_word (j -ℤ l2))
-      (fitting (fits_word ((i -ℤ l1) *ℤ pos width +ℤ (j -ℤ l2))) (address_of area (base +ℤ ((i -ℤ l1) *ℤ pos width +ℤ (j -ℤ l2))) v)))))
-      (λ i j.
-      let row : ℤ = (i -ℤ l1) *ℤ pos width in
-      let place : ℤ = row +ℤ (j -ℤ l2) in
-      let last : Words → Outcome = address_of area (base +ℤ place) in
-      let fourth : Words → Outcome = λ v. fitting (fits_word place) (last v) in
-      let third : Words → Outcome = λ v. fitting (fits_word (j -ℤ l2)) (fourth v) in
-      fitting-stands (fits_word (i -ℤ l1)) (λ v. fitting (fits_word row) (third v))
-      (fitting-stands (fits_word row) third
-      (fitting-stands (fits_word (j -ℤ l2)) fourth
-      (fitting-stands (fits_word place) last (address-stands area (base +ℤ place))))))
+      two-stands (row_address area base l1 l2 width) (of_row Keeps (fitting-kept (AllOf P)) area (address-stands area) base l1 l2 width)
   form-stands area (Scaled base width word) =
-      top-stands
-      (λ i v.
-      fitting (fits_word (i *ℤ pos width)) (fitting (fits_word (i *ℤ pos width +ℤ pos word)) (address_of area (base +ℤ (i *ℤ pos width +ℤ pos word)) v)))
-      (λ i.
-      let place : ℤ = i *ℤ pos width +ℤ pos word in
-      let last : Words → Outcome = address_of area (base +ℤ place) in
-      let second : Words → Outcome = λ v. fitting (fits_word place) (last v) in
-      fitting-stands (fits_word (i *ℤ pos width)) second (fitting-stands (fits_word place) last (address-stands area (base +ℤ place))))
+      top-stands (entry_address area base width word) (of_entry Keeps (fitting-kept (AllOf P)) area (address-stands area) base width word)
 
   base-stands : (area : ℕ) (f : ℤ → Addressing) → Keeps (from_base area f)
   base-stands area f = top-stands (λ base v. form_address (min area 32768) (f base) v) (λ base. form-stands (min area 32768) (f base))
 
-  if_inside-stands : (b : Bool) (f : Words → Outcome) → Keeps f → Keeps (λ w. if_inside b (f w))
-  if_inside-stands true f h w fits = h w fits
-  if_inside-stands false f h w fits = tt
-
   variable-stands : (area loop : ℕ) → Keeps (perform area (SetVariable loop))
   variable-stands area loop =
       top-stands (λ x v. at_address area (λ i t. Changed (with_memory t (set t.memory i x))) (word_at v.memory loop) v)
-      (λ x v. through-stands (is_below (word_at v.memory loop) area) (λ i t. Changed (with_memory t (set t.memory i x))) (λ i t ft. ft) (word_at v.memory loop) v)
+      (λ x v. through-kept (AllOf P) (is_below (word_at v.memory loop) area) (λ i t. Changed (with_memory t (set t.memory i x))) (λ i t ft. ft) (word_at v.memory loop) v)
 
   store_sum-stands : (b : Bool) (i : ℕ) (z : ℤ) → Keeps (store_sum b i z)
   store_sum-stands true i z w fits = fits
@@ -166,7 +134,7 @@ module _ (P : Operand → Type 0) (plain : (z : ℤ) → P (Word z)) where
 
   step-added-stands : (area loop : ℕ) → Keeps (perform area (AddStep loop))
   step-added-stands area loop w =
-      through-stands (is_below (word_at w.memory loop) area)
+      through-kept (AllOf P) (is_below (word_at w.memory loop) area)
       (λ i v. store_sum (fits_word (word_at v.memory i +ℤ word_at v.memory (loop + 1))) i (word_at v.memory i +ℤ word_at v.memory (loop + 1)) v)
       (λ i v. store_sum-stands (fits_word (word_at v.memory i +ℤ word_at v.memory (loop + 1))) i (word_at v.memory i +ℤ word_at v.memory (loop + 1)) v)
       (word_at w.memory loop)
@@ -174,7 +142,7 @@ module _ (P : Operand → Type 0) (plain : (z : ℤ) → P (Word z)) where
 
   variable-put-stands : (area loop : ℕ) (a : ℤ) → Keeps (λ w. at_address area (λ i t. Changed (put a (put (word_at t.memory i) t))) (word_at w.memory loop) w)
   variable-put-stands area loop a w =
-      through-stands (is_below (word_at w.memory loop) area) (λ i t. Changed (put a (put (word_at t.memory i) t)))
+      through-kept (AllOf P) (is_below (word_at w.memory loop) area) (λ i t. Changed (put a (put (word_at t.memory i) t)))
       (λ i t ft. put-stands a (put (word_at t.memory i) t) (put-stands (word_at t.memory i) t ft))
       (word_at w.memory loop)
       w
@@ -195,7 +163,7 @@ module _ (P : Operand → Type 0) (plain : (z : ℤ) → P (Word z)) where
   bind-stands area None a w fits = tt
   bind-stands area (Some (Held c)) a w fits = tt
   bind-stands area (Some (Word z)) None w fits = tt
-  bind-stands area (Some (Word z)) (Some a) w fits = through-stands (is_below (pos a) area) (λ i v. Changed (with_memory v (set v.memory i z))) (λ i v fv. fv) (pos a) w fits
+  bind-stands area (Some (Word z)) (Some a) w fits = through-kept (AllOf P) (is_below (pos a) area) (λ i v. Changed (with_memory v (set v.memory i z))) (λ i v fv. fv) (pos a) w fits
 
   -- ---- ways
 
@@ -280,17 +248,7 @@ module _ (P : Operand → Type 0) (plain : (z : ℤ) → P (Word z)) where
   -- ---- actions
 
   abbrev ActionStands : (area : ℕ) → Action → Type 0
-  ActionStands area (Perform line op) = Keeps (perform area op)
-  ActionStands area (Access op) = Keeps (perform area op)
-  ActionStands area (Alter line f) = Keeps f
-  ActionStands area (AlterWithin f) = Keeps f
-  ActionStands area (Branch line f) = Leads f
-  ActionStands area _ = Unit {0}
-
-  unrefused-stands : (o : Outcome) → OutcomeStands o → OutcomeStands (unrefused o)
-  unrefused-stands (Changed v) h = h
-  unrefused-stands (Refused kind) h = tt
-  unrefused-stands Impossible h = tt
+  ActionStands = ActionIs Keeps Leads
 
 -- ---- control arguments
 
@@ -332,27 +290,19 @@ module _ (p : OrderProgram) where
     label_of_body g d (Some (to, def.Label k)) l is label e at_label =
         let same : (to, k) ≡ l = cc in
         callable.labels g d to k e is (ap (λ x. label_at p x.0 x.1) same ∙ at_label)
-    label_of_body g d (Some (to, def.Switch k)) l is label e at_label = absurd (cc)
-    label_of_body g d (Some (to, def.Proc k)) l is label e at_label = absurd (cc)
-    label_of_body g d None l is label e at_label = absurd (cc)
+    label_of_body g d _ l is label e at_label = absurd (cc)
 
     labels_stand : (g d : ℕ) (acts : List OrderActivation) (x : Option (ℕ × Def)) → defined_at p g d ≡ x → Names (OperandStands p g acts) (λ z. tt) (with_label_owner (length acts) (label_of_def x))
     labels_stand g d acts (Some (to, def.Label l)) is = (all_there acts, λ e at_label inside. absurd (true≢false (sym inside ∙ callable.labels g d to l e is at_label)))
-    labels_stand g d acts (Some (to, def.Switch n)) is = tt
-    labels_stand g d acts (Some (to, def.Proc q)) is = tt
-    labels_stand g d acts None is = tt
+    labels_stand g d acts _ is = tt
 
     pub switches_stand : (g d : ℕ) (acts : List OrderActivation) (x : Option (ℕ × Def)) → defined_at p g d ≡ x → Names (OperandStands p g acts) (λ z. tt) (with_switch_owner (length acts) (switch_of_def x))
     switches_stand g d acts (Some (to, def.Switch n)) is = (all_there acts, λ gs i x l at_switch goal label e at_label inside. absurd (true≢false (sym inside ∙ callable.switches g d to n gs i x l e is at_switch goal label at_label)))
-    switches_stand g d acts (Some (to, def.Label l)) is = tt
-    switches_stand g d acts (Some (to, def.Proc q)) is = tt
-    switches_stand g d acts None is = tt
+    switches_stand g d acts _ is = tt
 
     procedures_stand : (g : ℕ) (acts : List OrderActivation) (x : Option (ℕ × Def)) → Names (OperandStands p g acts) (λ z. tt) (as_procedure (procedure_of_def x))
     procedures_stand g acts (Some (to, def.Proc q)) = tt
-    procedures_stand g acts (Some (to, def.Label l)) = tt
-    procedures_stand g acts (Some (to, def.Switch n)) = tt
-    procedures_stand g acts None = tt
+    procedures_stand g acts _ = tt
 
     own_goal : (g : ℕ) (acts : List OrderActivation) (x : Goal) (l : ℕ × ℕ) → label_of p g x ≡ Some l → OwnsLabel p (length acts) g acts l.0 l.1
     own_goal g acts (goal.Own k) l label e at_label inside =
@@ -413,17 +363,17 @@ module _ (p : OrderProgram) where
       action-stands (order.NextStep x line m) = next_step-stands P plain p.limits.area m (place_address p g acts x)
       action-stands (order.SetVariable line) =
           top-stands P plain (λ a v. if_inside (is_below a p.limits.area) (perform p.limits.area (SetVariable (number_of a)) v))
-          (λ a. if_inside-stands P plain (is_below a p.limits.area) (perform p.limits.area (SetVariable (number_of a))) (variable-stands P plain p.limits.area (number_of a)))
+          (λ a. if_inside-kept (AllOf P) (is_below a p.limits.area) (perform p.limits.area (SetVariable (number_of a))) (variable-stands P plain p.limits.area (number_of a)))
       action-stands (order.AddStep line) =
           top-stands P plain (λ a v. if_inside (is_below a (p.limits.area - 1)) (perform p.limits.area (AddStep (number_of a)) v))
-          (λ a. if_inside-stands P plain (is_below a (p.limits.area - 1)) (perform p.limits.area (AddStep (number_of a))) (step-added-stands P plain p.limits.area (number_of a)))
+          (λ a. if_inside-kept (AllOf P) (is_below a (p.limits.area - 1)) (perform p.limits.area (AddStep (number_of a))) (step-added-stands P plain p.limits.area (number_of a)))
       action-stands (order.PutVariable line) =
           top-stands P plain
           (λ a v.
           if_inside (is_below a p.limits.area)
           (at_address p.limits.area (λ i t. Changed (put a (put (word_at t.memory i) t))) (word_at v.memory (number_of a)) v))
           (λ a.
-          if_inside-stands P plain (is_below a p.limits.area)
+          if_inside-kept (AllOf P) (is_below a p.limits.area)
           (λ v. at_address p.limits.area (λ i t. Changed (put a (put (word_at t.memory i) t))) (word_at v.memory (number_of a)) v)
           (variable-put-stands P plain p.limits.area (number_of a) a))
       action-stands (order.LoopWay marks) = λ n w l.
@@ -495,9 +445,7 @@ module _ (p : OrderProgram) where
 
       go_to-stands : (c : Option Control) → StateStands p (go_to p c g place loaded acts w)
       go_to-stands (Some (LabelControl to l owner)) = go_to_entry-stands (label_at p to l) to owner
-      go_to-stands (Some (SwitchControl to n owner)) = tt
-      go_to-stands (Some (ProcedureControl to q)) = tt
-      go_to-stands None = tt
+      go_to-stands _ = tt
 
       go_to_goal-stands : (line : ℕ) (x : Option Goal) (to owner : ℕ) → StateStands p (go_to_goal p line x to owner g place loaded acts w)
       go_to_goal-stands line None to owner = tt
@@ -511,9 +459,7 @@ module _ (p : OrderProgram) where
 
       go_through-stands : (line : ℕ) (c : Option Control) → StateStands p (go_through p line c g place loaded acts w)
       go_through-stands line (Some (SwitchControl to n owner)) = go_by_list-stands line (switch_at p to n) w.operands to owner
-      go_through-stands line (Some (LabelControl to l owner)) = tt
-      go_through-stands line (Some (ProcedureControl to q)) = tt
-      go_through-stands line None = tt
+      go_through-stands line _ = tt
 
       abbrev CalledFits : (line : ℕ) → ProcedureEntry → Bool
       CalledFits line e = nat_le e.arguments (length w.operands) && nat_le (stack_words [] (called e.arguments (frame_end p acts) g place line w.operands ∷ acts)) p.room
@@ -547,9 +493,7 @@ module _ (p : OrderProgram) where
 
       call-stands : (line : ℕ) (c : Option Control) → StateStands p (call p line c g place loaded acts w)
       call-stands line (Some (ProcedureControl to q)) = call_entry-stands line (procedure_at p to q) to q refl
-      call-stands line (Some (LabelControl to l owner)) = tt
-      call-stands line (Some (SwitchControl to n owner)) = tt
-      call-stands line None = tt
+      call-stands line _ = tt
 
     enter-stands : (size g place : ℕ) (loaded : Bool) (acts : List OrderActivation) (w : Words) → ActivationsStand p g acts → StateStands p (enter p size g place loaded acts w)
     enter-stands size g place loaded [] w working = tt
@@ -582,9 +526,9 @@ module _ (p : OrderProgram) where
     module _ (g place : ℕ) (loaded : Bool) (acts : List OrderActivation) (w : Words) (room : stack_words w.operands acts ≤ p.room) (working : ActivationsStand p g acts) (operands : All (OperandStands p g acts) w.operands) where
       act-stands : (x : Action) → ActionStands (OperandStands p g acts) (λ z. tt) p.limits.area x → StateStands p (act p x g place loaded acts w)
       act-stands (Perform line op) h = after-stands g place loaded acts w room working operands line (perform p.limits.area op w) (h w operands)
-      act-stands (Access op) h = after-stands g place loaded acts w room working operands 0 (unrefused (perform p.limits.area op w)) (unrefused-stands (OperandStands p g acts) (λ z. tt) (perform p.limits.area op w) (h w operands))
+      act-stands (Access op) h = after-stands g place loaded acts w room working operands 0 (unrefused (perform p.limits.area op w)) (unrefused-kept (AllOf (OperandStands p g acts)) (perform p.limits.area op w) (h w operands))
       act-stands (Alter line f) h = after-stands g place loaded acts w room working operands line (f w) (h w operands)
-      act-stands (AlterWithin f) h = after-stands g place loaded acts w room working operands 0 (unrefused (f w)) (unrefused-stands (OperandStands p g acts) (λ z. tt) (f w) (h w operands))
+      act-stands (AlterWithin f) h = after-stands g place loaded acts w room working operands 0 (unrefused (f w)) (unrefused-kept (AllOf (OperandStands p g acts)) (f w) (h w operands))
       act-stands Pass h = record { room = room; last = last_of g (place + 1) acts w.operands working; operands = operands }
       act-stands (Branch line f) h = branch-stands g place loaded acts w room working operands line (f w) (h (operand_words w.operands) w (record { stand = operands; words = omega arith }))
       act-stands (GoMain m) h = leave_for-stands g place loaded acts w room working operands (place_of p g m) g (length acts)
@@ -634,6 +578,4 @@ module _ (p : OrderProgram) where
         (λ (working : ActivationsStand p g (a ∷ acts)). carry_out-stands g place loaded (a ∷ acts) w h.room working h.operands (order_at p g place))
         (λ (b : Beginning p g place a acts w.operands). begins-stands g place loaded a acts w h.room b)
         h.last
-    step-stands (at g place loaded acts w Ended) h = tt
-    step-stands (at g place loaded acts w (Stopped kind s l)) h = tt
-    step-stands (at g place loaded acts w Stuck) h = tt
+    step-stands _ h = tt

@@ -77,9 +77,7 @@ module _ (p : OrderProgram) where
 
         free_to : (c : Option Control) → Free (go_to p c g place loaded acts w)
         free_to (Some (LabelControl to l owner)) = free_entry (label_at p to l) to owner
-        free_to (Some (SwitchControl to l owner)) = tt
-        free_to (Some (ProcedureControl to q)) = tt
-        free_to None = tt
+        free_to _ = tt
 
         free_goal : (line : ℕ) (x : Option Goal) (to owner : ℕ) → Free (go_to_goal p line x to owner g place loaded acts w)
         free_goal line None to owner = tt
@@ -93,9 +91,7 @@ module _ (p : OrderProgram) where
 
         free_through : (line : ℕ) (c : Option Control) → Free (go_through p line c g place loaded acts w)
         free_through line (Some (SwitchControl to n owner)) = free_list line (switch_at p to n) w.operands to owner
-        free_through line (Some (LabelControl to l owner)) = tt
-        free_through line (Some (ProcedureControl to q)) = tt
-        free_through line None = tt
+        free_through line _ = tt
 
         free_called : (b : Bool) (to m : ℕ) (a : OrderActivation) → a.segment ≡ g → a.place ≡ place + 1 → Free (call_at b (place_of p to m) to a g place loaded acts w)
         free_called b to m a segment place_is = cases b (place_of p to m) refl
@@ -117,9 +113,7 @@ module _ (p : OrderProgram) where
 
         free_call : (line : ℕ) (c : Option Control) → Free (call p line c g place loaded acts w)
         free_call line (Some (ProcedureControl to q)) = free_calls line (procedure_at p to q) to
-        free_call line (Some (LabelControl to l owner)) = tt
-        free_call line (Some (SwitchControl to l owner)) = tt
-        free_call line None = tt
+        free_call line _ = tt
 
       free_entered : (entered shallow fits : Bool) (size : ℕ) (a : OrderActivation) (acts : List OrderActivation) → AllFree (a ∷ acts) → Free (enter_with entered shallow fits size a g place loaded acts w)
       free_entered true shallow fits size a acts free = tt

@@ -19,12 +19,6 @@ pub or_assoc : (a b c : Bool) → (a || b) || c ≡ a || (b || c)
 or_assoc true b c = refl
 or_assoc false b c = refl
 
-pub iff_same : (a b : Bool) → (a ≡ true → b ≡ true) → (b ≡ true → a ≡ true) → a ≡ b
-iff_same true true f g = refl
-iff_same true false f g = absurd (false≢true (f refl))
-iff_same false true f g = absurd (false≢true (g refl))
-iff_same false false f g = refl
-
 pub or_same : (a b : Bool) → (b ≡ true → a ≡ true) → a ≡ a || b
 or_same true b f = refl
 or_same false true f = absurd (false≢true (f refl))
@@ -73,17 +67,8 @@ any_same p q (x ∷ xs) h = ap₂ (λ a b. a || b) (h x) (any_same p q xs h)
 pub in_list : (xs : List ℕ) (k : ℕ) → is_in xs k ≡ true → Contains xs k
 in_list xs k h = let r = some_of (nat_eq k) xs h in let e : k ≡ r.x = eqb-true k r.x r.passes in (r.there.0, r.there.1, ap (get_or xs r.there.0) e ∙ r.there.2 ∙ sym e)
 
-pub list_in : (xs : List ℕ) (k : ℕ) → Contains xs k → is_in xs k ≡ true
-list_in xs k h = any_some (nat_eq k) xs k h (eq-eqb k k refl)
-
 pub same_name : (a b : Name) → bytes_eq a b ≡ true → a ≡ b
 same_name a b h = (bytes_eq-Decides a b).0 h
 
 pub name_same : (a b : Name) → a ≡ b → bytes_eq a b ≡ true
 name_same a b h = (bytes_eq-Decides a b).1 h
-
-pub among_list : (names : List Name) (name : Name) → is_among names name ≡ true → Contains names name
-among_list names name h = let r = some_of (bytes_eq name) names h in let e : name ≡ r.x = same_name name r.x r.passes in (r.there.0, r.there.1, ap (get_or names r.there.0) e ∙ r.there.2 ∙ sym e)
-
-pub list_among : (names : List Name) (name : Name) → Contains names name → is_among names name ≡ true
-list_among names name h = any_some (bytes_eq name) names name h (name_same name name refl)

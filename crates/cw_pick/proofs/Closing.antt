@@ -65,11 +65,3 @@ fewer P now mid new m same popped marks =
     let n : count_by not mid.picked.items ≡ count_by not now.picked.items = ap (count_by not) same in
     let t : length now.todo.items ≡ length mid.todo.items + 1 = ap length popped ∙ length-append mid.todo.items (m ∷ []) in
     omega (arith, marks.left, n, t)
-
-pub at_last : (lead : ℕ → ℕ → Bool) (old now : Work) → now.todo.items ≡ [] → IsFollowing lead old now → Closes lead old now
-at_last lead old now empty f = record {
-  count = f.count;
-  kept = f.kept;
-  closed = λ j k h ld lt. elim (f.done j h) [ inl due ↦ absurd (false≢true (sym (ap (λ l. is_in l j) empty) ∙ due)) | inr g ↦ g k ld lt ];
-  least = f.least;
-}

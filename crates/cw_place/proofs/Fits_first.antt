@@ -46,9 +46,6 @@ clear_at ss extent a n swept passed stop k d h =
       | inr le ↦ before a extent (start_at ss k) (end_at ss k) (omega (arith, stop (omega (arith, le, r.0)), swept.rising n k le r.0))
     ])
 
-pub clear_none : (ss : List Span) (a : ℕ) → IsClear ss 0 a
-clear_none ss a k d h = let r = get_or (ranges_of ss) k d in le-ltb (max a r.start) (min (a + 0) r.end) (omega arith)
-
 -- past a range that is met
 pub past : (ss : List Span) (extent a n b : ℕ) → IsSwept ss → n < length ss → start_at ss n < a + extent → 0 < extent → a ≤ b → IsClear ss extent b → end_at ss n ≤ b
 past ss extent a n b swept lt reach some le clear =

@@ -63,9 +63,7 @@ numbers_read agreed spaces of g numbers lt is = get_or_read agreed.of g numbers 
 
 pub other_gives : (name : Name) (names : List Name) (s : Sort) (x : ℕ) → ((d : ℕ) → s ≡ sort.Common d → ⊥) → extent_of_name name names s x ≡ 0
 other_gives name names (sort.Common d) x h = absurd (h d refl)
-other_gives name names sort.Own x h = refl
-other_gives name names (sort.Absolute a) x h = refl
-other_gives name names (sort.Frame o) x h = refl
+other_gives name names _ x h = refl
 
 same_max : (a b : ℕ) → b ≡ 0 → a ≡ max a b
 same_max a b h = omega arith

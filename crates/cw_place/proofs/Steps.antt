@@ -67,11 +67,12 @@ pub record Looked (agreed : Agreed) (g d : ℕ) (ps : List Placed) (numbers : Li
   pub told_at : get_or table (get_or (numbers_of agreed g) d 0) None ≡ start
   pub placed : start_if_placed (Shared (name_at agreed.names (get_or (numbers_of agreed g) d 0))) (told ps) ≡ start
 
-pub looked_up : (agreed : Agreed) (spaces : List Space) (of : AreOf agreed spaces) (spans : List Span) (ps : List Placed) (old : Placing) (has : HasPlaced agreed spans ps old) (g n d : ℕ) (t : Space) (numbers : List ℕ) (start : Option ℕ)
-    → (get_or t.families n no_family).sort ≡ sort.Common d → g < length spaces → t ≡ get_or spaces g t → n < length t.families → numbers ≡ get_or agreed.of g numbers → start ≡ get_or old.starts.items (get_or numbers d 0) start
-    → Looked agreed g d ps numbers old.starts.items start
-looked_up agreed spaces of spans ps old has g n d t numbers start sorted lt is within are at =
-    let below = descriptor_below agreed spaces of g t lt is n d no_family within sorted in
+pub looked_up : (agreed : Agreed) (spaces : List Space) (of : AreOf agreed spaces) (spans : List Span) (ps : List Placed) (old : Placing) (has : HasPlaced agreed spans ps old) (g n d : ℕ) (t : Space) (fs : List Family) (numbers : List ℕ) (start : Option ℕ)
+    → g < length spaces → t ≡ get_or spaces g t → ((s : Space) → slice_get spaces g ≡ Some s → n < length s.families) → fs ≡ t.families → (get_or fs n no_family).sort ≡ sort.Common d → numbers ≡ get_or agreed.of g numbers
+    → start ≡ get_or old.starts.items (get_or numbers d 0) start → Looked agreed g d ps numbers old.starts.items start
+looked_up agreed spaces of spans ps old has g n d t fs numbers start lt is within same e are at =
+    let q = first_read spaces g n t fs (sort.Common d) lt is within same e in
+    let below = descriptor_below agreed spaces of g t lt is n d no_family (within t q.here.segment) q.sorted in
     let known = number_below agreed spaces of g d below in
     let named = ap (λ (ns : List ℕ). get_or ns d 0) (numbers_read agreed spaces of g numbers lt are) in
     let read = get_or_default old.starts.items (get_or (numbers_of agreed g) d 0) None start (omega (arith, known, has.count)) ∙ sym (at ∙ ap (λ k. get_or old.starts.items k start) named) in

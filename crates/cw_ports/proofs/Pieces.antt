@@ -1,5 +1,5 @@
 -- Windows of arrays, and what is told with them.
-use Rattle.std.proofs.Common.{◌≡◌, ℕ, ◌+◌, ◌-◌, ◌<◌, ◌≤◌, List, [], ◌∷◌, ◌++◌, length, take, drop, Option, None, Some, refl, ap, arith, subst, sym, ◌∙◌, append_assoc, append-nil, length-append, true≢false}
+use Rattle.std.proofs.Common.{◌≡◌, ℕ, ◌+◌, ◌-◌, ◌<◌, ◌≤◌, List, [], ◌∷◌, ◌++◌, length, take, drop, Option, None, Some, refl, ap, arith, subst, sym, ◌∙◌, length-append, true≢false}
 use Rattle.std.proofs.Math.Seq.{take-add}
 use Rattle.std.proofs.lemmas.List.{drop-take, take-append-drop, take-set, take_more_set}
 use Rattle.std.proofs.lemmas.Bool.{ne_eqb}
@@ -8,28 +8,13 @@ use Rattle.std.specs.Prelude.{◌==◌, Bool, true, false, slice_index, slice_se
 use Rattle.std.proofs.lemmas.List.Elements.{All-nil, All-cons}
 use Rattle.cw_io.specs.Bytes.{before_told, after_told, IsEnd}
 use Rattle.cw_i86.specs.MachineRun.{taken}
-use Rattle.cw_cpu86.specs.Ports.{AreBytes, MayBeLeft, IsTaken, unless_there}
+use Rattle.cw_cpu86.specs.Ports.{AreBytes, MayBeLeft, IsTaken}
 use Rattle.cw_ports.specs.Later.{IsSettled}
 use Rattle.cw_ports.specs.Supplies.{is_open}
 use Rattle.cw_ports.specs.declared.supply.Supply.{Supply}
 use Rattle.cw_ports.specs.declared.supply.Supply.TheVariants.{Open, Faulty, TooLong}
 use Rattle.cw_ports.specs.Pieces.{part, left_count}
-
-pub after_nothing : (told : Option (List ℕ)) → after_told told [] ≡ told
-after_nothing None = refl
-after_nothing (Some held) = ap Some (append-nil held)
-
-pub before_nothing : (told : Option (List ℕ)) → before_told [] told ≡ told
-before_nothing None = refl
-before_nothing (Some held) = refl
-
-pub after_told-append : (told : Option (List ℕ)) (xs ys : List ℕ) → after_told (after_told told xs) ys ≡ after_told told (xs ++ ys)
-after_told-append None xs ys = refl
-after_told-append (Some held) xs ys = ap (λ bytes. Some bytes) (append_assoc held xs ys)
-
-pub before_told-append : (xs ys : List ℕ) (told : Option (List ℕ)) → before_told xs (before_told ys told) ≡ before_told (xs ++ ys) told
-before_told-append xs ys None = refl
-before_told-append xs ys (Some left) = ap (λ bytes. Some bytes) (sym (append_assoc xs ys left))
+use Rattle.cw_ports.specs.Laws.{after_nothing, after_told-append}
 
 -- one more part of a piece
 pub piece_goes_on : (told now next : Option (List ℕ)) (piece : List ℕ) (done count : ℕ) → now ≡ after_told told (take done piece)
@@ -159,30 +144,6 @@ takes_byte told left at_end hand rest port value is byte same first more =
     may (Some true) more = absurd (more refl)
     may (Some false) more = omega arith
 
-none_told : (told left : Option (List ℕ)) (hand input : List ℕ) → before_told hand left ≡ told → hand ≡ [] → IsEnd left → told ≡ Some input → input ≡ []
-none_told told left hand input same none end is =
-    let t = told_part told left hand input same is in
-    t.2 ∙ ap (λ xs. xs ++ t.0) none ∙ subst (λ l. IsEnd l) t.1 end
-
--- port 10h at the end
-pub takes_none : (told left : Option (List ℕ)) (at_end : Option Bool) (hand : List ℕ) (port : ℕ) → port ≡ 0x10 → before_told hand left ≡ told → hand ≡ [] → IsEnd left → IsTaken told at_end port 0
-takes_none told left at_end hand port is same none end =
-    let k = some_input at_end in
-    subst (λ p. IsTaken told at_end p 0) (sym is)
-    (given_told told at_end 0x10 0 (λ input e. sym (ap (λ xs. slice_index xs 0) (none_told told left hand input same none end e))) k.0 k.1 k.2 (sym k.3))
-
--- port 11h at the end
-pub tells_end : (told left : Option (List ℕ)) (at_end : Option Bool) (hand : List ℕ) (port : ℕ) → port ≡ 0x11 → before_told hand left ≡ told → hand ≡ [] → IsEnd left
-    → (at_end ≡ Some false → ⊥) → IsTaken told at_end port 1
-tells_end told left at_end hand port is same none end some =
-    subst (λ p. IsTaken told at_end p 1) (sym is)
-    (given_told told at_end 0x11 1 (λ input e. sym (ap (taken 0x11) (none_told told left hand input same none end e))) [] no_bytes (may at_end some) refl)
-  where
-    may : (at_end : Option Bool) → (at_end ≡ Some false → ⊥) → MayBeLeft at_end []
-    may None some = tt
-    may (Some true) some = refl
-    may (Some false) some = absurd (some refl)
-
 gives_some : (input : List ℕ) → 0 < length input → 0 ≡ taken 0x11 input
 gives_some [] some = absurd (omega (arith, some))
 gives_some (x ∷ input) some =
@@ -210,17 +171,6 @@ takes_nothing told at_end port not_taken not_told =
   where
     gives : (input : List ℕ) → 0 ≡ taken port input
     gives input = rw (not_taken, not_told) refl
-
--- what is known of the end after a byte was taken
-pub unless_more : (at_end : Option Bool) → (at_end ≡ Some true → ⊥) → unless_there at_end ≡ None
-unless_more None more = refl
-unless_more (Some true) more = absurd (more refl)
-unless_more (Some false) more = refl
-
-pub unless_none : (at_end : Option Bool) → (at_end ≡ Some false → ⊥) → unless_there at_end ≡ at_end
-unless_none None some = refl
-unless_none (Some true) some = refl
-unless_none (Some false) some = absurd (some refl)
 
 -- and none where nothing stands between them
 pub part-none : (bytes : List ℕ) (from to : ℕ) → from ≡ to → part bytes from to ≡ []

@@ -15,7 +15,7 @@ use Rattle.std.proofs.Math.Seq.{take-append_seam}
 use Rattle.cw_ports.specs.Pieces.{Took, Wrote, input_limit}
 use Rattle.cw_io.specs.Count.{Rose}
 use Rattle.cw_ports.specs.Later.{InputSide, InputGoes, InputFrom, SupplyCause, OutputSide, OutputGoes, OutputFrom, OutputLater, OutputCause, IsSettled, SidesLater, faults_of}
-use Rattle.cw_ports.specs.Laws.{output_goes_on}
+use Rattle.cw_ports.specs.Laws.{output_goes_on, before_nothing}
 use Rattle.cw_ports.specs.Supplies.{is_open, is_too_long}
 use Rattle.cw_ports.specs.declared.supply.Supply.{Supply}
 use Rattle.cw_ports.specs.Running.{IsInput, AsksInput, Ran, Taken, Tells, Outside, Cut, RunShows, reached}
@@ -24,7 +24,7 @@ use Rattle.cw_ports.specs.declared.supply.Supply.TheVariants.{Open, Faulty}
 use Rattle.cw_ports.specs.declared.supply.Supply.TheVariants as supplies
 use Rattle.cw_ports.specs.declared.running.ImageEnd.{ImageEnd}
 use Rattle.cw_ports.specs.declared.running.ImageEnd.TheVariants.{Ended, Stopped, Unfinished, BadCode, Divided, InputFault, OutFault, TooLong}
-use Rattle.cw_ports.proofs.Pieces.{before_nothing, settled_open}
+use Rattle.cw_ports.proofs.Pieces.{settled_open}
 
 -- so many steps from a state, what they said to the ports, and the ports before and after them and after an instruction that was refused
 record Seen (s : State) (n : ℕ) (d d' : Device) (is_asking : Bool) (end : End) (events : List Event) : Type 0 where
@@ -272,9 +272,7 @@ shows_end (Stopped kind segment line) end told s input steps a b o r shown all i
 shows_end Unfinished end told s input steps a b o r shown all is ran tells held took faults within same = ((shown, ran, tells, held, (b.taken, taken_of a.left b.left b.taken took, within), faults, same), all, is)
 shows_end (BadCode offset) end told s input steps a b o r shown all is ran tells held took faults within same = ((shown, ran, tells, held, (b.taken, taken_of a.left b.left b.taken took, within), faults, same), all, is)
 shows_end (Divided offset) end told s input steps a b o r shown all is ran tells held took faults within same = ((shown, ran, tells, held, (b.taken, taken_of a.left b.left b.taken took, within), faults, same), all, is)
-shows_end InputFault end told s input steps a b o r shown all is ran tells held took faults within same = absurd tells
-shows_end OutFault end told s input steps a b o r shown all is ran tells held took faults within same = absurd tells
-shows_end TooLong end told s input steps a b o r shown all is ran tells held took faults within same = absurd tells
+shows_end _ end told s input steps a b o r shown all is ran tells held took faults within same = absurd tells
 
 open_if : (supply : Supply) (is_broken : Bool) → faults_of supply is_broken ≡ 0 → supply ≡ Open
 open_if Open is_broken none = refl
@@ -409,10 +407,7 @@ module _ (steps : ℕ) (s : State) (events : List Event) (d' : Device) (a : Inpu
       let is = too_long_if b.supply too_long in
       let settled : (gathered ≡ 0) × (p.is_broken ≡ false) = subst (λ x. IsSettled x gathered p.is_broken) is k.settled in
       too_long_end n k p (keeps.cut (ap is_open is)) (sym (keeps.none_waits settled.0) ∙ sym keeps.held) is (keeps.unknown (ap is_open is))
-  concludes_too_long ends.Limit keeps too_long k = absurd (too_many_counted (too_long_if b.supply too_long) k.counts)
-  concludes_too_long (ends.Halted n) keeps too_long k = absurd (too_many_counted (too_long_if b.supply too_long) k.counts)
-  concludes_too_long (ends.BadCode offset n) keeps too_long k = absurd (too_many_counted (too_long_if b.supply too_long) k.counts)
-  concludes_too_long (ends.Divide offset n) keeps too_long k = absurd (too_many_counted (too_long_if b.supply too_long) k.counts)
+  concludes_too_long _ keeps too_long k = absurd (too_many_counted (too_long_if b.supply too_long) k.counts)
 
   goes_out : (r : OutputSide) (end : RunEnd) → CameTo end → OutputLater p r → OutputGoes o r
   goes_out r end k later = subst (λ x. OutputFrom x o r) k.whole (output_goes_on o p r k.later later)

@@ -8,15 +8,15 @@ use Rattle.cw_ports.specs.Later.{InputSide, InputGoes, InputFrom, InputLater, Su
 use Rattle.cw_ports.specs.declared.supply.Supply.{Supply}
 use Rattle.cw_ports.specs.declared.supply.Supply.TheVariants.{Open, Faulty, TooLong}
 
-after_nothing : (told : Option (List ℕ)) → after_told told [] ≡ told
+pub after_nothing : (told : Option (List ℕ)) → after_told told [] ≡ told
 after_nothing None = refl
 after_nothing (Some held) = ap Some (append-nil held)
 
-before_nothing : (told : Option (List ℕ)) → before_told [] told ≡ told
+pub before_nothing : (told : Option (List ℕ)) → before_told [] told ≡ told
 before_nothing None = refl
 before_nothing (Some held) = refl
 
-after_told-append : (told : Option (List ℕ)) (xs ys : List ℕ) → after_told (after_told told xs) ys ≡ after_told told (xs ++ ys)
+pub after_told-append : (told : Option (List ℕ)) (xs ys : List ℕ) → after_told (after_told told xs) ys ≡ after_told told (xs ++ ys)
 after_told-append None xs ys = refl
 after_told-append (Some held) xs ys = ap (λ bytes. Some bytes) (append_assoc held xs ys)
 

@@ -2,8 +2,6 @@
 ghost use Rattle.std.specs.Prelude.{◌≡◌, ℕ, ◌<◌, ◌≤◌, [], ◌∷◌, length, take, true, false, not};
 ghost use Rattle.cw_io.specs.Bytes.{after_told};
 ghost use Rattle.cw_io.specs.Count.{Rose};
-ghost use Rattle.cw_ports.specs.Pieces.{part};
-ghost use Rattle.cw_ports.specs.Later.{OutputLater, output_side};
 
 use crate::inlet::PIECE;
 use cw_io::Sink;
@@ -40,7 +38,8 @@ pub struct Outlet<'a, O> {
 }
 
 impl<'a, O: Sink> Outlet<'a, O> {
-    ghost use Rattle.cw_ports.specs.Sides.{IsNewOutlet};
+    ghost use Rattle.cw_ports.specs.Later.{OutputLater};
+    ghost use Rattle.cw_ports.specs.Sides.{IsNewOutlet, side_of_outlet, written_by_program};
 
     /// An output to which nothing was given.
     pub fn new(out: &'a mut O) -> Outlet<'a, O>
@@ -59,12 +58,8 @@ impl<'a, O: Sink> Outlet<'a, O> {
 
     /// Writes what is gathered, unless the sink has failed, and answers whether that went well. Where it did not, the rest stays gathered.
     pub(crate) fn flush(&mut self) -> bool
-        ensures told { after_told (O.held self.new.out.now) (part self.new.bytes self.new.from self.new.to)
-            ≡ after_told (O.held self.old.out.now) (part self.old.bytes self.old.from self.old.to) }
-        ensures later { OutputLater (output_side self.old.out.ghost_name (O.held self.old.out.now)
-            (O.faults self.old.out.now) self.old.is_broken)
-            (output_side self.new.out.ghost_name (O.held self.new.out.now) (O.faults self.new.out.now)
-            self.new.is_broken) }
+        ensures told { written_by_program O.Sink self.new ≡ written_by_program O.Sink self.old }
+        ensures later { OutputLater (side_of_outlet O.Sink self.old) (side_of_outlet O.Sink self.new) }
         ensures done { result ≡ not self.new.is_broken }
         ensures empty { result ≡ true → self.new.to ≡ 0 }
         ensures nothing { self.old.to ≡ 0 → self.old.is_broken ≡ false → result ≡ true }
@@ -88,17 +83,9 @@ impl<'a, O: Sink> Outlet<'a, O> {
     /// One more byte of output. What is gathered is written where it fills a piece; where that fails, the byte was not taken.
     pub(crate) fn push(&mut self, value: u8) -> bool
         requires { self.old.is_broken ≡ false }
-        ensures taken { result ≡ true → after_told (O.held self.new.out.now)
-            (part self.new.bytes self.new.from self.new.to)
-            ≡ after_told (after_told (O.held self.old.out.now) (part self.old.bytes self.old.from self.old.to))
-            (value ∷ []) }
-        ensures refused { result ≡ false → after_told (O.held self.new.out.now)
-            (part self.new.bytes self.new.from self.new.to)
-            ≡ after_told (O.held self.old.out.now) (part self.old.bytes self.old.from self.old.to) }
-        ensures later { OutputLater (output_side self.old.out.ghost_name (O.held self.old.out.now)
-            (O.faults self.old.out.now) self.old.is_broken)
-            (output_side self.new.out.ghost_name (O.held self.new.out.now) (O.faults self.new.out.now)
-            self.new.is_broken) }
+        ensures taken { result ≡ true → written_by_program O.Sink self.new ≡ after_told (written_by_program O.Sink self.old) (value ∷ []) }
+        ensures refused { result ≡ false → written_by_program O.Sink self.new ≡ written_by_program O.Sink self.old }
+        ensures later { OutputLater (side_of_outlet O.Sink self.old) (side_of_outlet O.Sink self.new) }
         ensures done { result ≡ not self.new.is_broken }
     {
         self.bytes[self.to] = value;

@@ -1,6 +1,6 @@
 -- Instructions that go on at the next one, and what they leave of a view and of the flags.
-use Rattle.std.proofs.Common.{◌≡◌, ℕ, suc, ◌+◌, ◌-◌, ◌*◌, ◌/◌, ◌%◌, ◌<◌, ◌≤◌, true, false, List, length, refl, sym, ap, ap₂, subst, ◌∙◌, arith}
-use Rattle.std.specs.Prelude.{slice_index, slice_set, bit_and, bit_or, bit_xor, nat_lt, nat_eq, if◌then◌else◌, Some, None}
+use Rattle.std.proofs.Common.{◌≡◌, ℕ, suc, ◌+◌, ◌-◌, ◌*◌, ◌/◌, ◌%◌, ◌<◌, ◌≤◌, Bool, true, false, List, length, refl, sym, ap, ap₂, subst, ◌∙◌, arith}
+use Rattle.std.specs.Prelude.{slice_index, slice_set, bit_and, bit_or, bit_xor, nat_lt, nat_eq, ◌==◌, if◌then◌else◌, Some, None}
 use Rattle.cw_i86.specs.Encoding.{bytes_of}
 use Rattle.cw_i86.specs.Sums.{sum_flags, difference_flags, logic_flags, keeping_carry}
 use Rattle.cw_i86.specs.Shifts.{shift_flags, repeated}
@@ -15,23 +15,20 @@ use Rattle.cw_i86.specs.declared.instr.Instr.TheVariants as i86
 use Rattle.cw_i86.specs.declared.instr.Imm.TheVariants as imm
 use Rattle.cw_i86.specs.declared.instr.Rm.TheVariants as rms
 use Rattle.cw_i86.specs.declared.instr.Place.{Place}
-use Rattle.cw_run86.specs.Processor.{Processor, does, behind, completed, processor_step, with_given}
+use Rattle.cw_run86.specs.Addressing.{offset_in}
+use Rattle.cw_run86.proofs.Addressing.{offset_is}
+use Rattle.cw_run86.specs.Processor.{Processor, does, behind, completed, processor_step, with_given, with_state}
 use Rattle.cw_run86.specs.Views.{View, Has, register, with_register, with_cell, with_stack, with_input, with_told, with_pair, put_word, word_sum, word_difference, word_up, word_down, word_down_signed, product_low, product_high, product_overflows, sign_of}
 use Rattle.cw_run86.proofs.Tests.{Finds}
 use Rattle.cw_run86.proofs.Memory.{Holds}
-use Rattle.cw_run86.proofs.Goes.{step_is}
 use Rattle.cw_tmpl.specs.Mnemonics.{memory}
 use Rattle.std.proofs.lemmas.Bool.{lt-ltb, ne_eqb}
-use Rattle.cw_run86.proofs.Stack.{cell_written, stack_written, stack_read, once_set, down, even, up as up_one}
-use Rattle.cw_run86.proofs.Sums.{plain_sum, plain_difference}
+use Rattle.cw_run86.proofs.Stack.{cell_written, stack_written, stack_read, once_set, twice_set, down, even, up as up_one}
+use Rattle.cw_run86.proofs.Sums.{plain_sum, plain_difference, written}
 use Rattle.cw_run86.proofs.Shifted.{up_many, down_many, down_signed_many}
 use Rattle.cw_routines.specs.Ways.{At, standing}
-use Rattle.cw_routines.proofs.Arrive.{arrives, held, past_it, past_by, here}
-use Rattle.cw_routines.proofs.Sources.{Source, rm_of, SourceNeeds, value_of, reads, offset_in, offset_is}
-
--- two registers set
-twice_set : (rs ss : List ℕ) (q r a b c d : ℕ) → rs ≡ ss → a ≡ c → b ≡ d → slice_set (slice_set rs q a) r b ≡ slice_set (slice_set ss q c) r d
-twice_set rs ss q r a b c d e f g = cc
+use Rattle.cw_routines.proofs.Arrive.{arrives, arrives_past, held, past_it, past_by}
+use Rattle.cw_routines.proofs.Sources.{Source, rm_of, SourceNeeds, value_of, reads}
 
 module _ (finds : Finds) {code : List ℕ} {at : ℕ} {v : View} {f : Flags} {p : Processor} (s : At code at v f p) where
   -- the memory, the registers and the code segment behind an instruction are those before it
@@ -93,41 +90,32 @@ module _ (finds : Finds) {code : List ℕ} {at : ℕ} {v : View} {f : Flags} {p 
       → Has code at (i86.AluRm kind true true r (rm_of src)) → SourceNeeds code src v
       → At code (at + length (bytes_of (i86.AluRm kind true true r (rm_of src)))) w g (processor_step p)
 
+  -- one that writes its result
+  changes : (op r : ℕ) (src : Source) (n : ℕ) (g : Flags) → (op == 7) ≡ false → ((c : Bool) → alu_value op 32768 (register v r) (value_of src v) c ≡ n)
+      → alu_flags op 32768 (register v r) (value_of src v) f ≡ g → Operates op r src (with_register r n v) g
+  changes op r src n g writes value flags some short h needs =
+      let i = i86.AluRm op true true r (rm_of src) in
+      let b = read src i needs in
+      arrives finds {w = with_register r n v} i some short h s (ap (λ t. with_state t p) (written (behind i p.state) op r (operand (behind i p.state) true (rm_of src)) writes)) (held s) refl
+      (once_set _ _ r _ _ s.sees.registers (ap₂ (λ a b. alu_value op 32768 a b p.state.flags.cf) (one r) b ∙ value p.state.flags.cf))
+      (past_it _ at (length (bytes_of i)) s.sees.place)
+      (ap₂ (λ a b. alu_flags op 32768 a b p.state.flags) (one r) b ∙ ap (alu_flags op 32768 (register v r) (value_of src v)) s.flags ∙ flags) refl refl
+
   pub sum : (r : ℕ) (src : Source) → Operates 0 r src (with_register r (word_sum (register v r) (value_of src v)) v) (sum_flags 32768 (register v r) (value_of src v) false)
-  unfolding operated with_operand with_sized_register alu_value alu_flags operand sized_register
-  sum r src some short h n =
-      let i = i86.AluRm 0 true true r (rm_of src) in
-      let b = read src i n in
-      arrives finds {w = with_register r (word_sum (register v r) (value_of src v)) v} i some short h s refl (held s) refl
-      (once_set _ _ r _ _ s.sees.registers (ap₂ (λ a b. (a + b + 0) % 65536) (one r) b ∙ plain_sum (register v r) (value_of src v)))
-      (past_it _ at (length (bytes_of i)) s.sees.place) (ap₂ (λ a b. sum_flags 32768 a b false) (one r) b) refl refl
+  unfolding alu_value alu_flags
+  sum r src = changes 0 r src _ _ refl (λ c. plain_sum (register v r) (value_of src v)) refl
 
   pub difference : (r : ℕ) (src : Source) → Operates 5 r src (with_register r (word_difference (register v r) (value_of src v)) v) (difference_flags 32768 (register v r) (value_of src v) false)
-  unfolding operated with_operand with_sized_register alu_value alu_flags operand sized_register
-  difference r src some short h n =
-      let i = i86.AluRm 5 true true r (rm_of src) in
-      let b = read src i n in
-      arrives finds {w = with_register r (word_difference (register v r) (value_of src v)) v} i some short h s refl (held s) refl
-      (once_set _ _ r _ _ s.sees.registers (ap₂ (λ a b. (a + 65536 - (b + 0)) % 65536) (one r) b ∙ plain_difference (register v r) (value_of src v)))
-      (past_it _ at (length (bytes_of i)) s.sees.place) (ap₂ (λ a b. difference_flags 32768 a b false) (one r) b) refl refl
+  unfolding alu_value alu_flags
+  difference r src = changes 5 r src _ _ refl (λ c. plain_difference (register v r) (value_of src v)) refl
 
   pub either : (r : ℕ) (src : Source) → Operates 1 r src (with_register r (bit_or (register v r) (value_of src v)) v) (logic_flags 32768 (bit_or (register v r) (value_of src v)) f)
-  unfolding operated with_operand with_sized_register alu_value alu_flags operand sized_register
-  either r src some short h n =
-      let i = i86.AluRm 1 true true r (rm_of src) in
-      let b = read src i n in
-      let c = ap₂ (λ a b. bit_or a b) (one r) b in
-      arrives finds {w = with_register r (bit_or (register v r) (value_of src v)) v} i some short h s refl (held s) refl
-      (once_set _ _ r _ _ s.sees.registers c) (past_it _ at (length (bytes_of i)) s.sees.place) (ap₂ (λ a f. logic_flags 32768 a f) c s.flags) refl refl
+  unfolding alu_value alu_flags
+  either r src = changes 1 r src _ _ refl (λ c. refl) refl
 
   pub one_of : (r : ℕ) (src : Source) → Operates 6 r src (with_register r (bit_xor (register v r) (value_of src v)) v) (logic_flags 32768 (bit_xor (register v r) (value_of src v)) f)
-  unfolding operated with_operand with_sized_register alu_value alu_flags operand sized_register
-  one_of r src some short h n =
-      let i = i86.AluRm 6 true true r (rm_of src) in
-      let b = read src i n in
-      let c = ap₂ (λ a b. bit_xor a b) (one r) b in
-      arrives finds {w = with_register r (bit_xor (register v r) (value_of src v)) v} i some short h s refl (held s) refl
-      (once_set _ _ r _ _ s.sees.registers c) (past_it _ at (length (bytes_of i)) s.sees.place) (ap₂ (λ a f. logic_flags 32768 a f) c s.flags) refl refl
+  unfolding alu_value alu_flags
+  one_of r src = changes 6 r src _ _ refl (λ c. refl) refl
 
   pub comparison : (r : ℕ) (src : Source) → Operates 7 r src v (difference_flags 32768 (register v r) (value_of src v) false)
   unfolding operated alu_flags operand sized_register
@@ -379,47 +367,14 @@ module _ (finds : Finds) {code : List ℕ} {at : ℕ} {v : View} {f : Flags} {p 
       → At code (at + 2) (with_input (left_after port v.input) (with_register 0 (register v 0 / 256 * 256 + taken port v.input) v)) f (processor_step p)
   take port h =
       let i = i86.In port in
-      let e : processor_step p ≡ does i p = step_is finds code (standing at f v) p i s.sees (here i (omega arith) h s) (omega arith) in
-      let x = s.sees in
       let w = with_input (left_after port v.input) (with_register 0 (register v 0 / 256 * 256 + taken port v.input) v) in
-      subst (At code (at + 2) w f) (sym e) (record {
-        sees = record {
-          at_work = x.at_work;
-          bytes = x.bytes;
-          fits = x.fits;
-          segment = x.segment;
-          code_bytes = x.code_bytes;
-          registers = ap (λ rs. slice_set rs 0 (slice_index rs 0 / 256 * 256 + taken port p.input)) x.registers
-              ∙ ap (λ i. slice_set v.registers 0 (register v 0 / 256 * 256 + taken port i)) x.input;
-          place = past_it _ at 2 x.place;
-          overflow = x.overflow;
-          words = x.words;
-          stack = x.stack;
-          input = ap (left_after port) x.input;
-          told = x.told;
-        };
-        flags = s.flags;
-      })
+      arrives_past finds {w = w} {q = does i p} i (omega arith) (omega arith) h s refl refl (held s) refl
+      (ap (λ rs. slice_set rs 0 (slice_index rs 0 / 256 * 256 + taken port p.input)) s.sees.registers ∙ ap (λ i. slice_set v.registers 0 (register v 0 / 256 * 256 + taken port i)) s.sees.input)
+      (past_it _ at 2 s.sees.place) s.flags (ap (left_after port) s.sees.input) s.sees.told
 
   pub out : (port : ℕ) → Has code at (i86.Out port) → At code (at + 2) (with_told (with_given port (register v 0 % 256) v.told) v) f (processor_step p)
   out port h =
       let i = i86.Out port in
-      let e : processor_step p ≡ does i p = step_is finds code (standing at f v) p i s.sees (here i (omega arith) h s) (omega arith) in
-      let x = s.sees in
-      subst (At code (at + 2) (with_told (with_given port (register v 0 % 256) v.told) v) f) (sym e) (record {
-        sees = record {
-          at_work = x.at_work;
-          bytes = x.bytes;
-          fits = x.fits;
-          segment = x.segment;
-          code_bytes = x.code_bytes;
-          registers = x.registers;
-          place = past_it _ at 2 x.place;
-          overflow = x.overflow;
-          words = x.words;
-          stack = x.stack;
-          input = x.input;
-          told = ap (λ rs. with_given port (slice_index rs 0 % 256) p.told) x.registers ∙ ap (with_given port (register v 0 % 256)) x.told;
-        };
-        flags = s.flags;
-      })
+      arrives_past finds {w = with_told (with_given port (register v 0 % 256) v.told) v} {q = does i p} i (omega arith) (omega arith) h s refl refl (held s) refl s.sees.registers
+      (past_it _ at 2 s.sees.place) s.flags s.sees.input
+      (ap (λ rs. with_given port (slice_index rs 0 % 256) p.told) s.sees.registers ∙ ap (with_given port (register v 0 % 256)) s.sees.told)

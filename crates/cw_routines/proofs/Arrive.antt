@@ -11,7 +11,7 @@ use Rattle.cw_run86.specs.Processor.{Processor, does, behind, processor_step, wi
 use Rattle.cw_run86.specs.Views.{View, Has}
 use Rattle.cw_run86.proofs.Tests.{Finds}
 use Rattle.cw_run86.proofs.Memory.{Holds, holds}
-use Rattle.cw_run86.proofs.Goes.{sees, step_is}
+use Rattle.cw_run86.proofs.Goes.{sees_past, step_is}
 use Rattle.cw_routines.specs.Ways.{At, standing}
 
 -- an instruction that stands in the code stands below 65,536
@@ -26,18 +26,27 @@ here {code} {at} i some h s =
 pub held : {code : List ℕ} {at : ℕ} {v : View} {f : Flags} {p : Processor} → At code at v f p → Holds code v.cells v.stack p.state.memory
 held {code} {at} {v} {f} {p} s = holds code (standing at f v) p s.sees
 
--- the state behind an instruction that changes nothing but the state
+-- the processor behind an instruction
+pub arrives_past : Finds → {code : List ℕ} {at to : ℕ} {v w : View} {f g : Flags} {p q : Processor} (i : Instr) → 0 < length (bytes_of i) → length (bytes_of i) ≤ 7
+    → Has code at i → At code at v f p
+    → does i p ≡ q → q.end ≡ p.end → Holds code w.cells w.stack q.state.memory → q.state.code_segment ≡ p.state.code_segment → q.state.registers ≡ w.registers
+    → q.state.instruction_pointer ≡ to % 65536 → q.state.flags ≡ g → q.input ≡ w.input → q.told ≡ w.told
+    → At code to w g (processor_step p)
+arrives_past finds {code} {at} {to} {v} {w} {f} {g} {p} {q} i some short h s does_it end memory segment registers place flags input told =
+    let e : processor_step p ≡ q = step_is finds code (standing at f v) p i s.sees (here i some h s) short ∙ does_it in
+    subst (At code to w g) (sym e) (record {
+      sees = sees_past code (standing at f v) (standing to g w) p q s.sees end memory segment registers place (ap (λ x. x.of) flags) input told;
+      flags = flags;
+    })
+
+-- so where it changes nothing but the state
 pub arrives : Finds → {code : List ℕ} {at to : ℕ} {v w : View} {f g : Flags} {p : Processor} {t : State} (i : Instr) → 0 < length (bytes_of i) → length (bytes_of i) ≤ 7
     → Has code at i → At code at v f p
     → does i p ≡ with_state t p → Holds code w.cells w.stack t.memory → t.code_segment ≡ p.state.code_segment → t.registers ≡ w.registers → t.instruction_pointer ≡ to % 65536
     → t.flags ≡ g → v.input ≡ w.input → v.told ≡ w.told
     → At code to w g (processor_step p)
-arrives finds {code} {at} {to} {v} {w} {f} {g} {p} {t} i some short h s does_it memory segment registers place flags input told =
-    let e : processor_step p ≡ with_state t p = step_is finds code (standing at f v) p i s.sees (here i some h s) short ∙ does_it in
-    subst (At code to w g) (sym e) (record {
-      sees = sees code (standing at f v) (standing to g w) p t s.sees memory segment registers place (ap (λ x. x.of) flags) input told;
-      flags = flags;
-    })
+arrives finds {p = p} {t = t} i some short h s does_it memory segment registers place flags input told =
+    arrives_past finds {q = with_state t p} i some short h s does_it refl memory segment registers place flags (s.sees.input ∙ input) (s.sees.told ∙ told)
 
 -- past an instruction, modulo 65,536
 pub past_it : (ip at n : ℕ) → ip ≡ at % 65536 → (ip + n) % 65536 ≡ (at + n) % 65536

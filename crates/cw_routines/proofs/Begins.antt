@@ -22,7 +22,7 @@ use Rattle.cw_routines.proofs.Arrive.{jumps_if, passes_if}
 use Rattle.cw_routines.proofs.Sources.{Register, Slot, InCode}
 use Rattle.cw_routines.proofs.Acts as acts
 use Rattle.cw_routines.proofs.Chains.{Number, HighByte, Load, Difference, Either, DifferenceNumber, DoubleWord, SumShort, TestLow, Push, PushFrom, Pop, done, more, last, within, each_of, straight, both}
-use Rattle.cw_routines.proofs.Facts.{put_at, put_off, tested_not_zero, carry}
+use Rattle.cw_routines.proofs.Facts.{put_at, put_off, tested_not_zero, carry, one_low}
 use Rattle.cw_routines.proofs.Places.{to_place, start_stands, depth_stands, frames_stands, enter_stands, read_stands}
 use Rattle.cw_routines.proofs.Stops.{told_stops, run}
 
@@ -133,9 +133,6 @@ pub not_within : (a b : ℕ) → nat_le a b ≡ false → b < a
 not_within a b e = grind (arith, nat_tests)
 
 -- of AL and itself
-one_low : (ax : ℕ) → (ax / 256 * 256 + 1) % 256 ≡ 1
-one_low ax = omega arith
-
 none_low : (ax : ℕ) → (ax / 256 * 256 + 0) % 256 ≡ 0
 none_low ax = omega arith
 
@@ -180,14 +177,8 @@ module _ (finds : Finds) (Quiet : ℕ → Type 0) (code : List ℕ) (stands : St
       ∷ PushFrom (InCode (places.Near 4 2) (at + 2) frames) 32765 ∷ PushFrom (InCode (places.Near 4 2) (at + 2) frames) 32764 ∷ SumShort 6 8 ∷ []) {n = 1} (quiet 33 (lit≤ tt)) refl
       (h.0, (h.1.0, (h.1.1.0, (h.1.1.1.0, (h.1.1.1.1.0, (h.1.1.1.1.1.0, (h.1.1.1.1.1.1.0, (h.1.1.1.1.1.1.1.0, (h.1.1.1.1.1.1.1.1.0, tt))))))))) ((lt, top, is, refl), (tt, (tt, ((refl, d), (((e6, w6), lit< tt, refl), (((e4, w4), lit< tt, refl), (((e2, w2), lit< tt, refl), (((e2, w2), lit< tt, refl), (tt, tt))))))))) s (λ q u.
       last Quiet code told.output finds u (library 33 (lit< tt)) refl (record {
-        ax = ax;
-        cx = cx;
-        dx = dx;
-        bx = bx;
-        si = (at + 8) % 65536;
-        flags = _;
         stack = four stack 32764 segment calls frames frames;
-        is = acts.jump_to finds u 6 (at + 8) h.1.1.1.1.1.1.1.1.1.0 refl;
+        here = record { ax = ax; cx = cx; dx = dx; bx = bx; si = (at + 8) % 65536; flags = _; is = acts.jump_to finds u 6 (at + 8) h.1.1.1.1.1.1.1.1.1.0 refl; answers = tt };
         record_is = new_record stack 32764 segment calls frames frames (lit< tt) few;
       }))
 
@@ -256,14 +247,8 @@ module _ (finds : Finds) (Quiet : ℕ → Type 0) (code : List ℕ) (stands : St
           (quiet 128 (lit≤ tt)) refl
           (g.0, (g.1.0, (g.1.1.0, (g.1.1.1.0, (g.1.1.1.1.0, (g.1.1.1.1.1.0, (g.1.1.1.1.1.1.0, (g.1.1.1.1.1.1.1.0, (g.1.1.1.1.1.1.1.1.0, (g.1.1.1.1.1.1.1.1.1.0, tt)))))))))) (tt, ((refl, b.0, b.1, i.rest_is), (tt, (w.slot4, (tt, (((e2, names), w.slot3.0, w.slot3.1), (w.slot2, (w.slot1, (w.slot0, (tt, tt)))))))))) u (λ q u.
           last Quiet code told.output finds u (library 128 (lit< tt)) refl (record {
-            ax = word_difference calls 1;
-            cx = word_difference rest size;
-            dx = line;
-            bx = 2 * word_difference area rest % 65536;
-            si = (at + 4) % 65536;
-            flags = _;
             stack = begun_stack stack m bp number calls area rest size;
-            is = acts.jump_to finds u 6 (at + 4) g.1.1.1.1.1.1.1.1.1.1.0 refl;
+            here = record { ax = word_difference calls 1; cx = word_difference rest size; dx = line; bx = 2 * word_difference area rest % 65536; si = (at + 4) % 65536; flags = _; is = acts.jump_to finds u 6 (at + 4) g.1.1.1.1.1.1.1.1.1.1.0 refl; answers = tt };
             record_is = w.record_is;
             caller = w.caller;
             above = w.above;

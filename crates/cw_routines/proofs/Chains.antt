@@ -14,12 +14,13 @@ use Rattle.cw_i86.specs.declared.instr.Imm.TheVariants as imm
 use Rattle.cw_i86.specs.declared.instr.Rm.TheVariants as rms
 use Rattle.cw_i86.specs.declared.instr.Place.{Place}
 use Rattle.cw_i86.specs.declared.instr.Place.TheVariants.{Direct, Plain, Near, Far}
+use Rattle.cw_run86.specs.Addressing.{offset_in}
 use Rattle.cw_run86.specs.Processor.{Processor, processor_step}
 use Rattle.cw_run86.specs.Views.{View, Has, register, with_register, with_cell, with_stack, with_pair, word_sum, word_difference, word_up, word_down, word_down_signed, product_low, product_high, product_overflows, sign_of}
 use Rattle.cw_run86.proofs.Tests.{Finds}
 use Rattle.cw_tmpl.specs.Mnemonics.{memory}
 use Rattle.cw_routines.specs.Ways.{QuietAll, At, standing, HasAll, Way, stay, go, Leads, Within}
-use Rattle.cw_routines.proofs.Sources.{Source, rm_of, SourceNeeds, value_of, offset_in}
+use Rattle.cw_routines.proofs.Sources.{Source, rm_of, SourceNeeds, value_of}
 use Rattle.cw_routines.proofs.Acts as acts
 use Rattle.cw_i86.specs.declared.instr.Rm.{Rm}
 
@@ -237,7 +238,6 @@ piece code at (a ∷ list) rest h = let r = piece code (at + size a) list rest h
 -- none tells anything
 quiet : (a : Act) (v : View) → (after a v).told ≡ v.told
 quiet (Pop r n w m) v = refl
-quiet (Push r n) v = refl
 quiet _ v = refl
 
 module _ (finds : Finds) where

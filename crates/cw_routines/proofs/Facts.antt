@@ -1,6 +1,6 @@
 -- What flags tell of words, words of numbers, and the words of the data area.
 use Rattle.std.proofs.Common.{◌≡◌, ◌≢◌, ℕ, ◌+◌, ◌-◌, ◌*◌, ◌/◌, ◌%◌, ◌<◌, ◌≤◌, Bool, true, false, not, ℤ, pos, negsuc, ◌+ℤ◌, ◌-ℤ◌, List, length, set, refl, sym, ap, ap₂, subst, ◌∙◌, arith, length-set, get_or-set_same, get_or-set_other, inl, inr}
-use Rattle.std.specs.Prelude.{◌⊎◌, nat_lt, nat_le, ◌==◌, ◌||◌, ◌&&◌, int_lt, int_le, bit_or, if◌then◌else◌}
+use Rattle.std.specs.Prelude.{◌⊎◌, nat_lt, nat_le, ◌==◌, ◌||◌, ◌&&◌, int_lt, int_le, bit_or}
 use Rattle.std.specs.Int.Bits.{or_self}
 use Rattle.std.specs.Bool.{beq}
 use Rattle.std.proofs.lemmas.Bool.{lt-ltb, le-ltb, cases_eq, ltb-true}
@@ -15,6 +15,7 @@ use Rattle.cw_run86.specs.Views.{put_word, word_sum as sum_of_words}
 use Rattle.cw_word.specs.FixedPoint.{FitsWord, fits_word}
 use Rattle.cw_word.specs.Word.{signed as signed_of, unsigned, word_sum}
 use Rattle.cw_unit.specs.Words.{word_at, number_of, is_below}
+use Rattle.cw_routines.specs.WordLaws.{WordLaws}
 use Rattle.cw_routines.specs.Results.{Holds}
 
 -- ---- flags
@@ -85,7 +86,7 @@ pub tested_sign : (n : ℕ) (f : Flags) → meets (logic_flags 32768 (bit_or n n
 unfolding meets
 tested_sign n f = ap (nat_le 32768) (or_self n)
 
-one_low : (ax : ℕ) → (ax / 256 * 256 + 1) % 256 ≡ 1
+pub one_low : (ax : ℕ) → (ax / 256 * 256 + 1) % 256 ≡ 1
 one_low ax = omega arith
 
 -- 1 in AL is greater than 0
@@ -94,14 +95,6 @@ unfolding meets
 never_at_most ax f = ap (λ m. (m == 0) || not (beq (nat_le 128 m) false)) (or_self ((ax / 256 * 256 + 1) % 256) ∙ one_low ax)
 
 -- ---- words
-
--- what the laws of words tell
-pub record WordLaws : Type 0 where
-  pub signed_is : (n : ℕ) → n < 65536 → signed_of n ≡ (if nat_lt n 32768 then pos n else (pos n -ℤ pos 65536))
-  pub unsigned_fits : (z : ℤ) → FitsWord z → unsigned z < 65536
-  pub back : (z : ℤ) → FitsWord z → signed_of (unsigned z) ≡ z
-  pub forth : (n : ℕ) → n < 65536 → unsigned (signed_of n) ≡ n
-  pub sum : (a b : ℕ) → a < 65536 → b < 65536 → FitsWord (signed_of a +ℤ signed_of b) → signed_of (word_sum a b) ≡ signed_of a +ℤ signed_of b
 
 overflows_same : (z : ℤ) → overflows 32768 z ≡ not (fits_word z)
 overflows_same (pos n) = grind (arith, ints, nat_tests)
@@ -178,7 +171,7 @@ put_at words k w = grind (arith, nat_tests)
 pub put_off : (words : ℕ → ℕ) (k w n : ℕ) → n ≢ k → put_word words k w n ≡ words n
 put_off words k w n ne = grind (arith, nat_tests)
 
-put_words : (cells : ℕ → ℕ) (memory : List ℤ) (k n : ℕ) (z : ℤ) → k < length memory → cells n ≡ unsigned (word_at memory n)
+pub put_words : (cells : ℕ → ℕ) (memory : List ℤ) (k n : ℕ) (z : ℤ) → k < length memory → cells n ≡ unsigned (word_at memory n)
     → put_word cells k (unsigned z) n ≡ unsigned (word_at (set memory k z) n)
 put_words cells memory k n z lt e = cases (cases_eq n k)
   where

@@ -115,14 +115,8 @@ module _ (finds : Finds) (Quiet : ℕ → Type 0) (code : List ℕ) (stands : St
           (z.0, (z.1.0, (z.1.1.0, (z.1.1.1.0, (z.1.1.1.1.0, (z.1.1.1.1.1.0, (z.1.1.1.1.1.1.0, tt))))))) refl
           (g.0, (g.1.0, (g.1.1.0, (g.1.1.1.0, (g.1.1.1.1.0, (g.1.1.1.1.1.0, (g.1.1.1.1.1.1.0, tt))))))) (tt, (w.slot4, (tt, (((refl, named), w.slot3.0, w.slot3.1), (w.slot2, (w.slot1, (w.slot0, tt))))))) u (λ q u.
           done Quiet code told.output (record {
-            ax = word_difference rest size;
-            cx = word_difference calls 1;
-            dx = line;
-            bx = 2 * word_difference area rest % 65536;
-            si = si;
-            flags = _;
             stack = begun_stack stack m bp number calls area rest size;
-            is = to_place end u;
+            here = record { ax = word_difference rest size; cx = word_difference calls 1; dx = line; bx = 2 * word_difference area rest % 65536; si = si; flags = _; is = to_place end u; answers = tt };
             record_is = w.record_is;
             caller = w.caller;
             above = w.above;

@@ -7,23 +7,26 @@ use Rattle.std.proofs.lemmas.Bool.Decides.{nat_tests}
 use Rattle.std.proofs.lemmas.Int.{ints}
 use Rattle.cw_i86.specs.Sums.{sum_flags, difference_flags, signed}
 use Rattle.cw_i86.specs.Effect.{holds as meets}
+use Rattle.cw_i86.specs.State.{sign_extended}
 use Rattle.cw_i86.specs.declared.flags.Flags.{Flags}
+use Rattle.cw_i86.specs.declared.instr.Instr.TheVariants as i86
 use Rattle.cw_i86.specs.declared.instr.Place.TheVariants as places
 use Rattle.cw_run86.specs.Processor.{Processor, Told}
-use Rattle.cw_run86.specs.Views.{put_word, word_sum, sign_of}
+use Rattle.cw_run86.specs.Views.{Has, put_word, word_sum, sign_of}
 use Rattle.cw_run86.proofs.Tests.{Finds}
 use Rattle.cw_word.specs.FixedPoint.{FitsWord, fits_word}
 use Rattle.cw_word.specs.Word.{unsigned}
 use Rattle.cw_unit.specs.Stop.{Overflow, AddressRange}
 use Rattle.cw_unit.specs.Words.{Words, Changed, with_memory, put, word_at, number_of, is_below, through}
 use Rattle.cw_unit.specs.Operation.{SetVariable, AddStep, perform, store_sum, is_past}
-use Rattle.cw_routines.specs.Ways.{At, view, Leads, Within, Back, Over}
+use Rattle.cw_routines.specs.WordLaws.{WordLaws}
+use Rattle.cw_routines.specs.Ways.{At, HasAll, view, Leads, Within, Back, Over}
 use Rattle.cw_routines.specs.Results.{Stands, Holds, Tells, Ends, Fetched, Fetches}
 use Rattle.cw_routines.proofs.Arrive.{jumps_if, passes_if}
 use Rattle.cw_routines.proofs.Sources.{Register, Cell}
 use Rattle.cw_routines.proofs.Acts as acts
-use Rattle.cw_routines.proofs.Chains.{Load, Store, Sum, One, Comparison, ComparisonNumber, SumShort, Double, Sign, Push, Pop, done, more, last, afterwards, within, straight, both}
-use Rattle.cw_routines.proofs.Facts.{WordLaws, not_below, below, equal, not_equal, at_most, fits_tested, positive_fits, negative_fits, unsigned_pos, unsigned_negative, signed_back, sum_overflows, sum_is, compared, stored, fits_there, inside, outside, put_at, put_off}
+use Rattle.cw_routines.proofs.Chains.{Act, codes, Load, Store, Sum, One, Comparison, ComparisonNumber, SumShort, Double, Sign, Push, Pop, done, more, last, afterwards, within, straight, both}
+use Rattle.cw_routines.proofs.Facts.{not_below, below, equal, not_equal, at_most, fits_tested, positive_fits, negative_fits, unsigned_pos, unsigned_negative, signed_back, sum_overflows, sum_is, compared, stored, fits_there, inside, outside, put_at, put_off}
 use Rattle.cw_routines.proofs.Numbers.{xor_all}
 use Rattle.cw_routines.proofs.Places.{to_place, bad_address_stands, bad_sum_stands, set_variable_stands, add_step_stands, put_variable_stands, exhausted_stands}
 use Rattle.cw_routines.proofs.Stops.{told_stops, run}
@@ -61,6 +64,45 @@ module _ (finds : Finds) (laws : WordLaws) (Quiet : ℕ → Type 0) (code : List
     with_ax : {at x y cx bx sp si : ℕ} {f : Flags} {cells : ℕ → ℕ} {p : Processor} → x ≡ y → Here at x cx bx sp si f cells p → Here at y cx bx sp si f cells p
     with_ax {at} {x} {y} {cx} {bx} {sp} {si} {f} {cells} {p} e s = subst (λ n. Here at n cx bx sp si f cells p) e s
 
+    -- ---- the address of the control variable
+
+    -- what takes it from the words of the loop, and compares it with the area
+    abbrev taken : List ℤ → List Act
+    taken memory = Pop 6 n back (2 * suc n) ∷ Load 3 (Register 0) ∷ Double 3 ∷ Load 3 (Cell (places.Plain 7) a (unsigned (word_at memory a))) ∷ Comparison 3 (Register 7) ∷ []
+
+    takes : (place : ℕ) (memory : List ℤ) → HasAll code place (codes (taken memory)) → place + 1 + 2 + 2 + 2 + 2 ≤ 438 → n < 32767 → {cx bx si : ℕ} {f : Flags} {cells : ℕ → ℕ} {p : Processor}
+        → Holds area memory cells → Here place a cx bx (2 * n) si f cells p
+        → Leads Quiet code told.output 5 p
+        (λ q. Here (place + 1 + 2 + 2 + 2 + 2) a cx (unsigned (word_at memory a)) (2 * suc n) back (difference_flags 32768 (unsigned (word_at memory a)) area false) cells q)
+    takes place memory g room n_low h s =
+        let low = h.low in
+        let e : a < 32768 = omega arith in
+        let lt : n < 32768 = omega arith in
+        let top : 2 * n ≡ 2 * n % 65536 = omega arith in
+        let up : 2 * suc n % 65536 ≡ 2 * suc n = omega arith in
+        straight Quiet code told.output finds (taken memory) {n = 0} (quiet (place + 1 + 2 + 2 + 2 + 2) room) refl g
+        ((lt, top, way, up), (tt, (e, ((refl, e, refl, h.words a inside_area), (tt, tt))))) s
+        (λ q u. done Quiet code told.output u)
+
+    -- where it is in the area, it is the number of a word
+    word_inside : (memory : List ℤ) {cells : ℕ → ℕ} → Holds area memory cells → is_below (word_at memory a) area ≡ true
+        → (number_of (word_at memory a) < area) × (unsigned (word_at memory a) ≡ number_of (word_at memory a)) × (unsigned (word_at memory a) < area)
+    word_inside memory h is =
+        let i = inside area (word_at memory a) is h.low in
+        let same = i.1 in
+        let in_area = i.0 in
+        (i.0, i.1, omega arith)
+
+    -- where it is not in the area, the run stops
+    outside_stops : (place by : ℕ) (memory : List ℤ) → Has code place (i86.JumpIf 3 by) → Quiet (place % 65536) → (place + 2 + sign_extended by) % 65536 ≡ 71 → Tells stack bp r segment
+        → is_below (word_at memory a) area ≡ false → {ax cx bx sp si : ℕ} {cells : ℕ → ℕ} {p : Processor} → Holds area memory cells
+        → Here place ax cx bx sp si (difference_flags 32768 (unsigned (word_at memory a)) area false) cells p
+        → Leads Quiet code told.output 11 p (Over told.output AddressRange segment line)
+    outside_stops place by memory jump silent to_stop t is h s =
+        let z = word_at memory a in
+        more Quiet code told.output finds s silent refl
+        (to_place {to = 71} to_stop (jumps_if finds 3 by jump (not_below (unsigned z) area (outside area z (fits_there a inside_area h) is h.low)) s)) (λ q u. bad_address t u)
+
     -- ---- the control variable is set
 
     sets_at : (x : ℤ) → FitsWord x → n < 32766 → stack (suc n) ≡ unsigned x → Tells stack bp r segment → {cx bx si : ℕ} {f : Flags} {cells : ℕ → ℕ} {p : Processor} (w : Words)
@@ -70,43 +112,22 @@ module _ (finds : Finds) (laws : WordLaws) (Quiet : ℕ → Type 0) (code : List
         (through b (λ i t. Changed (with_memory t (set t.memory i x))) (word_at w.memory a) w))
     sets_at x fx n_low value t {cx} {bx} {si} {f} {cells} {p} w h s = cases
       where
-        low : area ≤ 32768
-        low = h.low
-
-        fz : FitsWord (word_at w.memory a)
-        fz = fits_there a inside_area h
-
-        -- the address of the variable is compared
         first : Leads Quiet code told.output 5 p
             (λ q. Here 154 a cx (unsigned (word_at w.memory a)) (2 * suc n) back (difference_flags 32768 (unsigned (word_at w.memory a)) area false) cells q)
-        first =
-            let g = set_variable_stands code stands in
-            let e : a < 32768 = omega arith in
-            let lt : n < 32768 = omega arith in
-            let top : 2 * n ≡ 2 * n % 65536 = omega arith in
-            let up : 2 * suc n % 65536 ≡ 2 * suc n = omega arith in
-            straight Quiet code told.output finds (Pop 6 n back (2 * suc n) ∷ Load 3 (Register 0) ∷ Double 3 ∷ Load 3 (Cell (places.Plain 7) a (unsigned (word_at w.memory a)))
-            ∷ Comparison 3 (Register 7) ∷ []) {n = 0} (quiet 154 (lit≤ tt)) refl
-            (g.0, (g.1.0, (g.1.1.0, (g.1.1.1.0, (g.1.1.1.1.0, tt))))) ((lt, top, way, up), (tt, (e, ((refl, e, refl, h.words a inside_area), (tt, tt))))) s
-            (λ q u. done Quiet code told.output u)
+        first = let g = set_variable_stands code stands in takes 145 w.memory (g.0, (g.1.0, (g.1.1.0, (g.1.1.1.0, (g.1.1.1.1.0, tt))))) (lit≤ tt) (omega arith) h s
 
         cases : (b : Bool) → is_below (word_at w.memory a) area ≡ b
             → Within Quiet code told.output 16 p (Ends code told.output area back (2 * suc (suc n)) bp segment line stack input told
             (through b (λ i t. Changed (with_memory t (set t.memory i x))) (word_at w.memory a) w))
-        cases false is =
-            let g = (set_variable_stands code stands).1.1.1.1.1 in
-            within Quiet code told.output 16 16 (lit≤ tt)
-            (both Quiet code told.output 5 11 first (λ q u.
-            more Quiet code told.output finds u (library 154 (lit< tt)) refl
-            (to_place {to = 71} refl (jumps_if finds 3 0xAB g.0 (not_below (unsigned (word_at w.memory a)) area (outside area (word_at w.memory a) fz is low)) u))
-            (λ q u. bad_address t u)))
+        cases false is = within Quiet code told.output 16 16 (lit≤ tt) (both Quiet code told.output 5 11 first (λ q u. outside_stops 154 0xAB w.memory (set_variable_stands code stands).1.1.1.1.1.0 (library 154 (lit< tt)) refl t is h u))
         cases true is =
             let g = (set_variable_stands code stands).1.1.1.1.1 in
-            let i = inside area (word_at w.memory a) is low in
+            let low = h.low in
+            let i = word_inside w.memory h is in
             let k = number_of (word_at w.memory a) in
             let same = i.1 in
             let in_area = i.0 in
-            let lower : unsigned (word_at w.memory a) < area = omega arith in
+            let lower = i.2 in
             let half : unsigned (word_at w.memory a) < 32768 = omega arith in
             let k_low : k < 32768 = omega arith in
             let there : 2 * unsigned (word_at w.memory a) ≡ 2 * k = ap (λ n. 2 * n) same in
@@ -204,16 +225,11 @@ module _ (finds : Finds) (laws : WordLaws) (Quiet : ℕ → Type 0) (code : List
         → Within Quiet code told.output 19 p (Ends code told.output area back (2 * suc n) bp segment line stack input told (perform area (AddStep a) w))
     adds n_low t small {cx} {bx} {si} {f} {cells} {p} w h s = cases (is_below (word_at w.memory a) area) refl
       where
-        low : area ≤ 32768
-        low = h.low
-
-        fz : FitsWord (word_at w.memory a)
-        fz = fits_there a inside_area h
-
         first : Leads Quiet code told.output 4 p
             (λ q. Here 171 a cx (2 * a) (2 * n) (unsigned (word_at w.memory a)) (difference_flags 32768 (unsigned (word_at w.memory a)) area false) cells q)
         first =
             let g = add_step_stands code stands in
+            let low = h.low in
             let e : a < 32768 = omega arith in
             straight Quiet code told.output finds (Load 3 (Register 0) ∷ Double 3 ∷ Load 6 (Cell (places.Plain 7) a (unsigned (word_at w.memory a))) ∷ Comparison 6 (Register 7)
             ∷ []) {n = 0} (quiet 171 (lit≤ tt)) refl
@@ -226,24 +242,15 @@ module _ (finds : Finds) (laws : WordLaws) (Quiet : ℕ → Type 0) (code : List
             (Ends code told.output area back (2 * suc n) bp segment line stack input told
             (through b (λ i v. store_sum (fits_word (word_at v.memory i +ℤ word_at v.memory (a + 1))) i (word_at v.memory i +ℤ word_at v.memory (a + 1)) v)
             (word_at w.memory a) w))
-        cases false is =
-            let g = (add_step_stands code stands).1.1.1.1 in
-            within Quiet code told.output 15 19 (lit≤ tt)
-            (both Quiet code told.output 4 11 first (λ q u.
-            more Quiet code told.output finds u (library 171 (lit< tt)) refl
-            (to_place {to = 71} refl (jumps_if finds 3 0x9A g.0 (not_below (unsigned (word_at w.memory a)) area (outside area (word_at w.memory a) fz is low)) u))
-            (λ q u. bad_address t u)))
+        cases false is = within Quiet code told.output 15 19 (lit≤ tt) (both Quiet code told.output 4 11 first (λ q u. outside_stops 171 0x9A w.memory (add_step_stands code stands).1.1.1.1.0 (library 171 (lit< tt)) refl t is h u))
         cases true is =
             let g = (add_step_stands code stands).1.1.1.1 in
-            let i = inside area (word_at w.memory a) is low in
-            let same = i.1 in
-            let in_area = i.0 in
-            let lower : unsigned (word_at w.memory a) < area = omega arith in
+            let i = word_inside w.memory h is in
             afterwards Quiet code told.output 5 14 19 (lit≤ tt)
             (both Quiet code told.output 4 1 first (λ q u.
-            more Quiet code told.output finds u (library 171 (lit< tt)) refl (passes_if finds 3 0x9A g.0 (below (unsigned (word_at w.memory a)) area lower) u)
+            more Quiet code told.output finds u (library 171 (lit< tt)) refl (passes_if finds 3 0x9A g.0 (below (unsigned (word_at w.memory a)) area i.2) u)
             (λ q u. done Quiet code told.output u)))
-            (λ q u. sums_at (number_of (word_at w.memory a)) n_low t small in_area w h refl same u)
+            (λ q u. sums_at (number_of (word_at w.memory a)) n_low t small i.0 w h refl i.1 u)
 
     -- ---- the value of the control variable
 
@@ -253,42 +260,22 @@ module _ (finds : Finds) (laws : WordLaws) (Quiet : ℕ → Type 0) (code : List
         (Fetched code back n bp a (unsigned (word_at memory (number_of (word_at memory a)))) area cells stack input told))
     puts n_low t {cx} {bx} {si} {f} {cells} {p} memory h s = cases (is_below (word_at memory a) area) refl
       where
-        low : area ≤ 32768
-        low = h.low
-
-        fz : FitsWord (word_at memory a)
-        fz = fits_there a inside_area h
-
         first : Leads Quiet code told.output 5 p
             (λ q. Here 194 a cx (unsigned (word_at memory a)) (2 * suc n) back (difference_flags 32768 (unsigned (word_at memory a)) area false) cells q)
-        first =
-            let g = put_variable_stands code stands in
-            let e : a < 32768 = omega arith in
-            let lt : n < 32768 = omega arith in
-            let top : 2 * n ≡ 2 * n % 65536 = omega arith in
-            let up : 2 * suc n % 65536 ≡ 2 * suc n = omega arith in
-            straight Quiet code told.output finds (Pop 6 n back (2 * suc n) ∷ Load 3 (Register 0) ∷ Double 3 ∷ Load 3 (Cell (places.Plain 7) a (unsigned (word_at memory a)))
-            ∷ Comparison 3 (Register 7) ∷ []) {n = 0} (quiet 194 (lit≤ tt)) refl
-            (g.0, (g.1.0, (g.1.1.0, (g.1.1.1.0, (g.1.1.1.1.0, tt))))) ((lt, top, way, up), (tt, (e, ((refl, e, refl, h.words a inside_area), (tt, tt))))) s
-            (λ q u. done Quiet code told.output u)
+        first = let g = put_variable_stands code stands in takes 185 memory (g.0, (g.1.0, (g.1.1.0, (g.1.1.1.0, (g.1.1.1.1.0, tt))))) (lit≤ tt) n_low h s
 
         cases : (b : Bool) → is_below (word_at memory a) area ≡ b
             → Within Quiet code told.output 16 p (Fetches told.output b segment line
             (Fetched code back n bp a (unsigned (word_at memory (number_of (word_at memory a)))) area cells stack input told))
-        cases false is =
-            let g = (put_variable_stands code stands).1.1.1.1.1 in
-            within Quiet code told.output 16 16 (lit≤ tt)
-            (both Quiet code told.output 5 11 first (λ q u.
-            more Quiet code told.output finds u (library 194 (lit< tt)) refl
-            (to_place {to = 71} refl (jumps_if finds 3 0x83 g.0 (not_below (unsigned (word_at memory a)) area (outside area (word_at memory a) fz is low)) u))
-            (λ q u. bad_address t u)))
+        cases false is = within Quiet code told.output 16 16 (lit≤ tt) (both Quiet code told.output 5 11 first (λ q u. outside_stops 194 0x83 memory (put_variable_stands code stands).1.1.1.1.1.0 (library 194 (lit< tt)) refl t is h u))
         cases true is =
             let g = (put_variable_stands code stands).1.1.1.1.1 in
-            let i = inside area (word_at memory a) is low in
+            let low = h.low in
+            let i = word_inside memory h is in
             let k = number_of (word_at memory a) in
             let same = i.1 in
             let in_area = i.0 in
-            let lower : unsigned (word_at memory a) < area = omega arith in
+            let lower = i.2 in
             let half : unsigned (word_at memory a) < 32768 = omega arith in
             let k_low : k < 32768 = omega arith in
             let there : 2 * unsigned (word_at memory a) ≡ 2 * k = ap (λ n. 2 * n) same in
@@ -303,13 +290,8 @@ module _ (finds : Finds) (laws : WordLaws) (Quiet : ℕ → Type 0) (code : List
             (g.1.0, (g.1.1.0, (g.1.1.1.0, tt)))
             (half, ((refl, k_low, there, h.words k in_area), ((lt, top), tt))) u (λ q u.
             last Quiet code told.output finds u (library 201 (lit< tt)) refl (record {
-              cx = x;
-              dx = line;
-              bx = 2 * unsigned (word_at memory a);
-              si = back;
-              flags = _;
               stack = put_word stack n x;
-              is = acts.jump_to finds u 6 back g.1.1.1.1.0 whole;
+              back = record { ax = a; cx = x; dx = line; bx = 2 * unsigned (word_at memory a); si = back; flags = _; is = acts.jump_to finds u 6 back g.1.1.1.1.0 whole; answers = refl };
               word_is = put_at stack n x;
               above = λ k lt. put_off stack n x k (λ e. omega arith);
             })))))

@@ -24,13 +24,14 @@ use Rattle.cw_unit.specs.Words.{Words, with_memory, word_at, number_of, is_below
 use Rattle.cw_unit.specs.Operation.{store_sum, is_past}
 use Rattle.cw_order.specs.OrderChanges.{Way, to_mark_if, way_behind, turn_if, turned, stepped_if, stepped}
 use Rattle.cw_tmpl.specs.Mnemonics as short
+use Rattle.cw_routines.specs.WordLaws.{WordLaws}
 use Rattle.cw_routines.specs.Ways.{At, HasAll, HasWord, view, Leads, Within, Over}
 use Rattle.cw_routines.specs.Results.{Stands, Holds, Tells, Answered, AtMost, GoesOn}
 use Rattle.cw_routines.proofs.Arrive.{jumps_if, passes_if}
 use Rattle.cw_routines.proofs.Sources.{Register, Cell}
 use Rattle.cw_routines.proofs.Acts as acts
 use Rattle.cw_routines.proofs.Chains.{LowByte, OrLow, Load, Store, Sum, Either, Comparison, ComparisonShort, Double, done, more, last, afterwards, within, onward, straight, both}
-use Rattle.cw_routines.proofs.Facts.{WordLaws, not_below, below, equal, not_equal, unequal, not_unequal, tested_at_most, tested_sign, tested_zero, never_at_most, fits_tested, positive_fits, negative_fits, unsigned_pos, unsigned_negative, sum_overflows, sum_is, compared, stored, fits_there, inside, outside, twice_positive, not_positive}
+use Rattle.cw_routines.proofs.Facts.{not_below, below, equal, not_equal, unequal, not_unequal, tested_at_most, tested_sign, tested_zero, never_at_most, fits_tested, positive_fits, negative_fits, unsigned_pos, unsigned_negative, sum_overflows, sum_is, compared, stored, fits_there, inside, outside, twice_positive, not_positive}
 use Rattle.cw_routines.proofs.Places.{to_place, next_step_stands, stepped_stands, left_stands, stepped_any_stands, turned_stands}
 use Rattle.cw_routines.proofs.Stops.{step_address_stops, step_sum_stops, run}
 use Rattle.cw_routines.proofs.Loops.{not_greater}

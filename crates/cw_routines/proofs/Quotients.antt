@@ -15,6 +15,7 @@ use Rattle.cw_run86.proofs.Tests.{Finds}
 use Rattle.cw_word.specs.FixedPoint.{FitsWord, fits_word, floor_div, scaled_product, scaled_quotient}
 use Rattle.cw_word.specs.Word.{signed, unsigned, magnitude, signs_differ, negative_if, signed_pair, sign_word, word_difference as difference_of_words}
 use Rattle.cw_tmpl.specs.Library.{magnitudes}
+use Rattle.cw_routines.specs.WordLaws.{NumberLaws}
 use Rattle.cw_routines.specs.Ways.{At, HasAll, view, Leads, Within, Back}
 use Rattle.cw_routines.specs.Results.{Stands, Fitting}
 use Rattle.cw_routines.proofs.Arrive.{jumps_if, passes_if}
@@ -24,7 +25,7 @@ use Rattle.cw_routines.proofs.Chains.{Number, LowByte, AddLow, Load, Sum, Differ
 use Rattle.cw_routines.proofs.Facts.{not_below, below, unequal, not_unequal, fits_tested}
 use Rattle.cw_routines.proofs.Places.{to_place, product_stands, too_large_stands, quotient_down_stands, quotient_up_stands, quotient_stands}
 use Rattle.cw_routines.proofs.Stops.{run}
-use Rattle.cw_routines.proofs.Numbers.{NumberLaws, lower, lower_fits, sign_same, sign_fits, turned_by, magnitude_made, signs_made, fits_true, magnitude_small, magnitude_some}
+use Rattle.cw_routines.proofs.Numbers.{lower, lower_fits, sign_same, sign_fits, turned_by, magnitude_made, signs_made, fits_true, magnitude_small, magnitude_some}
 
 -- all bits of a word, where something is negative
 abbrev mask : Bool → ℕ
@@ -55,10 +56,6 @@ none_left z = omega (arith, ints)
 
 same_fits : (a : ℕ) → (difference_flags 32768 a a false).of ≡ false
 same_fits a = ap (overflows 32768) (none_left (signed_of 32768 a))
-
--- the count that is left
-rest_of : (k : ℕ) → k ≤ 16 → word_sum (word_difference 0 k) 16 ≡ 16 - k
-rest_of k few = omega arith
 
 rest_low : (k : ℕ) → k ≤ 16 → word_sum (word_difference 0 k) 16 % 256 ≡ 16 - k
 rest_low k few = omega arith

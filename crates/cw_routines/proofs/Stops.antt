@@ -8,7 +8,7 @@ use Rattle.cw_i86.specs.declared.instr.Instr.TheVariants as i86
 use Rattle.cw_run86.specs.Processor.{Processor, Told}
 use Rattle.cw_run86.proofs.Tests.{Finds}
 use Rattle.cw_run86.proofs.Jumps.{halts, rests}
-use Rattle.cw_unit.specs.Stop.{StopKind, Overflow, ZeroDivisor, SwitchRange, AddressRange, FramesFull, DepthReached, IndexRange, stop_number}
+use Rattle.cw_unit.specs.Stop.{StopKind, Overflow, AddressRange, stop_number}
 use Rattle.cw_i86.specs.State.{sign_extended}
 use Rattle.cw_tmpl.specs.Library.{stop_routine, told_stop}
 use Rattle.cw_routines.specs.Ways.{At, HasAll, HasWord, view, Leads, Over}
@@ -30,21 +30,11 @@ byte_whole n lt = omega arith
 
 pub few_kinds : (kind : StopKind) → stop_number kind < 256
 few_kinds Overflow = lit< tt
-few_kinds ZeroDivisor = lit< tt
-few_kinds SwitchRange = lit< tt
-few_kinds AddressRange = lit< tt
-few_kinds FramesFull = lit< tt
-few_kinds DepthReached = lit< tt
-few_kinds IndexRange = lit< tt
+few_kinds _ = lit< tt
 
 kind_shows : (kind : StopKind) (segment line : ℕ) → end_told (stop_number kind) segment line ≡ Stopped (stop_number kind) segment line
 kind_shows Overflow segment line = refl
-kind_shows ZeroDivisor segment line = refl
-kind_shows SwitchRange segment line = refl
-kind_shows AddressRange segment line = refl
-kind_shows FramesFull segment line = refl
-kind_shows DepthReached segment line = refl
-kind_shows IndexRange segment line = refl
+kind_shows _ segment line = refl
 
 same_shown : (kind : StopKind) (o output : List ℕ) (k s segment l line : ℕ) → o ≡ output → k ≡ stop_number kind → s ≡ segment → l ≡ line
     → (let made : List ℕ → End → Observed = λ o e. record { output = o; end = e } in made o (end_told k s l) ≡ made output (Stopped (stop_number kind) segment line))

@@ -58,26 +58,14 @@ pub record RecordIs (stack : ℕ → ℕ) (bp r segment calls base rest : ℕ) :
 
 -- A body begins at the words behind the call of its start: the base record is at the end of the stack.
 pub record Started (code : List ℕ) (at area frames calls segment : ℕ) (cells : ℕ → ℕ) (input : List ℕ) (told : Told) (p : Processor) : Type 0 where
-  pub ax : ℕ
-  pub cx : ℕ
-  pub dx : ℕ
-  pub bx : ℕ
-  pub si : ℕ
-  pub flags : Flags
   pub stack : ℕ → ℕ
-  pub is : At code (at + 8) (view ax cx dx bx (2 * 32764) 0 si area cells stack input told) flags p
+  pub here : Back code (at + 8) (2 * 32764) 0 area cells stack input told (λ ax f. Unit {0}) p
   pub record_is : RecordIs stack 0 32764 segment calls frames frames
 
 -- An activation begins at a place: its record is on top of the stack, below the caller's BP, and the words above that are as they were.
 pub record Entered (code : List ℕ) (to m bp segment calls base rest area : ℕ) (cells before : ℕ → ℕ) (input : List ℕ) (told : Told) (p : Processor) : Type 0 where
-  pub ax : ℕ
-  pub cx : ℕ
-  pub dx : ℕ
-  pub bx : ℕ
-  pub si : ℕ
-  pub flags : Flags
   pub stack : ℕ → ℕ
-  pub is : At code to (view ax cx dx bx (2 * m) (2 * (m + 4)) si area cells stack input told) flags p
+  pub here : Back code to (2 * m) (2 * (m + 4)) area cells stack input told (λ ax f. Unit {0}) p
   pub record_is : RecordIs stack (2 * (m + 4)) m segment calls base rest
   pub caller : stack (m + 4) ≡ bp
   pub above : (k : ℕ) → m + 4 < k → stack k ≡ before k
@@ -219,13 +207,8 @@ StepRoutine Silent code place bound =
 
 -- It comes back with a word on the stack, in place of the way back, and with AX as it was. The words above are as they were.
 pub record Fetched (code : List ℕ) (to n bp ax word area : ℕ) (cells before : ℕ → ℕ) (input : List ℕ) (told : Told) (p : Processor) : Type 0 where
-  pub cx : ℕ
-  pub dx : ℕ
-  pub bx : ℕ
-  pub si : ℕ
-  pub flags : Flags
   pub stack : ℕ → ℕ
-  pub is : At code to (view ax cx dx bx (2 * n) bp si area cells stack input told) flags p
+  pub back : Back code to (2 * n) bp area cells stack input told (λ a f. a ≡ ax) p
   pub word_is : stack n ≡ word
   pub above : (k : ℕ) → n < k → stack k ≡ before k
 

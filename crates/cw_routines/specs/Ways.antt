@@ -5,20 +5,12 @@ use Rattle.cw_i86.specs.declared.flags.Flags.{Flags}
 use Rattle.cw_i86.specs.declared.instr.Instr.{Instr}
 use Rattle.cw_i86.specs.MachineRun.{Stopped}
 use Rattle.cw_run86.specs.Processor.{Processor, Told, processor_step, observed}
-use Rattle.cw_run86.specs.Views.{View, Sees, Has}
+use Rattle.cw_run86.specs.Views.{View, Sees, Has, view as view_at}
 use Rattle.cw_unit.specs.Stop.{StopKind, stop_number}
 
 -- a view with registers; its place and its overflow flag are of no use
 abbrev pub view : (ax cx dx bx sp bp si di : ℕ) → (cells stack : ℕ → ℕ) → (input : List ℕ) → Told → View
-view ax cx dx bx sp bp si di cells stack input told = record {
-  registers = ax ∷ cx ∷ dx ∷ bx ∷ sp ∷ bp ∷ si ∷ di ∷ [];
-  place = 0;
-  overflow = false;
-  cells = cells;
-  stack = stack;
-  input = input;
-  told = told;
-}
+view ax cx dx bx sp bp si di cells stack input told = view_at 0 ax cx dx bx sp bp si di false cells stack input told
 
 abbrev pub standing : ℕ → Flags → View → View
 standing at f v = record v { place = at % 65536; overflow = f.of }
@@ -64,7 +56,7 @@ pub record Within (Quiet : ℕ → Type 0) (code output : List ℕ) (bound : ℕ
 
 -- ---- where they lead
 
--- Behind the call, with an answer in AX and the flags; the other registers but SP, BP and DI are of no use.
+-- At a place, as behind a call, with an answer in AX and the flags; the other registers but SP, BP and DI are of no use.
 pub record Back (code : List ℕ) (to sp bp area : ℕ) (cells stack : ℕ → ℕ) (input : List ℕ) (told : Told) (Answers : ℕ → Flags → Type 0) (p : Processor) : Type 0 where
   pub ax : ℕ
   pub cx : ℕ

@@ -12,6 +12,7 @@ ghost use Rattle.cw_tmpl.specs.Mnemonics.{divide_signed};
 ghost use Rattle.cw_tmpl.specs.Library.{library_bytes, retired_place, start_place, stop_place, enter_place, read_place};
 ghost use Rattle.cw_tmpl.specs.Library.{set_variable_place, add_step_place, put_variable_place};
 ghost use Rattle.cw_tmpl.specs.Library.{exhausted_place, next_step_place, product_place, quotient_down_place, quotient_up_place, enter_stop_place};
+ghost use Rattle.cw_routines.specs.WordLaws.{NumberLaws};
 ghost use Rattle.cw_routines.specs.Ways.{HasAll, HasWord, QuietAll};
 ghost use Rattle.cw_routines.specs.Results.{Stands, Quiet, InLibrary, StartRoutine, StopRoutine, ToldStop};
 ghost use Rattle.cw_routines.specs.Results.{EnterRoutine, begin, Beginning, leave, Leaving, ReadRoutine};
@@ -61,6 +62,18 @@ pub fn calls()
     fetching();
 }
 
+/// What the laws of words say, in one.
+pub fn word_laws()
+    ensures { NumberLaws }
+{
+    readings();
+    sums();
+    products();
+    quotients();
+    scaling();
+    many_places();
+}
+
 /// Products and quotients of words are scaled, rounded as those of the source, and tell by OF whether they fit a word.
 pub fn numbers()
     ensures product { (quiet : ℕ → Bool) (code : List ℕ) → Stands code → InLibrary quiet → (x y : ℤ) (j : ℕ) → FitsWord x → FitsWord y → j < 15 →
@@ -73,12 +86,7 @@ pub fn numbers()
         WordRoutine (Quiet quiet) code quotient_up_place 26 k x y (scaled_quotient x y (pos k)) }
 {
     fetching();
-    readings();
-    sums();
-    products();
-    quotients();
-    scaling();
-    many_places();
+    word_laws();
 }
 
 /// The routines of loops: the control variable is set, the step is added to it, its value is put on the stack, a value is compared with the
@@ -91,8 +99,7 @@ pub fn loops()
     ensures next_step { (quiet : ℕ → Bool) (code : List ℕ) → Stands code → InLibrary quiet → NextStepRoutine (Quiet quiet) code next_step_place 28 }
 {
     fetching();
-    readings();
-    sums();
+    word_laws();
 }
 
 /// Code of segments: AX exchanged with another register, a word divided behind CWD by a number whose magnitude

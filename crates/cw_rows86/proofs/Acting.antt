@@ -12,10 +12,10 @@ use Rattle.cw_i86.specs.State.{sign_extended}
 use Rattle.cw_run86.specs.Processor.{Processor, processor_step, processor_after}
 use Rattle.cw_run86.specs.Views.{View, Sees, Has, register, with_place, with_register, with_pair, with_stack, with_overflow, product_low, product_high, product_overflows, sum_overflows, difference_overflows, word_sum, word_difference, shift_overflow}
 use Rattle.cw_run86.proofs.Tests.{Finds}
-use Rattle.cw_rows86.specs.Locations.{Location, InRegister, InData, InStack, InCode, contents, with_contents}
+use Rattle.cw_run86.proofs.Sizes.{some_bytes}
+use Rattle.cw_rows86.specs.Locations.{Location, InRegister, contents, with_contents}
 use Rattle.cw_rows86.specs.Operations.{WordOperation, Add, Or, And, Subtract, Xor, Compare, number_of, operated_on, flags_after, counted_to, count_overflows, flags_counted, shift_number, shifted_word, flags_shifted, places_of}
 use Rattle.cw_rows86.specs.Acts.{Act, Number, NumberTo, Into, OutOf, Load, Store, Offset, Operate, OperateOnto, OperateNumber, OperateNumberOnto, OperateByteOnto, Negate, Count, CountIn, Multiply, Divide, Extend, Shift, Push, PushAny, Pop, Nothing, instruction, Needs, after, flags_of, HasActs, NeedsAll, after_all, flags_of_all, behind}
-use Rattle.cw_rows86.proofs.Stepping.{some_bytes}
 use Rattle.cw_rows86.proofs.Moving as moving
 use Rattle.cw_rows86.proofs.Operating as operating
 use Rattle.cw_rows86.proofs.Multiplying as multiplying
@@ -26,9 +26,7 @@ use Rattle.cw_rows86.proofs.Bytes as bytes
 -- the place does not bear on what is written
 placed : (o : Location) (w n : ℕ) (v : View) → with_contents o w (with_place n v) ≡ with_place n (with_contents o w v)
 placed (InRegister r) w n v = refl
-placed (InData k) w n v = refl
-placed (InStack k) w n v = refl
-placed (InCode at) w n v = refl
+placed _ w n v = refl
 
 operated_placed : (op : WordOperation) (o : Location) (a b n : ℕ) (v : View) → operated_on op o a b (with_place n v) ≡ with_place n (operated_on op o a b v)
 operated_placed op o a b n v = by_case op
@@ -43,9 +41,7 @@ operated_placed op o a b n v = by_case op
 
 same_contents : (code : List ℕ) (o : Location) (n : ℕ) (v : View) → contents code (with_place n v) o ≡ contents code v o
 same_contents code (InRegister r) n v = refl
-same_contents code (InData k) n v = refl
-same_contents code (InStack k) n v = refl
-same_contents code (InCode at) n v = refl
+same_contents code _ n v = refl
 
 -- ---- one
 

@@ -5,8 +5,9 @@ use Rattle.cw_i86.specs.State.{sign_extended}
 use Rattle.cw_i86.specs.declared.instr.Rm.TheVariants as rms
 use Rattle.cw_i86.specs.declared.instr.Place.{Place}
 use Rattle.cw_i86.specs.declared.instr.Place.TheVariants.{Direct, Plain, Near, Far}
+use Rattle.cw_run86.specs.Addressing.{offset_in}
 use Rattle.cw_run86.specs.Views.{View}
-use Rattle.cw_rows86.specs.Locations.{InRegister, InData, InStack, InCode, contents, offset_in, Denotes, in_memory, in_code, HasWord}
+use Rattle.cw_rows86.specs.Locations.{InRegister, InData, InStack, InCode, contents, Denotes, in_memory, in_code, HasWord}
 
 module _ (code rs : List ℕ) where
   pub of_register : (r : ℕ) → Denotes code rs (rms.Reg r) (InRegister r)

@@ -1,15 +1,16 @@
 -- States that fit a view, and what reading and writing an operand does to them.
 use Rattle.std.proofs.Common.{◌≡◌, ℕ, ◌+◌, ◌*◌, ◌%◌, ◌<◌, ◌≤◌, Bool, true, false, List, length, refl, ap, ap₂, subst, ◌∙◌, arith}
 use Rattle.std.specs.Prelude.{slice_index, slice_set, if◌then◌else◌}
-use Rattle.cw_i86.specs.State.{State, word_at, with_word, byte_at, data_segment, stack_segment, default_segment, segment_of, offset_of, form_base, operand, with_operand, value_at, with_value_at, sized_register, with_sized_register, sign_extended}
+use Rattle.cw_i86.specs.State.{State, word_at, with_word, byte_at, data_segment, stack_segment, default_segment, segment_of, offset_of, operand, with_operand, value_at, with_value_at, sized_register, with_sized_register}
 use Rattle.cw_i86.specs.declared.instr.Mem.{Mem}
 use Rattle.cw_i86.specs.declared.instr.Rm.{Rm}
 use Rattle.cw_i86.specs.declared.instr.Rm.TheVariants as rms
 use Rattle.cw_i86.specs.declared.instr.Place.{Place}
-use Rattle.cw_i86.specs.declared.instr.Place.TheVariants.{Direct, Plain, Near, Far}
+use Rattle.cw_i86.specs.declared.instr.Place.TheVariants.{Direct}
 use Rattle.cw_run86.specs.Views.{View, code_segment, put_word}
+use Rattle.cw_run86.proofs.Addressing.{offset_is}
 use Rattle.cw_run86.proofs.Memory.{Holds, holds_cell, holds_stack}
-use Rattle.cw_rows86.specs.Locations.{Location, InRegister, InData, InStack, InCode, contents, with_contents, IsWritable, base_in, offset_in, is_of_stack, Denotes}
+use Rattle.cw_rows86.specs.Locations.{Location, InRegister, InData, InStack, InCode, contents, with_contents, IsWritable, is_of_stack, Denotes}
 
 -- the state holds this code, these registers and these words
 pub record Fits (code registers : List ℕ) (cells stack : ℕ → ℕ) (s : State) : Type 0 where
@@ -22,18 +23,9 @@ FitsView code v s = Fits code v.registers v.cells v.stack s
 
 -- ---- where an operand is
 
-pub offset_is : (s : State) (rs : List ℕ) (place : Place) → s.registers ≡ rs → offset_of s place ≡ offset_in rs place
-unfolding offset_of form_base
-offset_is s rs (Direct at) e = refl
-offset_is s rs (Plain form) e = ap (λ r. base_in r form) e
-offset_is s rs (Near form by) e = ap (λ r. (base_in r form + sign_extended by) % 65536) e
-offset_is s rs (Far form by) e = ap (λ r. (base_in r form + by) % 65536) e
-
 segment_is : (place : Place) → default_segment place ≡ (if is_of_stack place then stack_segment else data_segment)
 segment_is (Direct at) = refl
-segment_is (Plain form) = refl
-segment_is (Near form by) = refl
-segment_is (Far form by) = refl
+segment_is _ = refl
 
 of_default : (s : State) (m : Mem) (b : Bool) → m.cs ≡ false → is_of_stack m.place ≡ b → segment_of s m ≡ (if b then stack_segment else data_segment)
 unfolding segment_of

@@ -10,11 +10,13 @@ use Rattle.cw_i86.specs.declared.instr.Mem.{Mem}
 use Rattle.cw_i86.specs.declared.instr.Rm.{Rm}
 use Rattle.cw_i86.specs.declared.instr.Rm.TheVariants as rms
 use Rattle.cw_i86.specs.declared.instr.Place.TheVariants as places
+use Rattle.cw_run86.specs.Addressing.{offset_in}
+use Rattle.cw_run86.proofs.Addressing.{offset_is}
 use Rattle.cw_run86.specs.Views.{View, Has, register, on, with_register}
 use Rattle.cw_run86.proofs.Tests.{Finds}
 use Rattle.cw_run86.proofs.Stack.{once_set}
-use Rattle.cw_rows86.specs.Locations.{Location, InRegister, contents, with_contents, IsWritable, offset_in, Denotes, GoesWith, same_flags}
-use Rattle.cw_rows86.proofs.Fitting.{FitsView, Writes, reads, writes, offset_is}
+use Rattle.cw_rows86.specs.Locations.{Location, InRegister, contents, with_contents, IsWritable, Denotes, GoesWith, same_flags}
+use Rattle.cw_rows86.proofs.Fitting.{FitsView, Writes, reads, writes}
 use Rattle.cw_rows86.proofs.Stepping.{as_written, by_row, written}
 
 -- a register set

@@ -14,7 +14,7 @@ use Rattle.cw_run86.specs.Views.{View, Has, register, on, with_overflow, word_di
 use Rattle.cw_run86.proofs.Tests.{Finds}
 use Rattle.cw_run86.proofs.Sums.{plain_sum, plain_difference, plain_sum_overflows, plain_difference_overflows}
 use Rattle.cw_rows86.specs.Locations.{Location, InRegister, contents, with_contents, IsWritable, Denotes, GoesWith}
-use Rattle.cw_rows86.specs.Operations.{WordOperation, Add, Or, And, Subtract, Xor, Compare, number_of, result_of, overflow_of, operated_on, flags_after, counted_to, count_overflows, flags_counted, Operates, Counts}
+use Rattle.cw_rows86.specs.Operations.{WordOperation, Add, Subtract, Compare, number_of, result_of, overflow_of, operated_on, flags_after, counted_to, count_overflows, flags_counted, Operates, Counts}
 use Rattle.cw_rows86.proofs.Fitting.{FitsView, reads, writes}
 use Rattle.cw_rows86.proofs.Stepping.{Becomes, Begins, by_row, written_with}
 use Rattle.cw_rows86.proofs.Moving.{register_read}
@@ -24,20 +24,16 @@ use Rattle.cw_rows86.proofs.Moving.{register_read}
 value_is : (op : WordOperation) (a b : ℕ) (carry : Bool) → alu_value (number_of op) 32768 a b carry ≡ result_of op a b
 unfolding alu_value
 value_is Add a b carry = plain_sum a b
-value_is Or a b carry = refl
-value_is And a b carry = refl
 value_is Subtract a b carry = plain_difference a b
-value_is Xor a b carry = refl
 value_is Compare a b carry = plain_difference a b
+value_is _ a b carry = refl
 
 overflow_is : (op : WordOperation) (a b : ℕ) (flags : Flags) → (flags_after op a b flags).of ≡ overflow_of op a b
 unfolding alu_flags
 overflow_is Add a b flags = plain_sum_overflows a b
-overflow_is Or a b flags = refl
-overflow_is And a b flags = refl
 overflow_is Subtract a b flags = plain_difference_overflows a b
-overflow_is Xor a b flags = refl
 overflow_is Compare a b flags = plain_difference_overflows a b
+overflow_is _ a b flags = refl
 
 pub with_these : (code : List ℕ) (u : View) (s : State) (flags : Flags) → FitsView code u s → FitsView code u (with_flags s flags)
 with_these code u s flags f = record { memory = f.memory; same_registers = f.same_registers; segment = f.segment }
@@ -78,19 +74,8 @@ operates op code v i rm o other b s begin d able e = by_case op
     value p = ap₂ (λ x y. alu_value (number_of p) 32768 x y s.flags.cf) read e ∙ value_is p (contents code v o) b s.flags.cf
 
     by_case : (p : WordOperation) → Becomes code v (operated_on p o (contents code v o) b (on i v)) (flags_after p (contents code v o) b s.flags) (Some (operated s (number_of p) true rm other))
-    by_case Add = written_behind code v i rm o _ _ _ _ _ s begin d able (flags_are 0) (value Add) (overflow_is Add (contents code v o) b s.flags)
-    by_case Or = written_behind code v i rm o _ _ _ _ _ s begin d able (flags_are 1) (value Or) (overflow_is Or (contents code v o) b s.flags)
-    by_case And = written_behind code v i rm o _ _ _ _ _ s begin d able (flags_are 4) (value And) (overflow_is And (contents code v o) b s.flags)
-    by_case Subtract = written_behind code v i rm o _ _ _ _ _ s begin d able (flags_are 5) (value Subtract) (overflow_is Subtract (contents code v o) b s.flags)
-    by_case Xor = written_behind code v i rm o _ _ _ _ _ s begin d able (flags_are 6) (value Xor) (overflow_is Xor (contents code v o) b s.flags)
     by_case Compare = flagged code v i _ _ _ s begin (flags_are 7) (overflow_is Compare (contents code v o) b s.flags)
-
--- a comparison writes nothing
-compares : (code : List ℕ) (v : View) (i : Instr) (rm : Rm) (o : Location) (other b : ℕ) (s : State) → Begins code v (on i v) s → Denotes code v.registers rm o → other ≡ b
-    → Becomes code v (operated_on Compare o (contents code v o) b (on i v)) (flags_after Compare (contents code v o) b s.flags) (Some (operated s 7 true rm other))
-unfolding operated
-compares code v i rm o other b s begin d e =
-    flagged code v i _ _ _ s begin (ap₂ (λ x y. alu_flags 7 32768 x y s.flags) (reads code v s rm o d begin.fits) e) (overflow_is Compare (contents code v o) b s.flags)
+    by_case p = written_behind code v i rm o _ _ _ _ _ s begin d able (flags_are (number_of p)) (value p) (overflow_is p (contents code v o) b s.flags)
 
 module _ (finds : Finds) (code : List ℕ) (v : View) where
   -- on a register and an operand

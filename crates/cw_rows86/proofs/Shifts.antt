@@ -24,8 +24,7 @@ word_is DownSigned a n flags lt = down_signed_many n a flags.cf lt
 
 flags_are : (op : Shifting) (a n : ℕ) (flags : Flags) → shift_flags (shift_named (shift_number op)) 32768 a n flags ≡ flags_shifted op a n flags
 flags_are Up a n flags = refl
-flags_are Down a n flags = refl
-flags_are DownSigned a n flags = refl
+flags_are _ a n flags = refl
 
 overflow_shifted : (op : Shifting) (a n : ℕ) (flags : Flags) (old : Bool) → flags.of ≡ old → (flags_shifted op a n flags).of ≡ shift_overflow (shift_number op) a n old
 overflow_shifted Up a n flags old e = overflow_is Shl (omega arith) n a flags old e

@@ -8,7 +8,7 @@ use Rattle.cw_run86.specs.Processor.{Processor, Told, processor_step, processor_
 use Rattle.cw_run86.specs.Views.{Sees, Has, put_word}
 use Rattle.cw_run86.proofs.Tests.{Finds}
 use Rattle.cw_rows86.specs.Locations.{InCode, in_code, HasWord}
-use Rattle.cw_rows86.specs.Views.{view}
+use Rattle.cw_run86.specs.Views.{view}
 use Rattle.cw_rows86.proofs.Jumping.{call}
 use Rattle.cw_rows86.proofs.Stacking.{pop}
 use Rattle.cw_rows86.proofs.Moving.{into}

@@ -10,9 +10,10 @@ use Rattle.cw_i86.specs.declared.instr.Instr.TheVariants as i86
 use Rattle.cw_i86.specs.declared.instr.Imm.TheVariants as imm
 use Rattle.cw_i86.specs.declared.instr.Mem.{Mem}
 use Rattle.cw_i86.specs.declared.instr.Rm.{Rm}
+use Rattle.cw_run86.specs.Addressing.{offset_in}
 use Rattle.cw_run86.specs.Views.{View, Has, IsTop, register, with_register, with_pair, with_stack, with_overflow, word_difference}
 use Rattle.cw_run86.specs.Views.{difference_overflows, product_low, product_high, product_overflows, shift_overflow, sign_of}
-use Rattle.cw_rows86.specs.Locations.{Location, InRegister, contents, with_contents, IsWritable, offset_in, Denotes, in_memory}
+use Rattle.cw_rows86.specs.Locations.{Location, InRegister, contents, with_contents, IsWritable, Denotes, in_memory}
 use Rattle.cw_i86.specs.declared.instr.Place.TheVariants.{Direct}
 use Rattle.cw_rows86.specs.Operations.{WordOperation, Subtract, number_of, operated_on, flags_after, counted_to, count_overflows}
 use Rattle.cw_rows86.specs.Operations.{flags_counted, Shifting, shift_number, shifted_word, flags_shifted, places_of}

@@ -1,5 +1,4 @@
 pub mod Locations
 pub mod Operations
-pub mod Views
 pub mod Acts
 pub mod AddressCode

@@ -1,12 +1,13 @@
 -- Which word an operand of an instruction is, in a view: that of a register, or word k of the data or of the stack, or the word at a
 -- place of the code.
-use Rattle.std.specs.Prelude.{◌≡◌, ℕ, ◌+◌, ◌*◌, ◌%◌, ◌<◌, ◌≤◌, ◌==◌, Bool, true, false, List, length, slice_index, if◌then◌else◌}
-use Rattle.cw_i86.specs.State.{sign_extended, is_stack_form}
+use Rattle.std.specs.Prelude.{◌≡◌, ℕ, ◌+◌, ◌*◌, ◌<◌, ◌≤◌, Bool, true, false, List, length, slice_index}
+use Rattle.cw_i86.specs.State.{is_stack_form}
 use Rattle.cw_i86.specs.declared.flags.Flags.{Flags}
 use Rattle.cw_i86.specs.declared.instr.Rm.{Rm}
 use Rattle.cw_i86.specs.declared.instr.Rm.TheVariants as rms
 use Rattle.cw_i86.specs.declared.instr.Place.{Place}
 use Rattle.cw_i86.specs.declared.instr.Place.TheVariants.{Direct, Plain, Near, Far}
+use Rattle.cw_run86.specs.Addressing.{offset_in}
 use Rattle.cw_run86.specs.Processor.{processor_step, Processor}
 use Rattle.cw_run86.specs.Views.{View, Sees, register, with_register, with_cell, with_stack}
 
@@ -33,25 +34,7 @@ abbrev pub IsWritable : Location → Type 0
 IsWritable (InCode at) = ⊥
 IsWritable o = Unit {0}
 
--- ---- addressing modes, over the words of the registers
-
--- the sum of registers that an address form names
-abbrev pub base_in : List ℕ → (form : ℕ) → ℕ
-base_in rs form =
-    if form == 0 then (slice_index rs 3 + slice_index rs 6) % 65536
-    else if form == 1 then (slice_index rs 3 + slice_index rs 7) % 65536
-    else if form == 2 then (slice_index rs 5 + slice_index rs 6) % 65536
-    else if form == 3 then (slice_index rs 5 + slice_index rs 7) % 65536
-    else if form == 4 then slice_index rs 6
-    else if form == 5 then slice_index rs 7
-    else if form == 6 then slice_index rs 5
-    else slice_index rs 3
-
-abbrev pub offset_in : List ℕ → Place → ℕ
-offset_in rs (Direct at) = at
-offset_in rs (Plain form) = base_in rs form
-offset_in rs (Near form by) = (base_in rs form + sign_extended by) % 65536
-offset_in rs (Far form by) = (base_in rs form + by) % 65536
+-- ---- addressing modes
 
 -- the forms with BP are of the stack segment
 abbrev pub is_of_stack : Place → Bool

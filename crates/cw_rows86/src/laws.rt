@@ -15,19 +15,20 @@ ghost use Rattle.cw_i86.specs.declared.instr.Rm.{Rm};
 ghost use Rattle.cw_i86.specs.declared.instr.Rm.TheVariants as rms;
 ghost use Rattle.cw_i86.specs.declared.instr.Place.{Place};
 ghost use Rattle.cw_i86.specs.declared.instr.Place.TheVariants as places;
+ghost use Rattle.cw_run86.specs.Addressing.{offset_in};
 ghost use Rattle.cw_run86.specs.Processor.{Processor, Told, processor_step, processor_after};
 ghost use Rattle.cw_run86.specs.Views.{View, Sees, put_word, Has, IsTop, register, on, with_place, with_register, with_pair, with_stack};
 ghost use Rattle.cw_run86.specs.Views.{with_overflow, word_sum, word_difference, difference_overflows, product_low, product_high, product_overflows};
 ghost use Rattle.cw_run86.specs.Views.{shift_overflow, sign_of, Compared, Comparison, condition_of, words_compare};
 ghost use Rattle.cw_rows86.specs.Locations.{Location, InRegister, InData, InStack, InCode, contents, with_contents, IsWritable};
-ghost use Rattle.cw_rows86.specs.Locations.{offset_in, Denotes, in_memory, in_code, HasWord, GoesWith, Lands, same_flags};
+ghost use Rattle.cw_rows86.specs.Locations.{Denotes, in_memory, in_code, HasWord, GoesWith, Lands, same_flags};
 ghost use Rattle.cw_rows86.specs.Operations.{WordOperation, Subtract, Compare, Or, And, Xor, Up, low_of, with_low};
 ghost use Rattle.cw_rows86.specs.Operations.{byte_operated_on, byte_flags_after, number_of, result_of};
 ghost use Rattle.cw_rows86.specs.Operations.{flags_after, Operates, counted_to, flags_counted, Counts, Shifting};
 ghost use Rattle.cw_rows86.specs.Operations.{shift_number, shifted_word, flags_shifted, places_of};
 ghost use Rattle.cw_rows86.specs.Acts.{Act, instruction, Needs, after, flags_of, HasActs, NeedsAll, after_all, flags_of_all, behind};
-ghost use Rattle.cw_rows86.specs.AddressCode.{index_code};
-ghost use Rattle.cw_rows86.specs.Views.{view};
+ghost use Rattle.cw_rows86.specs.AddressCode.{index_code, behind_test};
+ghost use Rattle.cw_run86.specs.Views.{view};
 
 use cw_run86::laws::fetching;
 
@@ -179,18 +180,12 @@ pub fn acting()
 
 /// Acts and a jump, for a sample: the code of an index and its one test, where a check of seven bytes follows: JB past the CALL and its word.
 pub fn address_tests()
-    ensures in_area { (code : List ℕ) (at j x k area : ℕ) (ax cx dx bx sp bp si : ℕ) (overflow : Bool)
-        (cells stack : ℕ → ℕ) (input : List ℕ) (told : Told) (p : Processor) →
+    ensures { (code : List ℕ) (at j x k area : ℕ) (ax cx dx bx sp bp si : ℕ) (overflow : Bool)
+        (cells stack : ℕ → ℕ) (input : List ℕ) (told : Told) (p : Processor) (inside : Bool) →
         HasActs code at (index_code j x k area) → Has code (at + 10) (i86.JumpIf 2 5) → j < 32768 → cells j ≡ x
-        → at + 17 < 65536 → nat_lt (word_sum x k) area ≡ true →
+        → at + 17 < 65536 → nat_lt (word_sum x k) area ≡ inside →
         Sees code (view at ax cx dx bx sp bp si area overflow cells stack input told) p →
-        Sees code (view (at + 17) ax cx dx (word_sum x k) sp bp si area (difference_overflows (word_sum x k) area) cells stack input told) (processor_after 4 p) }
-    ensures out_of_area { (code : List ℕ) (at j x k area : ℕ) (ax cx dx bx sp bp si : ℕ) (overflow : Bool)
-        (cells stack : ℕ → ℕ) (input : List ℕ) (told : Told) (p : Processor) →
-        HasActs code at (index_code j x k area) → Has code (at + 10) (i86.JumpIf 2 5) → j < 32768 → cells j ≡ x
-        → at + 17 < 65536 → nat_lt (word_sum x k) area ≡ false →
-        Sees code (view at ax cx dx bx sp bp si area overflow cells stack input told) p →
-        Sees code (view (at + 12) ax cx dx (word_sum x k) sp bp si area (difference_overflows (word_sum x k) area) cells stack input told) (processor_after 4 p) }
+        Sees code (view (behind_test inside at) ax cx dx (word_sum x k) sp bp si area (difference_overflows (word_sum x k) area) cells stack input told) (processor_after 4 p) }
 {
     fetching();
 }

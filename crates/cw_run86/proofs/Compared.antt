@@ -41,14 +41,14 @@ not_less x y = grind (arith, ints, nat_tests)
 not_at_most : (x y : ℤ) → not (int_le x y) ≡ int_lt y x
 not_at_most x y = grind (arith, ints, nat_tests)
 
-tells : (c : Comparison) (a b : ℕ) → a < 65536 → b < 65536 → meets (difference_flags 32768 a b false) (condition_of c) ≡ words_compare c a b
+pub of_difference : (c : Comparison) (a b : ℕ) → a < 65536 → b < 65536 → meets (difference_flags 32768 a b false) (condition_of c) ≡ words_compare c a b
 unfolding meets
-tells Equal a b la lb = zero_is a b la lb
-tells Unequal a b la lb = ap not (zero_is a b la lb)
-tells Less a b la lb = less_is a b la lb
-tells NotLess a b la lb = ap not (less_is a b la lb) ∙ not_less (signed 32768 a) (signed 32768 b)
-tells AtMost a b la lb = at_most_is a b la lb
-tells Greater a b la lb = ap not (at_most_is a b la lb) ∙ not_at_most (signed 32768 a) (signed 32768 b)
+of_difference Equal a b la lb = zero_is a b la lb
+of_difference Unequal a b la lb = ap not (zero_is a b la lb)
+of_difference Less a b la lb = less_is a b la lb
+of_difference NotLess a b la lb = ap not (less_is a b la lb) ∙ not_less (signed 32768 a) (signed 32768 b)
+of_difference AtMost a b la lb = at_most_is a b la lb
+of_difference Greater a b la lb = ap not (at_most_is a b la lb) ∙ not_at_most (signed 32768 a) (signed 32768 b)
 
 -- ---- the instructions
 
@@ -112,7 +112,7 @@ module _ (finds : Finds) (code : List ℕ) (v : View) where
       → with_state (jumped_if (behind (i86.JumpIf (condition_of c) by) p.state) t by) p ≡ processor_step p
   conditional c by a b p t has la lb is s f =
       let j = i86.JumpIf (condition_of c) by in
-      let met : meets p.state.flags (condition_of c) ≡ t = ap (λ f. meets f (condition_of c)) f.flags ∙ tells c a b la lb ∙ is in
+      let met : meets p.state.flags (condition_of c) ≡ t = ap (λ f. meets f (condition_of c)) f.flags ∙ of_difference c a b la lb ∙ is in
       ap (λ x. with_state (jumped_if (behind j p.state) x by) p) (sym met) ∙ sym (step_is finds code v p j s has (omega arith))
 
   pub jumps : (c : Comparison) (by a b : ℕ) (p : Processor) → Has code v.place (i86.JumpIf (condition_of c) by) → a < 65536 → b < 65536 → words_compare c a b ≡ true

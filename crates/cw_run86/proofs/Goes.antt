@@ -45,11 +45,11 @@ goes finds code v w i has short leads p s = subst (Sees code w) (sym (step_is fi
 
 -- ---- what an instruction leaves
 
--- registers, place and overflow flag change, and the memory is told of
-pub sees : (code : List ℕ) (v w : View) (p : Processor) (s : State) → Sees code v p → Holds code w.cells w.stack s.memory → s.code_segment ≡ p.state.code_segment
-    → s.registers ≡ w.registers → s.instruction_pointer ≡ w.place → s.flags.of ≡ w.overflow → v.input ≡ w.input → v.told ≡ w.told → Sees code w (with_state s p)
-sees code v w p s old memory segment registers place overflow input told = record {
-  at_work = old.at_work;
+-- registers, place, overflow flag and what passes the ports change, and the memory is told of
+pub sees_past : (code : List ℕ) (v w : View) (p q : Processor) → Sees code v p → q.end ≡ p.end → Holds code w.cells w.stack q.state.memory → q.state.code_segment ≡ p.state.code_segment
+    → q.state.registers ≡ w.registers → q.state.instruction_pointer ≡ w.place → q.state.flags.of ≡ w.overflow → q.input ≡ w.input → q.told ≡ w.told → Sees code w q
+sees_past code v w p q old end memory segment registers place overflow input told = record {
+  at_work = end ∙ old.at_work;
   bytes = memory.bytes;
   fits = old.fits;
   segment = segment ∙ old.segment;
@@ -59,6 +59,12 @@ sees code v w p s old memory segment registers place overflow input told = recor
   overflow = overflow;
   words = memory.data_words;
   stack = memory.stack_words;
-  input = old.input ∙ input;
-  told = old.told ∙ told;
+  input = input;
+  told = told;
 }
+
+-- the same where nothing passes the ports
+pub sees : (code : List ℕ) (v w : View) (p : Processor) (s : State) → Sees code v p → Holds code w.cells w.stack s.memory → s.code_segment ≡ p.state.code_segment
+    → s.registers ≡ w.registers → s.instruction_pointer ≡ w.place → s.flags.of ≡ w.overflow → v.input ≡ w.input → v.told ≡ w.told → Sees code w (with_state s p)
+sees code v w p s old memory segment registers place overflow input told =
+    sees_past code v w p (with_state s p) old refl memory segment registers place overflow (old.input ∙ input) (old.told ∙ told)

@@ -11,7 +11,7 @@ use Rattle.cw_run86.specs.Processor.{Processor, Told, does, behind, with_given, 
 use Rattle.cw_run86.specs.Views.{View, Sees, Has, Goes, IsTop, register as register_of, on, with_place, with_register, with_stack, with_input, with_told}
 use Rattle.cw_run86.proofs.Tests.{Finds}
 use Rattle.cw_run86.proofs.Memory.{holds}
-use Rattle.cw_run86.proofs.Goes.{goes, sees, step_is}
+use Rattle.cw_run86.proofs.Goes.{goes, sees, sees_past, step_is}
 use Rattle.cw_run86.proofs.Runs.{resting}
 use Rattle.cw_run86.proofs.Stack.{register_is, stack_written, stack_read, down, up, even, once_set}
 
@@ -19,7 +19,7 @@ use Rattle.cw_run86.proofs.Stack.{register_is, stack_written, stack_read, down, 
 pub from_behind : (at place n by : ℕ) → at ≡ place → ((at + n) % 65536 + by) % 65536 ≡ (place + n + by) % 65536
 from_behind at place n by e = omega arith
 
-table_word : (low high a b to : ℕ) → low ≡ a → high ≡ b → a + 256 * b ≡ to → low + 256 * high ≡ to
+pub table_word : (low high a b to : ℕ) → low ≡ a → high ≡ b → a + 256 * b ≡ to → low + 256 * high ≡ to
 table_word low high a b to e f g = omega arith
 
 module _ (finds : Finds) (code : List ℕ) (v : View) where
@@ -77,20 +77,9 @@ module _ (finds : Finds) (code : List ℕ) (v : View) where
   pub take : (port : ℕ) → Has code v.place (i86.In port) → Goes code v (with_input (left_after port v.input) (with_register 0 (register_of v 0 / 256 * 256 + taken port v.input) (on (i86.In port) v)))
   take port has =
       goes finds code v _ _ has (omega arith)
-      (λ p s. record {
-        at_work = s.at_work;
-        bytes = s.bytes;
-        fits = s.fits;
-        segment = s.segment;
-        code_bytes = s.code_bytes;
-        registers = ap (λ rs. slice_set rs 0 (slice_index rs 0 / 256 * 256 + taken port p.input)) s.registers ∙ ap (λ i. slice_set v.registers 0 (register_of v 0 / 256 * 256 + taken port i)) s.input;
-        place = ap (λ n. (n + 2) % 65536) s.place;
-        overflow = s.overflow;
-        words = s.words;
-        stack = s.stack;
-        input = ap (left_after port) s.input;
-        told = s.told;
-      })
+      (λ p s. sees_past code v _ p _ s refl (holds code v p s) refl
+      (ap (λ rs. slice_set rs 0 (slice_index rs 0 / 256 * 256 + taken port p.input)) s.registers ∙ ap (λ i. slice_set v.registers 0 (register_of v 0 / 256 * 256 + taken port i)) s.input)
+      (ap (λ n. (n + 2) % 65536) s.place) s.overflow (ap (left_after port) s.input) s.told)
 
   -- by a word of a table in the code
   pub through_table : (by at to : ℕ) → Has code v.place (i86.JumpRm (rms.Mem (record { cs = true; place = places.Far 7 by }))) → (register_of v 3 + by) % 65536 ≡ at → at + 2 ≤ length code
@@ -111,20 +100,8 @@ module _ (finds : Finds) (code : List ℕ) (v : View) where
   pub out : (port : ℕ) → Has code v.place (i86.Out port) → Goes code v (with_told (with_given port (register_of v 0 % 256) v.told) (on (i86.Out port) v))
   out port has =
       goes finds code v _ _ has (omega arith)
-      (λ p s. record {
-        at_work = s.at_work;
-        bytes = s.bytes;
-        fits = s.fits;
-        segment = s.segment;
-        code_bytes = s.code_bytes;
-        registers = s.registers;
-        place = ap (λ n. (n + 2) % 65536) s.place;
-        overflow = s.overflow;
-        words = s.words;
-        stack = s.stack;
-        input = s.input;
-        told = ap (λ rs. with_given port (slice_index rs 0 % 256) p.told) s.registers ∙ ap (with_given port (register_of v 0 % 256)) s.told;
-      })
+      (λ p s. sees_past code v _ p _ s refl (holds code v p s) refl s.registers (ap (λ n. (n + 2) % 65536) s.place) s.overflow s.input
+      (ap (λ rs. with_given port (slice_index rs 0 % 256) p.told) s.registers ∙ ap (with_given port (register_of v 0 % 256)) s.told))
 
   pub halts : (p : Processor) → Has code v.place i86.Hlt → Sees code v p
       → observed (processor_step p) ≡ record { output = v.told.output; end = end_told v.told.kind v.told.segment (v.told.line_low + 256 * v.told.line_high) }

@@ -12,3 +12,5 @@ pub mod Compared
 pub mod Offsets
 pub mod Shifted
 pub mod Products
+pub mod Addressing
+pub mod Sizes

@@ -9,7 +9,7 @@ use Rattle.cw_i86.specs.Shifts.{State as ShiftState, up as up_of, down as down_o
 use Rattle.cw_i86.specs.State.{sized_register, with_sized_register, operand, with_operand}
 use Rattle.cw_i86.specs.Effect.{shift_named, shifted}
 use Rattle.cw_i86.specs.declared.shift.ShiftOp.{ShiftOp}
-use Rattle.cw_i86.specs.declared.shift.ShiftOp.TheVariants.{Rol, Ror, Rcl, Rcr, Shl, Shr, Sar}
+use Rattle.cw_i86.specs.declared.shift.ShiftOp.TheVariants.{Shl, Shr, Sar}
 use Rattle.cw_i86.specs.declared.instr.Instr.TheVariants as i86
 use Rattle.cw_i86.specs.declared.instr.Rm.TheVariants as rms
 use Rattle.cw_i86.specs.declared.flags.Flags.{Flags}
@@ -64,10 +64,7 @@ blind : (op : ShiftOp) → 3 < shift_number op → (s t : ShiftState) → s.0 �
 blind Shl h s t e = ap (λ n. up_of 32768 n false) e
 blind Shr h s t e = ap (λ n. down_of 32768 n false) e
 blind Sar h s t e = ap (λ n. down_of 32768 n (nat_le 32768 n)) e
-blind Rol h s t e = absurd (omega arith)
-blind Ror h s t e = absurd (omega arith)
-blind Rcl h s t e = absurd (omega arith)
-blind Rcr h s t e = absurd (omega arith)
+blind _ h s t e = absurd (omega arith)
 
 same_number : (op : ShiftOp) → 3 < shift_number op → (n a : ℕ) (c d : Bool) → (repeated op 32768 n (a, c)).0 ≡ (repeated op 32768 n (a, d)).0
 unfolding repeated
@@ -93,10 +90,7 @@ overflow_is op h zero a flags old e = e
 overflow_is Shl h (suc n) a flags old e = flags_of_more Shl n a flags old (ap₂ (λ s o. overflow_of Shl 32768 a (suc n) s o) (same_state Shl h n a flags.cf false) e)
 overflow_is Shr h (suc n) a flags old e = flags_of_more Shr n a flags old (ap₂ (λ s o. overflow_of Shr 32768 a (suc n) s o) (same_state Shr h n a flags.cf false) e)
 overflow_is Sar h (suc n) a flags old e = flags_of_more Sar n a flags old refl
-overflow_is Rol h (suc n) a flags old e = absurd (omega arith)
-overflow_is Ror h (suc n) a flags old e = absurd (omega arith)
-overflow_is Rcl h (suc n) a flags old e = absurd (omega arith)
-overflow_is Rcr h (suc n) a flags old e = absurd (omega arith)
+overflow_is _ h (suc n) a flags old e = absurd (omega arith)
 
 -- ---- the instructions
 

@@ -18,9 +18,9 @@ use Rattle.cw_run86.specs.Fetching.{is_instr, is_rm, is_place, is_imm, begins, t
 
 -- ---- tests that tell
 
-record Tells (b : Bool) (P : Type 0) : Type 0 where
-  yes : b ≡ true → P
-  back : P → b ≡ true
+pub record Tells (b : Bool) (P : Type 0) : Type 0 where
+  pub yes : b ≡ true → P
+  pub back : P → b ≡ true
 
 lt_tells : (a b : ℕ) → Tells (nat_lt a b) (a < b)
 lt_tells a b = record { yes = ltb-true a b; back = lt-ltb a b }
@@ -34,11 +34,11 @@ ne_tells a b = record { yes = eq_not_true a b; back = λ ne. ap not (ne_eqb a b 
 none_tells : Tells true (Unit {0})
 none_tells = record { yes = λ e. tt; back = λ u. refl }
 
-left_of : (a b : Bool) → (a && b) ≡ true → a ≡ true
+pub left_of : (a b : Bool) → (a && b) ≡ true → a ≡ true
 left_of true b e = refl
 left_of false b e = absurd cc
 
-right_of : (a b : Bool) → (a && b) ≡ true → b ≡ true
+pub right_of : (a b : Bool) → (a && b) ≡ true → b ≡ true
 right_of true b e = e
 right_of false b e = absurd cc
 
@@ -85,7 +85,7 @@ pushed_tells (rms.Mem mem) =
     let whole = place_tells mem.place in
     record { yes = λ e. (whole.yes e, λ same. absurd cc); back = λ h. whole.back h.0 }
 
-instr_tells : (i : Instr) → Tells (is_instr i) (IsInstr i)
+pub instr_tells : (i : Instr) → Tells (is_instr i) (IsInstr i)
 instr_tells (AluRm op wide to_reg reg rm) = and_3_tells (lt_tells op 8) (lt_tells reg 8) (rm_tells rm)
 instr_tells (AluAcc op imm) = and_tells (lt_tells op 8) (imm_tells imm)
 instr_tells (Inc reg) = lt_tells reg 8

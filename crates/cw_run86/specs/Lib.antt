@@ -1,3 +1,4 @@
+pub mod Addressing
 pub mod Fetching
 pub mod Processor
 pub mod Reaching

@@ -207,14 +207,18 @@ words_compare c a b = compares c (signed 32768 a) (signed 32768 b)
 abbrev pub IsTop : View → ℕ → Type 0
 IsTop v n = register v 4 ≡ 2 * n % 65536
 
+-- a view by its registers
+abbrev pub view : (place ax cx dx bx sp bp si di : ℕ) → (overflow : Bool) → (cells stack : ℕ → ℕ) → (input : List ℕ) → Told → View
+view place ax cx dx bx sp bp si di overflow cells stack input told = record {
+  registers = ax ∷ cx ∷ dx ∷ bx ∷ sp ∷ bp ∷ si ∷ di ∷ [];
+  place = place;
+  overflow = overflow;
+  cells = cells;
+  stack = stack;
+  input = input;
+  told = told;
+}
+
 -- the view of a start: registers, flags and all words but these are 0
 abbrev pub starting_view : (words input : List ℕ) → View
-starting_view words input = record {
-  registers = 0 ∷ 0 ∷ 0 ∷ 0 ∷ 0 ∷ 0 ∷ 0 ∷ 0 ∷ [];
-  place = 0;
-  overflow = false;
-  cells = slice_index words;
-  stack = λ k. 0;
-  input = input;
-  told = nothing_told;
-}
+starting_view words input = view 0 0 0 0 0 0 0 0 0 false (slice_index words) (λ k. 0) input nothing_told

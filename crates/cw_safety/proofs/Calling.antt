@@ -31,18 +31,7 @@ taken-same TakesWord TakesWord h = refl
 taken-same TakesLabel TakesLabel h = refl
 taken-same TakesSwitch TakesSwitch h = refl
 taken-same TakesProcedure TakesProcedure h = refl
-taken-same TakesWord TakesLabel h = no h
-taken-same TakesWord TakesSwitch h = no h
-taken-same TakesWord TakesProcedure h = no h
-taken-same TakesLabel TakesWord h = no h
-taken-same TakesLabel TakesSwitch h = no h
-taken-same TakesLabel TakesProcedure h = no h
-taken-same TakesSwitch TakesWord h = no h
-taken-same TakesSwitch TakesLabel h = no h
-taken-same TakesSwitch TakesProcedure h = no h
-taken-same TakesProcedure TakesWord h = no h
-taken-same TakesProcedure TakesLabel h = no h
-taken-same TakesProcedure TakesSwitch h = no h
+taken-same _ _ h = no h
 
 all_taken-same : (ts us : List Taken) → IsTrue (all_same_taken ts us) → ts ≡ us
 all_taken-same [] [] h = refl
@@ -56,18 +45,7 @@ kind-same WordKind WordKind h = refl
 kind-same LabelKind LabelKind h = refl
 kind-same SwitchKind SwitchKind h = refl
 kind-same (ProcedureKind ts) (ProcedureKind us) h = ap ProcedureKind (all_taken-same ts us h)
-kind-same WordKind LabelKind h = no h
-kind-same WordKind SwitchKind h = no h
-kind-same WordKind (ProcedureKind us) h = no h
-kind-same LabelKind WordKind h = no h
-kind-same LabelKind SwitchKind h = no h
-kind-same LabelKind (ProcedureKind us) h = no h
-kind-same SwitchKind WordKind h = no h
-kind-same SwitchKind LabelKind h = no h
-kind-same SwitchKind (ProcedureKind us) h = no h
-kind-same (ProcedureKind ts) WordKind h = no h
-kind-same (ProcedureKind ts) LabelKind h = no h
-kind-same (ProcedureKind ts) SwitchKind h = no h
+kind-same _ _ h = no h
 
 pub kinds-same : (ks ms : List Kind) → IsTrue (same_kinds ks ms) → ks ≡ ms
 kinds-same [] [] h = refl
@@ -80,19 +58,7 @@ one-suits : (k m : Kind) → IsTrue (suits_one k (taken_of m)) → k ≡ m
 one-suits WordKind WordKind h = refl
 one-suits LabelKind LabelKind h = refl
 one-suits SwitchKind SwitchKind h = refl
-one-suits WordKind LabelKind h = no h
-one-suits WordKind SwitchKind h = no h
-one-suits WordKind (ProcedureKind us) h = no h
-one-suits LabelKind WordKind h = no h
-one-suits LabelKind SwitchKind h = no h
-one-suits LabelKind (ProcedureKind us) h = no h
-one-suits SwitchKind WordKind h = no h
-one-suits SwitchKind LabelKind h = no h
-one-suits SwitchKind (ProcedureKind us) h = no h
-one-suits (ProcedureKind ts) WordKind h = no h
-one-suits (ProcedureKind ts) LabelKind h = no h
-one-suits (ProcedureKind ts) SwitchKind h = no h
-one-suits (ProcedureKind ts) (ProcedureKind us) h = no h
+one-suits _ _ h = no h
 
 suits-same : (ks ms : List Kind) → IsTrue (suits ks (map taken_of ms)) → ks ≡ ms
 suits-same [] [] h = refl
@@ -103,9 +69,7 @@ suits-same (k ∷ ks) (m ∷ ms) h =
 
 same-taken : (t : Taken) → IsTrue (same_taken t t)
 same-taken TakesWord = refl
-same-taken TakesLabel = refl
-same-taken TakesSwitch = refl
-same-taken TakesProcedure = refl
+same-taken _ = refl
 
 conjoined : (a b : Bool) → IsTrue a → IsTrue b → IsTrue (a && b)
 conjoined true b h k = k
@@ -135,7 +99,7 @@ reversed-length : (xs ys : List Operand) → length (reversed_onto xs ys) ≡ le
 reversed-length [] ys = omega arith
 reversed-length (x ∷ xs) ys = omega (arith, reversed-length xs (x ∷ ys))
 
-reversed-twice : (xs ys zs : List Operand) → reversed_onto (reversed_onto xs ys) zs ≡ reversed_onto ys (xs ++ zs)
+pub reversed-twice : (xs ys zs : List Operand) → reversed_onto (reversed_onto xs ys) zs ≡ reversed_onto ys (xs ++ zs)
 reversed-twice [] ys zs = refl
 reversed-twice (x ∷ xs) ys zs = reversed-twice xs (x ∷ ys) zs
 
@@ -193,8 +157,7 @@ module _ (p : Program) (acts : List Activation) where
   bound-word : (f : ℕ → ℕ) (i : ℕ) (x : Operand) (qs : List Param) (xs : List Operand) (b : Bound) (ks cs : List Kind) → HasKind p acts x WordKind → Fit p acts b.controls ks → ((b : Bound) (ks : List Kind) → Fit p acts b.controls ks → BoundFits (bind_all f qs xs (Some b)) (ks ++ cs)) → BoundFits (bind_all f qs xs (bind_word (f i) x b)) (ks ++ cs)
   bound-word f i (Word z) qs xs b ks cs h fit rest = rest (record b { memory = set b.memory (f i) z }) ks fit
   bound-word f i (Held (LabelControl g l owner)) qs xs b ks cs h fit rest = absurd h
-  bound-word f i (Held (SwitchControl g l owner)) qs xs b ks cs h fit rest = absurd h
-  bound-word f i (Held (ProcedureControl g q)) qs xs b ks cs h fit rest = absurd h
+  bound-word f i _ qs xs b ks cs h fit rest = absurd h
 
   bound-control : (f : ℕ → ℕ) (x : Operand) (m : Kind) (qs : List Param) (xs : List Operand) (b : Bound) (ks cs : List Kind) → ((z : ℤ) → HasKind p acts (Word z) m → ⊥) → HasKind p acts x m → Fit p acts b.controls ks → ((b : Bound) (ks : List Kind) → Fit p acts b.controls ks → BoundFits (bind_all f qs xs (Some b)) (ks ++ cs)) → BoundFits (bind_all f qs xs (bind_control x b)) (ks ++ m ∷ cs)
   bound-control f (Word z) m qs xs b ks cs never h fit rest = absurd (never z h)

@@ -1,14 +1,15 @@
 -- The work that follows a label is well typed, and there is such work where the label is set.
-use Rattle.std.proofs.Common.{◌≡◌, ℕ, ◌≤◌, List, [], ◌∷◌, map, Bool, true, false, IsTrue, ◌&&◌, ◌||◌, Option, Some, None, refl, sym, ap, ap₂, subst, ◌∙◌, arith}
-use Rattle.cw_unit.specs.declared.unit.Stmt.{Stmt, Stmt-F, roll-Stmt, map-Stmt, Row_of-Stmt, end_of-Stmt, more_of-Stmt, items-the_row-Stmt, items_hidden-the_row-Stmt-1}
+use Rattle.std.proofs.Common.{◌≡◌, ℕ, ◌≤◌, List, [], ◌∷◌, map, Bool, true, false, IsTrue, ◌&&◌, ◌||◌, Option, Some, None, refl, sym, ap, subst, ◌∙◌, arith}
+use Rattle.cw_unit.specs.declared.unit.Stmt.{Stmt, Stmt-F, roll-Stmt, map-Stmt, items_hidden-the_row-Stmt-1}
 use Rattle.cw_unit.specs.declared.unit.Stmt.TheBlock.{hidden-the_row-Stmt-1}
 use Rattle.cw_unit.specs.declared.unit.Stmt.TheFolds.{fold-roll-Stmt, ind-Stmt}
 use Rattle.cw_unit.specs.declared.unit.Stmt.TheOpen as statement
 use Rattle.cw_unit.specs.Program.{Program}
 use Rattle.cw_unit.specs.Work.{Work, Run, On, loop_of, run_all}
-use Rattle.cw_unit.specs.LabelContinuation.{label_continuation, row_continuation, run_row, list_continuation, first_work, work_if, has_label}
+use Rattle.cw_unit.specs.LabelContinuation.{label_continuation, row_continuation, list_continuation, first_work, work_if, has_label}
 use Rattle.cw_unit.specs.StackBound as bound
 use Rattle.cw_unit.specs.StackBound.{body_depth}
+use Rattle.cw_unit.proofs.Continuations.{in-row}
 use Rattle.cw_safety.specs.WellFormed as formed
 use Rattle.cw_safety.specs.WellFormed.{is_condition, is_reference, are_elements, is_statement, sets, sets_step}
 use Rattle.cw_safety.proofs.Truth.{no, both}
@@ -16,23 +17,11 @@ use Rattle.cw_safety.proofs.Typing.{Typed}
 use Rattle.cw_safety.proofs.Expanding.{all-typed}
 
 abbrev layer_continuation : (label : ℕ) → Stmt-F Stmt → Work → Option Work
-layer_continuation l (statement.Put line r e) k = None
-layer_continuation l (statement.PutBits line t b r e) k = None
-layer_continuation l (statement.Go line d) k = None
-layer_continuation l (statement.Call line t args) k = None
-layer_continuation l (statement.Answer line e) k = None
 layer_continuation l (statement.If line c a b) k = first_work (first_work (label_continuation l a k) None) (first_work (label_continuation l b k) None)
 layer_continuation l (statement.For line item r es s) k = label_continuation l s (On (loop_of line item r es s) k)
 layer_continuation l (statement.Seq ss) k = list_continuation l ss k
 layer_continuation l (statement.Mark ls s) k = work_if (has_label l ls) (Run s k) (label_continuation l s k)
-
-run-row : {m : _} (ss : Row_of-Stmt m) (k : Work) → run_row ss k ≡ run_all (items-the_row-Stmt m ss) k
-run-row end_of-Stmt k = refl
-run-row (more_of-Stmt s ss) k = ap (Run s) (run-row ss k)
-
-in-row : {m : _} (l : ℕ) (ss : Row_of-Stmt m) (k : Work) → row_continuation l ss k ≡ list_continuation l (items-the_row-Stmt m ss) k
-in-row l end_of-Stmt k = refl
-in-row l (more_of-Stmt s ss) k = ap₂ first_work (ap (label_continuation l s) (run-row ss k)) (in-row l ss k)
+layer_continuation l _ k = None
 
 in-hidden : (l : ℕ) (ss : List Stmt) (k : Work) → label_continuation l (roll-Stmt (statement.Seq ss)) k ≡ row_continuation l (hidden-the_row-Stmt-1 ss) k
 unfolding Rattle.cw_unit.specs.declared.unit.Stmt.TheViews.roll-Stmt denote.Hole.Carrier.roll denote.Hole.Carrier.shown denote.Hole.Carrier.hidden
@@ -43,15 +32,8 @@ in-list l ss k = in-hidden l ss k ∙ in-row l (hidden-the_row-Stmt-1 ss) k ∙ 
 
 in-layer : (l : ℕ) (x : Stmt-F Stmt) (k : Work) → label_continuation l (roll-Stmt x) k ≡ layer_continuation l x k
 unfolding Rattle.cw_unit.specs.declared.unit.Stmt.TheViews.roll-Stmt denote.Hole.Carrier.roll denote.Hole.Carrier.shown denote.Hole.Carrier.hidden Rattle.cw_unit.specs.declared.unit.Stmt.TheBlock.hidden-the_row-Stmt-0
-in-layer l (statement.Put line r e) k = refl
-in-layer l (statement.PutBits line t b r e) k = refl
-in-layer l (statement.Go line d) k = refl
-in-layer l (statement.Call line t args) k = refl
-in-layer l (statement.Answer line e) k = refl
-in-layer l (statement.If line c a b) k = refl
-in-layer l (statement.For line item r es s) k = refl
 in-layer l (statement.Seq ss) k = in-list l ss k
-in-layer l (statement.Mark ls s) k = refl
+in-layer l _ k = refl
 
 either : {A : Type 0} (a b : Bool) → IsTrue (a || b) → (IsTrue a → A) → (IsTrue b → A) → A
 either true b h f g = f refl

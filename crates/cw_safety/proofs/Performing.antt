@@ -1,5 +1,5 @@
 -- An operation that finds its operands is not stuck, and puts what its work expects.
-use Rattle.std.proofs.Common.{ℕ, zero, suc, ◌+◌, ◌≤◌, ℤ, pos, negsuc, ◌+ℤ◌, ◌-ℤ◌, ◌*ℤ◌, neg_ℤ, List, [], ◌∷◌, ◌++◌, set, Bool, true, false, IsTrue, refl, sym, subst, arith}
+use Rattle.std.proofs.Common.{ℕ, zero, suc, ◌+◌, ◌≤◌, ℤ, pos, negsuc, ◌+ℤ◌, ◌-ℤ◌, neg_ℤ, List, [], ◌∷◌, ◌++◌, set, Bool, true, false, IsTrue, refl, sym, subst, arith}
 use Rattle.cw_word.specs.FixedPoint.{fits_word, rescaled, scaled_product, scaled_quotient}
 use Rattle.cw_word.specs.BitField.{unsigned_field}
 use Rattle.cw_word.specs.Word.{signed, unsigned}
@@ -7,6 +7,7 @@ use Rattle.std.specs.Prelude.{int_le, ◌&&◌}
 use Rattle.cw_unit.specs.Stop.{StopKind, Overflow, AddressRange, IndexRange}
 use Rattle.cw_unit.specs.Words.{Operand, Words, Outcome, Changed, Refused, Impossible, with_operands, with_memory, put, put_if, put_value, on_one, on_two, through, at_address, is_below, word_at, read_byte, field_value, stored_value, with_bits, logic_word, byte_of}
 use Rattle.cw_unit.specs.Operation.{divide, fitting, address_of, form_address, Addressing, Known, Taken, Indexed, Indexed2, Scaled, Operation, Constant, Rescale, Fetch, Store, StoreBits, Add, Subtract, Negate, Multiply, Divide, Combine, Extract, InBounds, Form, Keep, SetVariable, AddStep, ReadByte, WriteByte, store_with, store_sum, perform}
+use Rattle.cw_unit.proofs.Forms.{row_address, entry_address, of_row, of_entry}
 use Rattle.cw_unit.specs.Program.{Program}
 use Rattle.cw_unit.specs.Configuration.{Activation}
 use Rattle.cw_safety.specs.Kinds.{WordKind}
@@ -100,39 +101,9 @@ module _ (p : Program) (acts : List Activation) (h : ℕ) (P : List Hand → Typ
       s
       q
   form-good area (Indexed2 base l1 l2 n) w ks k s q =
-      on_two-good Puts
-      (λ i j v.
-      fitting (fits_word (i -ℤ l1))
-      (fitting (fits_word ((i -ℤ l1) *ℤ pos n))
-      (fitting (fits_word (j -ℤ l2))
-      (fitting (fits_word ((i -ℤ l1) *ℤ pos n +ℤ (j -ℤ l2))) (address_of area (base +ℤ ((i -ℤ l1) *ℤ pos n +ℤ (j -ℤ l2))) v)))))
-      (λ i j.
-      let last : ℤ = base +ℤ ((i -ℤ l1) *ℤ pos n +ℤ (j -ℤ l2)) in
-      let b4 : Bool = fits_word ((i -ℤ l1) *ℤ pos n +ℤ (j -ℤ l2)) in
-      let b3 : Bool = fits_word (j -ℤ l2) in
-      let b2 : Bool = fits_word ((i -ℤ l1) *ℤ pos n) in
-      fitting-good (fits_word (i -ℤ l1)) (λ t. fitting b2 (fitting b3 (fitting b4 (address_of area last t))))
-      (fitting-good b2 (λ t. fitting b3 (fitting b4 (address_of area last t)))
-      (fitting-good b3 (λ t. fitting b4 (address_of area last t)) (fitting-good b4 (address_of area last) (address_of-good area last)))))
-      w.operands
-      w
-      ks
-      k
-      s
-      q
+      on_two-good Puts (row_address area base l1 l2 n) (of_row (Spare Puts) fitting-good area (address_of-good area) base l1 l2 n) w.operands w ks k s q
   form-good area (Scaled base n m) w ks k s q =
-      on_one-good Puts
-      (λ i v. fitting (fits_word (i *ℤ pos n)) (fitting (fits_word (i *ℤ pos n +ℤ pos m)) (address_of area (base +ℤ (i *ℤ pos n +ℤ pos m)) v)))
-      (λ i.
-      let last : ℤ = base +ℤ (i *ℤ pos n +ℤ pos m) in
-      fitting-good (fits_word (i *ℤ pos n)) (λ t. fitting (fits_word (i *ℤ pos n +ℤ pos m)) (address_of area last t))
-      (fitting-good (fits_word (i *ℤ pos n +ℤ pos m)) (address_of area last) (address_of-good area last)))
-      w.operands
-      w
-      ks
-      k
-      s
-      q
+      on_one-good Puts (entry_address area base n m) (of_entry (Spare Puts) fitting-good area (address_of-good area) base n m) w.operands w ks k s q
 
   store_with-good : (area : ℕ) (f : ℤ → ℤ → ℤ) → Does TwoToNone (store_with area f)
   store_with-good area f w ks k s q =

@@ -13,12 +13,12 @@ use Rattle.cw_unit.specs.declared.unit.Cond.{Cond, out-Cond}
 use Rattle.cw_unit.specs.declared.unit.Spot.{Spot, out-Spot}
 use Rattle.cw_unit.specs.declared.unit.Ref.{Ref, out-Ref}
 use Rattle.cw_unit.specs.declared.unit.Arg.TheOpen as layer
-use Rattle.cw_unit.specs.declared.unit.Arg.TheOpen.{Arg-F, Cond-F, Spot-F, Ref-F}
+use Rattle.cw_unit.specs.declared.unit.Arg.TheOpen.{Arg-F, Spot-F}
 use Rattle.cw_unit.specs.Program.{Program, definition_of}
 use Rattle.cw_unit.specs.Stop.{AddressRange, Running, Ended, Stopped, Stuck}
 use Rattle.cw_unit.specs.Words.{Control, LabelControl, SwitchControl, ProcedureControl, Operand, Word, Held, Words, put_if, is_below, word_at, number_of}
 use Rattle.cw_unit.specs.Operation.{Form, Keep, SetVariable, AddStep, perform, holds, is_past}
-use Rattle.cw_unit.specs.Work.{Work, Nothing, Run, Eval, Address, FormAt, Do, Test, Choose, Jump, Give, Enter, Return, Leave, KeepAt, SetVar, Element, Turn, Bump, On, Loop, expression_work, condition_work, element_work, element_at, next_element}
+use Rattle.cw_unit.specs.Work.{Work, Nothing, Run, Eval, Address, FormAt, Do, Test, Choose, Jump, Give, Enter, Return, Leave, KeepAt, SetVar, Element, Turn, Bump, On, Loop, expression_work, spot_work, condition_work, element_work, element_at, next_element}
 use Rattle.cw_unit.specs.Configuration.{Configuration, at, words_of, Activation, segment_of, procedure_at, answer_scale_of, address_at}
 use Rattle.cw_unit.specs.Behaviour.{first_body, initial_configuration, configuration_after, shown, observed}
 use Rattle.cw_unit.specs.StackBound as bound
@@ -26,7 +26,7 @@ use Rattle.cw_unit.specs.StackBound.{body_depth}
 use Rattle.cw_unit.specs.Step.{after, label_of_goal, switch_of_def, procedure_of_def, with_label_owner, with_switch_owner, as_procedure, held, pick, choose_with, address_step, addressing_of, put_constant, in_unit, here, compares_in, stuck, give_step, element_step, turn_step, next_body, advance, step, steps}
 use Rattle.cw_safety.specs.Kinds.{Kind, WordKind, LabelKind, SwitchKind, ProcedureKind, procedure_kind}
 use Rattle.cw_safety.specs.WellFormed as formed
-use Rattle.cw_safety.specs.WellFormed.{WellFormed, reaches, reaches_switch, is_expression, is_reference, is_element, are_elements, is_statement, controls_of, procedure_of_place}
+use Rattle.cw_safety.specs.WellFormed.{WellFormed, reaches, reaches_switch, is_expression, is_reference, is_element, are_elements, procedure_of_place}
 use Rattle.cw_safety.specs.Depth.{owner_of, depth_at, depth_of_unit, depth_in, operands_held}
 use Rattle.cw_safety.proofs.Truth.{no, both, if-kind}
 use Rattle.cw_safety.proofs.Typing.{Hand, Plain, Between, weigh, Pop, popped, After, spot_shape, AreBetween, ControlFits, HaveKinds, Typed, IsLoop, Calls, Holds, Safe}
@@ -40,6 +40,10 @@ module _ (p : Program) where
   abbrev Ty : (segment : ℕ) → List Activation → Work → List Hand → Type 0
   Ty s acts = Typed p (segment_of s acts) (owner_of acts) (depth_at p s acts)
 
+  -- other work with the same operands
+  works_on : (s : ℕ) (now k : Work) (acts : List Activation) (w : Words) (i : Holds p s now acts w) → Ty s acts k i.3 → Holds p s k acts w
+  works_on s now k acts w i t = (i.0, i.1, i.2, i.3, i.4, i.5, t)
+
   in_unit-safe : (s : ℕ) (acts : List Activation) (f : SourceUnit → Configuration) (other : Configuration) (u : SourceUnit) → slice_get p.units s ≡ Some u → Calls p s acts → ((v : SourceUnit) → Safe p (f v)) → Safe p (in_unit p (here p s acts) f other)
   in_unit-safe s [] f other u e c h = subst (λ x. Safe p (in_unit p x f other)) (sym e) (h u)
   in_unit-safe s (a ∷ acts) f other u e c h =
@@ -51,54 +55,20 @@ module _ (p : Program) where
   constant-kinds (layer.Num n) s f acts w ks h = (tt, h)
   constant-kinds (layer.Const z) s f acts w ks h = (tt, h)
   constant-kinds (layer.Text i) s f acts w ks h = (tt, h)
-  constant-kinds (layer.Read r) s f acts w ks h = h
-  constant-kinds (layer.Call t args) s f acts w ks h = h
-  constant-kinds (layer.Force n e) s f acts w ks h = h
-  constant-kinds (layer.Locate r) s f acts w ks h = h
-  constant-kinds (layer.Bits t b e) s f acts w ks h = h
-  constant-kinds (layer.Logic op a b) s f acts w ks h = h
-  constant-kinds (layer.Sum a b) s f acts w ks h = h
-  constant-kinds (layer.Less a b) s f acts w ks h = h
-  constant-kinds (layer.Minus a) s f acts w ks h = h
-  constant-kinds (layer.Times a b) s f acts w ks h = h
-  constant-kinds (layer.Over a b) s f acts w ks h = h
-  constant-kinds (layer.Choice c a b) s f acts w ks h = h
+  constant-kinds _ s f acts w ks h = h
 
   constant-within : (l : Expr-F Arg Cond Expr Spot Ref) (ks : List Hand) (h : ℕ) → weigh ks ≤ h → bound.expression_step (depths l) + weigh ks ≤ h → weigh (pushed l ks) ≤ h
   constant-within (layer.Num n) ks h b d = d
   constant-within (layer.Const z) ks h b d = d
   constant-within (layer.Text i) ks h b d = d
-  constant-within (layer.Read r) ks h b d = b
-  constant-within (layer.Call t args) ks h b d = b
-  constant-within (layer.Force n e) ks h b d = b
-  constant-within (layer.Locate r) ks h b d = b
-  constant-within (layer.Bits t n e) ks h b d = b
-  constant-within (layer.Logic op a c) ks h b d = b
-  constant-within (layer.Sum a c) ks h b d = b
-  constant-within (layer.Less a c) ks h b d = b
-  constant-within (layer.Minus a) ks h b d = b
-  constant-within (layer.Times a c) ks h b d = b
-  constant-within (layer.Over a c) ks h b d = b
-  constant-within (layer.Choice t a c) ks h b d = b
+  constant-within _ ks h b d = b
 
   -- ---- addresses
 
   address_step-safe : (c : Bool) (spot : Spot) (l : Spot-F Arg Cond Expr Spot Ref) (s line : ℕ) (k : Work) (acts : List Activation) (w : Words) (now : Work) (i : Holds p s now acts w) → IsTrue (formed.spot_step (spot_kinds p (segment_of s acts) (owner_of acts) l)) → bound.spot_step (spot_depths l) + weigh i.3 ≤ depth_at p s acts → ((js : List Hand) → After (depth_at p s acts) (spot_shape l) (Ty s acts k) js → AreBetween l c js → Ty s acts (FormAt spot line k) js) → Ty s acts k (Plain WordKind ∷ i.3) → Safe p (address_step p c spot l s line k acts w)
   address_step-safe c spot (layer.Direct j) s line k acts w now i e d form t = (tt, (i.0, i.1, i.2, Plain WordKind ∷ i.3, (tt, i.4), d, t))
-  address_step-safe c spot (layer.Through j) s line k acts w now i e d form t =
-      (tt, (i.0, i.1, i.2, i.3, i.4, i.5, spot-typed p (segment_of s acts) (owner_of acts) (depth_at p s acts) c spot (layer.Through j) line k i.3 e d form t))
-  address_step-safe c spot (layer.One j l u a) s line k acts w now i e d form t =
-      (tt, (i.0, i.1, i.2, i.3, i.4, i.5, spot-typed p (segment_of s acts) (owner_of acts) (depth_at p s acts) c spot (layer.One j l u a) line k i.3 e d form t))
-  address_step-safe c spot (layer.Two j l1 u1 l2 u2 n a b) s line k acts w now i e d form t =
-      (tt, (i.0, i.1, i.2, i.3, i.4, i.5, spot-typed p (segment_of s acts) (owner_of acts) (depth_at p s acts) c spot (layer.Two j l1 u1 l2 u2 n a b) line k i.3 e d form t))
-  address_step-safe c spot (layer.ParamArray j a) s line k acts w now i e d form t =
-      (tt, (i.0, i.1, i.2, i.3, i.4, i.5, spot-typed p (segment_of s acts) (owner_of acts) (depth_at p s acts) c spot (layer.ParamArray j a) line k i.3 e d form t))
-  address_step-safe c spot (layer.Word j q n a) s line k acts w now i e d form t =
-      (tt, (i.0, i.1, i.2, i.3, i.4, i.5, spot-typed p (segment_of s acts) (owner_of acts) (depth_at p s acts) c spot (layer.Word j q n a) line k i.3 e d form t))
-  address_step-safe c spot (layer.Elem j q n z m a) s line k acts w now i e d form t =
-      (tt, (i.0, i.1, i.2, i.3, i.4, i.5, spot-typed p (segment_of s acts) (owner_of acts) (depth_at p s acts) c spot (layer.Elem j q n z m a) line k i.3 e d form t))
-  address_step-safe c spot (layer.Bare a) s line k acts w now i e d form t =
-      (tt, (i.0, i.1, i.2, i.3, i.4, i.5, spot-typed p (segment_of s acts) (owner_of acts) (depth_at p s acts) c spot (layer.Bare a) line k i.3 e d form t))
+  address_step-safe c spot x s line k acts w now i e d form t =
+      (tt, works_on s now (spot_work c spot x line k) acts w i (spot-typed p (segment_of s acts) (owner_of acts) (depth_at p s acts) c spot x line k i.3 e d form t))
 
   form_at-good : (l : Spot-F Arg Cond Expr Spot Ref) (s : ℕ) (k : Work) (acts : List Activation) (w : Words) (ks : List Hand) → HaveKinds p acts w.operands ks → weigh ks ≤ depth_at p s acts → After (depth_at p s acts) (spot_shape l) (Ty s acts k) ks → Next p s k acts (perform p.limits.area (Form (addressing_of p l s acts w)) w)
   form_at-good (layer.Direct j) s k acts w ks h b t = absurd t
@@ -142,9 +112,7 @@ module _ (p : Program) where
   weight-two acts (LabelControl g l owner) WordKind ks f = absurd f
   weight-two acts (SwitchControl g l owner) WordKind ks f = absurd f
   weight-two acts (ProcedureControl g q) WordKind ks f = absurd f
-  weight-two acts c LabelKind ks f = refl
-  weight-two acts c SwitchKind ks f = refl
-  weight-two acts c (ProcedureKind ts) ks f = refl
+  weight-two acts c _ ks f = refl
 
   control-good : (acts : List Activation) (h : ℕ) (P : List Hand → Type 0) (c : Control) (m : Kind) (w : Words) (ks : List Hand) → HaveKinds p acts w.operands ks → ControlFits p acts c m → 2 + weigh ks ≤ h → P (Plain m ∷ ks) → Good p acts h P (held (Some c) w)
   control-good acts h P c m w ks k f d t = held-good acts h P c m w ks k f (omega (arith, d, weight-two acts c m ks f)) t
@@ -152,9 +120,7 @@ module _ (p : Program) where
   procedure-fits : (acts : List Activation) (g q : ℕ) (x : Option Proc) (m : Kind) → procedure_at p g q ≡ x → procedure_kind x ≡ Some m → ControlFits p acts (ProcedureControl g q) m
   procedure-fits acts g q None m e k = absurd (none-some m k)
   procedure-fits acts g q (Some proc) (ProcedureKind ts) e k = ap procedure_kind e ∙ k
-  procedure-fits acts g q (Some proc) WordKind e k = absurd (cc)
-  procedure-fits acts g q (Some proc) LabelKind e k = absurd (cc)
-  procedure-fits acts g q (Some proc) SwitchKind e k = absurd (cc)
+  procedure-fits acts g q (Some proc) _ e k = absurd (cc)
 
   place-good : (acts : List Activation) (h : ℕ) (P : List Hand → Type 0) (x : Option (ℕ × ℕ)) (m : Kind) (w : Words) (ks : List Hand) → HaveKinds p acts w.operands ks → procedure_kind (procedure_of_place p x) ≡ Some m → 2 + weigh ks ≤ h → P (Plain m ∷ ks) → Good p acts h P (held (as_procedure x) w)
   place-good acts h P None m w ks k e d t = absurd (none-some m e)
@@ -229,42 +195,21 @@ module _ (p : Program) where
   element_at-fits g o h es (suc n) e a d q = element-fits g o h es n e a d q
 
   element_step-safe : (x : Option Felem) (s n : ℕ) (c : Loop) (now k : Work) (acts : List Activation) (w : Words) (i : Holds p s now acts w) → element_at c.elements n ≡ x → i.3 ≡ [] → IsLoop p (segment_of s acts) (owner_of acts) (depth_at p s acts) c → Ty s acts k [] → Safe p (element_step p x s n c k acts w)
-  element_step-safe None s n c now k acts w i e q l t = (tt, (i.0, i.1, i.2, i.3, i.4, i.5, subst (Ty s acts k) (sym q) t))
+  element_step-safe None s n c now k acts w i e q l t = (tt, works_on s now k acts w i (subst (Ty s acts k) (sym q) t))
   element_step-safe (Some x) s n c now k acts w i e q l t =
-      let f = element_at-fits (segment_of s acts) (owner_of acts) (depth_at p s acts) c.elements n x l.0 l.1 e in (
-        tt,
-        (
-          i.0,
-          i.1,
-          i.2,
-          i.3,
-          i.4,
-          i.5,
-          subst (Ty s acts (element_work x n c k)) (sym q) (element-typed p (segment_of s acts) (owner_of acts) (depth_at p s acts) x n c k l f.0 f.1 t),
-        ),
-      )
+      let f = element_at-fits (segment_of s acts) (owner_of acts) (depth_at p s acts) c.elements n x l.0 l.1 e in
+      (tt, works_on s now (element_work x n c k) acts w i (subst (Ty s acts (element_work x n c k)) (sym q) (element-typed p (segment_of s acts) (owner_of acts) (depth_at p s acts) x n c k l f.0 f.1 t)))
 
   turn_step-safe : (b : Bool) (s a n : ℕ) (c : Loop) (now k : Work) (acts : List Activation) (w : Words) (i : Holds p s now acts w) → i.3 ≡ [] → IsLoop p (segment_of s acts) (owner_of acts) (depth_at p s acts) c → Ty s acts k [] → Safe p (turn_step p b s a n c now k acts w)
   turn_step-safe false s a n c now k acts w i q l t = (tt, i)
-  turn_step-safe true s a n c now k acts w i q l t = (
-    tt,
-    (
-      i.0,
-      i.1,
-      i.2,
-      i.3,
-      i.4,
-      i.5,
-      picked (is_past (word_at w.memory (a + 1)) (word_at w.memory (number_of (word_at w.memory a))) (word_at w.memory (a + 2))) s acts (Element (n + 1) c k)
-          (Run c.body (On c k)) i.3 (q, l, t) (q, l.2, l.3, (refl, l, t)),
-    ),
-  )
+  turn_step-safe true s a n c now k acts w i q l t =
+      let past = is_past (word_at w.memory (a + 1)) (word_at w.memory (number_of (word_at w.memory a))) (word_at w.memory (a + 2)) in
+      (tt, works_on s now (pick past (Element (n + 1) c k) (Run c.body (On c k))) acts w i (picked past s acts (Element (n + 1) c k) (Run c.body (On c k)) i.3 (q, l, t) (q, l.2, l.3, (refl, l, t))))
 
   next-typed : (x : Option Felem) (s n : ℕ) (c : Loop) (k : Work) (acts : List Activation) (ks : List Hand) → ks ≡ [] → IsLoop p (segment_of s acts) (owner_of acts) (depth_at p s acts) c → Ty s acts k [] → Ty s acts (next_element x n c k) ks
   next-typed None s n c k acts ks q l t = subst (Ty s acts k) (sym q) t
   next-typed (Some (element.One e)) s n c k acts ks q l t = (q, l, t)
-  next-typed (Some (element.While e d)) s n c k acts ks q l t = (q, l, t)
-  next-typed (Some (element.Step a b d)) s n c k acts ks q l t = (q, l, t)
+  next-typed _ s n c k acts ks q l t = (q, l, t)
 
   -- ---- all work
 

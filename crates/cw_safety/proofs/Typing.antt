@@ -93,10 +93,7 @@ spot_shape (layer.Direct i) = Unused
 spot_shape (layer.Through i) = NoneToOne
 spot_shape (layer.One i l u e) = OneToOne
 spot_shape (layer.Two i l1 u1 l2 u2 n e g) = TwoToOne
-spot_shape (layer.ParamArray i e) = OneToOne
-spot_shape (layer.Word i t n e) = OneToOne
-spot_shape (layer.Elem i t w n q e) = OneToOne
-spot_shape (layer.Bare e) = OneToOne
+spot_shape _ = OneToOne
 
 abbrev pub After : (depth : ℕ) → Shape → (List Hand → Type 0) → List Hand → Type 0
 After h NoneToOne P ks = (1 + weigh ks ≤ h) × P (Plain WordKind ∷ ks)

@@ -148,9 +148,9 @@ refusal_line (Parse fault) = syntax_line fault
 refusal_line (Scope fault) = scope_line fault
 refusal_line (Typing fault) = type_line fault
 
--- a name, and the numbers of two segments
-abbrev pub clash_line : (text name : List ℕ) → (first second : ℕ) → List ℕ
-clash_line text name first second = text ++ (name ++ (codes " " ++ (decimal first ++ (codes " " ++ (decimal second ++ codes "\n")))))
+-- what clashes, and the numbers of two segments
+abbrev pub clash_line : (text what : List ℕ) → (first second : ℕ) → List ℕ
+clash_line text what first second = text ++ (what ++ (codes " " ++ (decimal first ++ (codes " " ++ (decimal second ++ codes "\n")))))
 
 abbrev pub link_line : LinkFault → List ℕ
 link_line (SegmentTwice name) = codes "link: K5 SegmentTwice " ++ name ++ codes "\n"
@@ -161,8 +161,7 @@ link_line linking.NoMemory = codes "link: NoMemory\n"
 link_line (AbsoluteOutside segment address) = codes "link: P2 AbsoluteOutside " ++ decimal segment ++ codes " " ++ decimal address ++ codes "\n"
 link_line (DataTooBig need) = codes "link: P1 DataTooBig " ++ decimal need ++ codes "\n"
 link_line (ControlTooBig need) = codes "link: P3 ControlTooBig " ++ decimal need ++ codes "\n"
-link_line (PresetClash address first second) =
-    codes "link: K4 PresetClash " ++ (decimal address ++ (codes " " ++ (decimal first ++ (codes " " ++ (decimal second ++ codes "\n")))))
+link_line (PresetClash address first second) = clash_line (codes "link: K4 PresetClash ") (decimal address) first second
 link_line (CodeTooBig bytes) = codes "link: P4 CodeTooBig " ++ decimal bytes ++ codes "\n"
 
 -- ---- bytes that are not what an action takes

@@ -5,7 +5,6 @@ ghost use Rattle.cw_say.specs.Closing.{clash_line, link_line};
 
 use crate::status::LinkFault;
 use cw_io::{Failed, Sink};
-use cw_word::Name;
 use cw_write::{write_line, write_name, write_number, write_piece};
 
 // Writes a text, two numbers and the end of the line.
@@ -20,39 +19,21 @@ fn write_outside<S: Sink>(say: &mut S, text: &[u8], segment: u8, address: u16) -
     write_line(say, &[text, segment_digits, b" ", address_digits, b"\n"])
 }
 
-// Writes a text, three numbers and the end of the line.
-fn write_clash<S: Sink>(
-    say: &mut S,
-    text: &[u8],
-    address: u32,
-    first: u8,
-    second: u8,
-) -> Result<(), Failed>
-    ensures { Writes (S.held say.old) (S.held say.new) (S.faults say.old) (S.faults say.new)
-        (text.now ++ (decimal address ++ (codes " "
-        ++ (decimal first ++ (codes " " ++ (decimal second ++ codes "\n")))))) result }
-{
-    let mut buffer = itoa::Buffer::new();
-    let digits = buffer.format(address).as_bytes();
-    write_segments(say, text, digits, first, second)
-}
-
+// Writes a text, what clashes, the numbers of two segments and the end of the line.
 fn write_segments<S: Sink>(
     say: &mut S,
     text: &[u8],
-    address: &[u8],
+    what: &[u8],
     first: u8,
     second: u8,
 ) -> Result<(), Failed>
-    ensures { Writes (S.held say.old) (S.held say.new) (S.faults say.old) (S.faults say.new)
-        (text.now ++ (address.now ++ (codes " "
-        ++ (decimal first ++ (codes " " ++ (decimal second ++ codes "\n")))))) result }
+    ensures { Writes (S.held say.old) (S.held say.new) (S.faults say.old) (S.faults say.new) (clash_line text.now what.now first second) result }
 {
     let mut first_buffer = itoa::Buffer::new();
     let mut second_buffer = itoa::Buffer::new();
     let first_digits = first_buffer.format(first).as_bytes();
     let second_digits = second_buffer.format(second).as_bytes();
-    write_three(say, text, address, first_digits, second_digits)
+    write_three(say, text, what, first_digits, second_digits)
 }
 
 fn write_three<S: Sink>(
@@ -68,19 +49,6 @@ fn write_three<S: Sink>(
     write_line(say, &[text, first, b" ", second, b" ", third, b"\n"])
 }
 
-// Writes a text, a name, the numbers of two segments and the end of the line.
-fn write_named_clash<S: Sink>(
-    say: &mut S,
-    text: &[u8],
-    name: &Name,
-    first: u8,
-    second: u8,
-) -> Result<(), Failed>
-    ensures { Writes (S.held say.old) (S.held say.new) (S.faults say.old) (S.faults say.new) (clash_line text.now name.now first second) result }
-{
-    write_segments(say, text, name.bytes(), first, second)
-}
-
 pub(crate) fn write_unlinked<S: Sink>(say: &mut S, fault: &LinkFault) -> Result<(), Failed>
     ensures { Writes (S.held say.old) (S.held say.new) (S.faults say.old) (S.faults say.new) (link_line fault.now) result }
 {
@@ -92,12 +60,18 @@ pub(crate) fn write_unlinked<S: Sink>(say: &mut S, fault: &LinkFault) -> Result<
             name,
             first,
             second,
-        } => write_named_clash(say, b"link: K1 Differs ", name, *first, *second),
+        } => write_segments(say, b"link: K1 Differs ", name.bytes(), *first, *second),
         LinkFault::DefinedTwice {
             name,
             first,
             second,
-        } => write_named_clash(say, b"link: K3 DefinedTwice ", name, *first, *second),
+        } => write_segments(
+            say,
+            b"link: K3 DefinedTwice ",
+            name.bytes(),
+            *first,
+            *second,
+        ),
         LinkFault::Undefined { name } => write_name(say, b"link: K2 Undefined ", name.bytes()),
         LinkFault::NoMemory => write_piece(say, b"link: NoMemory\n"),
         LinkFault::AbsoluteOutside { segment, address } => {
@@ -109,7 +83,11 @@ pub(crate) fn write_unlinked<S: Sink>(say: &mut S, fault: &LinkFault) -> Result<
             address,
             first,
             second,
-        } => write_clash(say, b"link: K4 PresetClash ", *address, *first, *second),
+        } => {
+            let mut buffer = itoa::Buffer::new();
+            let digits = buffer.format(*address).as_bytes();
+            write_segments(say, b"link: K4 PresetClash ", digits, *first, *second)
+        }
         LinkFault::CodeTooBig { bytes } => write_number(say, b"link: P4 CodeTooBig ", *bytes),
     }
 }

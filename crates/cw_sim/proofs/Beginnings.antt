@@ -1,12 +1,13 @@
 -- The statements that a run begins are those that the processor passes.
-use Rattle.std.proofs.Common.{◌≡◌, ◌⊎◌, ℕ, zero, suc, ◌+◌, ◌*◌, ◌<◌, Bool, true, false, List, [], ◌++◌, refl, sym, ap, ap₂, ◌∙◌, inl, inr}
+use Rattle.std.proofs.Common.{◌≡◌, ◌⊎◌, ℕ, zero, suc, ◌+◌, ◌<◌, List, [], ◌++◌, refl, sym, ap, ap₂, ◌∙◌, inl, inr}
 use Rattle.std.proofs.lemmas.List.{append-nil}
-use Rattle.std.specs.Prelude.{ℤ, ◌==◌, if◌then◌else◌, All}
+use Rattle.std.specs.Prelude.{ℤ, All}
 use Rattle.cw_track.specs.Machine.{Machine, state_after}
 use Rattle.cw_track.specs.Watching.{watched, noted_before}
+use Rattle.cw_cpu86.proofs.Ends.{has_ended}
 use Rattle.cw_i86.specs.Encoding.{IsInstr, BeginsWith}
 use Rattle.cw_i86.specs.State.{State}
-use Rattle.cw_i86.specs.MachineRun.{Event, Runs, FitsInput, written, last_given, End, Running, Ended, Stopped, IsAtWork, IsOver, Observed, Shows}
+use Rattle.cw_i86.specs.MachineRun.{Event, Runs, FitsInput, written, End, Running, IsAtWork, IsOver, Observed, Shows}
 use Rattle.cw_i86.specs.declared.instr.Instr.{Instr}
 use Rattle.cw_cpu86.proofs.Once.{runs_same}
 use Rattle.cw_run86.specs.Processor.{Processor, processor_machine, processor_start, processor_step, processor_after, observed}
@@ -29,18 +30,6 @@ state_after-suc M zero s = refl
 state_after-suc M (suc n) s = state_after-suc M n (M.step s)
 
 -- ---- ends
-
--- after HLT
-has_halted : (b : Bool) (kind segment line : ℕ) → (if b then Ended else Stopped kind segment line) ≡ Running → ⊥
-has_halted true kind segment line on = cc
-has_halted false kind segment line on = cc
-
--- a run that is over is not at work
-has_ended : (s : State) (n : ℕ) (events : List Event) (end : End) → IsOver s n events end → end ≡ Running → ⊥
-has_ended s n events end (k, t, less, runs, inl (u, steps, is)) on =
-    has_halted (last_given 0x13 events 0 == 0) (last_given 0x13 events 0) (last_given 0x14 events 0) (last_given 0x15 events 0 + 256 * last_given 0x16 events 0) (sym is ∙ on)
-has_ended s n events end (k, t, less, runs, inr (inl (steps, is))) on = cc
-has_ended s n events end (k, t, less, runs, inr (inr (steps, is))) on = cc
 
 -- then nothing begins
 rests : (end : End) (begun : List (ℕ × ℕ × List ℤ)) → (end ≡ Running → ⊥) → at_work end begun ≡ []

@@ -181,10 +181,7 @@ module _ (s : Scope) where
     word_tokens (layer.Two i l1 u1 l2 u2 k e g) field m known = omega arith
     word_tokens (layer.Word i t k e) field m known = omega arith
     word_tokens (layer.Elem i t k l w e) field m known = omega arith
-    word_tokens (layer.Direct i) field m known = absurd (none-some m known)
-    word_tokens (layer.Through i) field m known = absurd (none-some m known)
-    word_tokens (layer.ParamArray i e) field m known = absurd (none-some m known)
-    word_tokens (layer.Bare e) field m known = absurd (none-some m known)
+    word_tokens _ field m known = absurd (none-some m known)
 
     spot_short : (x : Spot-F Arg Cond Expr Spot Ref) (field : Option Field) → spot_size_layer x ≤ n → Short (made.spot_layer s x) (spared field) (32 * spot_layer x field)
     spot_short x field le = named_short s.layout (made.word_item s x) (made.word_layer s x) (made.indexed_layer s x) field (spot_layer x field) (word_tokens x field) (indexed_short x field le)
@@ -354,11 +351,7 @@ module _ (s : Scope) where
     value_tokens (layer.Minus a) f z known = omega arith
     value_tokens (layer.Times a d) f z known = omega arith
     value_tokens (layer.Over a d) f z known = omega arith
-    value_tokens (layer.Text i) f z known = absurd (none-some z known)
-    value_tokens (layer.Read r) f z known = absurd (none-some z known)
-    value_tokens (layer.Call t args) f z known = absurd (none-some z known)
-    value_tokens (layer.Locate r) f z known = absurd (none-some z known)
-    value_tokens (layer.Choice c a d) f z known = absurd (none-some z known)
+    value_tokens _ f z known = absurd (none-some z known)
 
     value_short : (x : Expr-F Arg Cond Expr Spot Ref) → expression_size_layer x ≤ n → (f spare : ℕ) → Rescaled (value_layer s x).operand f spare → Short ((value_layer s x).at f) spare (32 * expression_layer x + 5)
     value_short x le f spare r =

@@ -44,9 +44,7 @@ by-form P home frame y i n = at_family (slice_get y.families (slice_index_or y.h
   where
     at_sort : (k : Sort) (f o : ℕ) → P (placed_by k f o)
     at_sort (sort.Frame base) f o = frame ((base + o) % 65536)
-    at_sort (sort.Common d) f o = home f (o % 65536)
-    at_sort sort.Own f o = home f (o % 65536)
-    at_sort (sort.Absolute a) f o = home f (o % 65536)
+    at_sort _ f o = home f (o % 65536)
 
     at_family : (x : Option Family) (f o : ℕ) → P (placed_in x f o)
     at_family None f o = home f (o % 65536)
@@ -264,8 +262,7 @@ rescale-same line f = picked (f == f) (same f)
 
 pub logic-short : (op : LogicOp) → listed_size (logic_order op) ≤ 3
 logic-short logic.Mask = omega arith
-logic-short logic.Union = omega arith
-logic-short logic.Differ = omega arith
+logic-short _ = omega arith
 
 pub product-short : (line : ℕ) (z : ℤ) → listed_size (order.Mul z line) ≤ 24
 product-short line (pos zero) = omega arith
@@ -287,10 +284,7 @@ call-short s target.Write = omega arith
 
 pub after-short : (t : Target) → listed_sizes (after_statement_call t) ≤ 0
 after-short (target.Own q) = omega arith
-after-short (target.Common d) = omega arith
-after-short (target.Special k f) = omega arith
-after-short target.Read = omega arith
-after-short target.Write = omega arith
+after-short _ = omega arith
 
 -- a control parameter that is handed on, or that a jump goes to
 pub hand-short : (k : ℕ) → listed_size (order.SpecialOut k) ≤ 10
@@ -413,9 +407,7 @@ bound-short y k i = at_family (slice_get y.families (slice_index_or y.homes i (0
   where
     at_sort : (x : Sort) (f o : ℕ) → listed_size (bound_by k x f o) ≤ 13
     at_sort (sort.Frame base) f o = omega (arith, argument_few k, frame_few ((base + o) % 65536))
-    at_sort (sort.Common d) f o = omega (arith, argument_few k)
-    at_sort sort.Own f o = omega (arith, argument_few k)
-    at_sort (sort.Absolute a) f o = omega (arith, argument_few k)
+    at_sort _ f o = omega (arith, argument_few k)
 
     at_family : (x : Option Family) (f o : ℕ) → listed_size (bound_in k x f o) ≤ 13
     at_family None f o = omega (arith, argument_few k)
@@ -429,9 +421,7 @@ parameter-short y (param.Value i s) k = one-bound y k i
 parameter-short y (param.Location i s) k = one-bound y k i
 parameter-short y (param.Array i s) k = one-bound y k i
 parameter-short y (param.Table i n) k = one-bound y k i
-parameter-short y (param.Label j) k = omega arith
-parameter-short y (param.Switch j) k = omega arith
-parameter-short y (param.Proc j s) k = omega arith
+parameter-short y _ k = omega arith
 
 pub bind-short : (y : Layout) (qs : List Param) → listed_sizes (bind_orders y qs) ≤ 13 * length qs
 bind-short y [] = omega arith

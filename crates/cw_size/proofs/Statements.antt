@@ -9,13 +9,13 @@ use Rattle.cw_unit.specs.declared.unit.Felem.{Felem}
 use Rattle.cw_unit.specs.declared.unit.Felem.TheVariants as element
 use Rattle.cw_unit.specs.declared.unit.Expr.{Expr}
 use Rattle.cw_unit.specs.declared.unit.Ref.{Ref, out-Ref}
-use Rattle.cw_unit.specs.declared.unit.Stmt.{Stmt, Stmt-F, out-Stmt, map-Stmt, fold-Stmt, fold_out-Stmt}
+use Rattle.cw_unit.specs.declared.unit.Stmt.{Stmt, Stmt-F, out-Stmt, map-Stmt, fold_out-Stmt}
 use Rattle.cw_unit.specs.declared.unit.Stmt.TheOpen as statement
 use Rattle.cw_gen_expr.specs.Pieces.{Piece, plain, followed_by, sequence, with_end}
 use Rattle.cw_gen_expr.specs.ReferenceExpressions.{Scope, at_line, argument_words, control_place, item_order, store_orders, call_order, reference_of, condition_piece, expression_piece}
 use Rattle.cw_gen_expr.proofs.Layers.{total}
 use Rattle.cw_gen_unit.specs.Endings.{comes_to_end}
-use Rattle.cw_gen_unit.proofs.Layers.{statement_layer, statement-made, jump-holds}
+use Rattle.cw_gen_unit.proofs.Layers.{statement_layer, statement-made, statement_size, size_layer, statement-size, jump-holds}
 use Rattle.cw_gen_unit.proofs.SwitchMarks.{few-marks}
 use Rattle.cw_gen_unit.specs.ReferenceStatements.{begin_orders, after_statement_call, goal_order, owned_marks, switch_order, jump_piece, with_middle, keep_orders, number_orders, set_orders, bump_orders, turn_piece, while_values, step_values, element_piece, elements_piece, element_ways, ring_piece, loop_place, simple_beginning, only_step, first_turn, stepped_piece, elements_loop, begun_loop, loop_piece, jump_past, statement_piece}
 use Rattle.cw_gen_unit.specs.declared.simple.SimpleStep.{SimpleStep}
@@ -43,22 +43,6 @@ labels_layer x = set_step (map-Stmt Stmt ℕ set_labels x)
 
 labels-set : (x : Stmt) → set_labels x ≡ labels_layer (out-Stmt x)
 labels-set = fold_out-Stmt ℕ set_step
-
-abbrev size_step : Stmt-F ℕ → ℕ
-size_step (statement.If line c a b) = 1 + (a + b)
-size_step (statement.For line item r es a) = 1 + a
-size_step (statement.Seq ss) = 1 + total ss
-size_step (statement.Mark ls a) = 1 + a
-size_step _ = 0
-
-abbrev statement_size : Stmt → ℕ
-statement_size = fold-Stmt ℕ size_step
-
-abbrev size_layer : Stmt-F Stmt → ℕ
-size_layer x = size_step (map-Stmt Stmt ℕ statement_size x)
-
-statement-size : (x : Stmt) → statement_size x ≡ size_layer (out-Stmt x)
-statement-size = fold_out-Stmt ℕ size_step
 
 -- ---- lists of orders
 

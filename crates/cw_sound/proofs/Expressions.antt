@@ -3,6 +3,9 @@ pub mod Judging
 pub mod Several
 pub mod Schema
 pub mod Passes
+pub mod Folds
+pub mod Facts
+pub mod Chains
 pub mod Standing
 pub mod Lists
 pub mod Parts

@@ -2,75 +2,20 @@
 use Rattle.std.proofs.Common.{◌≡◌, ℕ, suc, Bool, true, false, ◌&&◌, List, [], ◌∷◌, Option, Some, None, refl}
 use Rattle.cw_lex.specs.declared.token.TokenKind.{TokenKind}
 use Rattle.cw_grammar.specs.Tokens.{Item, same}
-use Rattle.cw_grammar.specs.Grammar.{Sort, a_token, a_pair, a_list, an_option, an_either, a_from, Value, Either, left, right, Rule, Again, Grammar, one, none, ◌·◌, ◌∣◌, many, ◌⇒◌, opens, again}
+use Rattle.cw_grammar.specs.Grammar.{Sort, a_token, a_pair, a_list, an_option, an_either, a_from, an_expr, a_cond, a_cand, a_cmp, a_sum, a_term, a_differ, a_union, a_mask, a_prim, a_primary, a_ref, Value, Rule, Again, Grammar, one, none, ◌·◌, ◌∣◌, many, ◌⇒◌, opens, again}
 use Rattle.cw_grammar.specs.Table.{rule, again_rule}
 use Rattle.cw_grammar.specs.Derives.{Derives, is_one, is_none, is_then, is_left, is_right, is_end, is_more, is_map, is_opens, is_again}
 use Rattle.cw_macro.specs.Premises.{Each}
+use Rattle.cw_tokens.proofs.Kept.{OfOption, OfEither, Unless, option_known, either_known, first_kept, second_kept, left_kept, right_kept, item_kept, value_kept, map_kept, at_kept}
 use Rattle.cw_sound.proofs.Items.Lists.{each-left, each-right}
 use Rattle.cw_sound.proofs.Expressions.Truth.{parts}
-
-abbrev pub OfOption : {A : Type 0} → (A → Type 0) → Option A → Type 0
-OfOption P None = Unit {0}
-OfOption P (Some x) = P x
-
-abbrev pub OfEither : {A B : Type 0} → (A → Type 0) → (B → Type 0) → Either A B → Type 0
-OfEither P Q (left x) = P x
-OfEither P Q (right y) = Q y
-
--- what a rule must keep, but for a plain sort
-abbrev pub Unless : Bool → Type 0 → Type 0
-Unless true T = Unit {0}
-Unless false T = T
+use Rattle.cw_sound.proofs.Expressions.Schema.{Known}
 
 -- ---- what is known of plain values
 
 pub each_known : {A : Type 0} (P : A → Type 0) → ((x : A) → P x) → (xs : List A) → Each P xs
 each_known P h [] = tt
 each_known P h (x ∷ xs) = (h x, each_known P h xs)
-
-pub option_known : {A : Type 0} (P : A → Type 0) → ((x : A) → P x) → (o : Option A) → OfOption P o
-option_known P h None = tt
-option_known P h (Some x) = h x
-
-pub either_known : {A B : Type 0} (P : A → Type 0) (Q : B → Type 0) → ((x : A) → P x) → ((y : B) → Q y) → (o : Either A B) → OfEither P Q o
-either_known P Q h k (left x) = h x
-either_known P Q h k (right y) = k y
-
--- ---- what a rule keeps
-
-pub first_kept : (a b : Bool) (S T : Type 0) → Unless (a && b) (Unless a S × Unless b T) → Unless a S
-first_kept true b S T h = tt
-first_kept false b S T h = h.0
-
-pub second_kept : (a b : Bool) (S T : Type 0) → Unless (a && b) (Unless a S × Unless b T) → Unless b T
-second_kept true true S T h = tt
-second_kept true false S T h = h.1
-second_kept false b S T h = h.1
-
-pub left_kept : (a : Bool) (S T : Type 0) → Unless a (Unless a S × Unless a T) → Unless a S
-left_kept true S T h = tt
-left_kept false S T h = h.0
-
-pub right_kept : (a : Bool) (S T : Type 0) → Unless a (Unless a S × Unless a T) → Unless a T
-right_kept true S T h = tt
-right_kept false S T h = h.1
-
-pub item_kept : (a : Bool) (S : Type 0) → Unless a (Unless a S) → Unless a S
-item_kept true S h = tt
-item_kept false S h = h
-
-pub value_kept : (a : Bool) (S : Type 0) → (a ≡ true → S) → Unless a S → S
-value_kept true S f h = f refl
-value_kept false S f h = h
-
-pub map_kept : (a b : Bool) (S T U : Type 0) → (b ≡ true → U) → (Unless a S → T) → Unless b (Unless a S × (T → U)) → U
-map_kept a true S T U f g h = f refl
-map_kept a false S T U f g h = h.1 (g h.0)
-
--- at one value
-pub at_kept : {V : Type 0} (a : Bool) (S : Type 0) (T U : V → Type 0) (W : Type 0) (x : V) → (U x → W) → Unless a (S × ((y : V) → T y → U y)) → Unless a (S × (T x → W))
-at_kept true S T U W x f h = tt
-at_kept false S T U W x f h = (h.0, λ k. f (h.1 x k))
 
 -- ---- what is asked of trees
 
@@ -86,6 +31,26 @@ is_nothing (holds P) = false
 abbrev pub Asked : {V : Type 0} → Ask V → V → Type 0
 Asked nothing x = Unit {0}
 Asked (holds P) x = P x
+
+-- of expressions and their parts what is known of them, and of other trees the rest
+abbrev pub of_expressions : Known → ((s : Sort) → Ask (Value s)) → (s : Sort) → Ask (Value s)
+of_expressions known rest an_expr = holds known.Expr
+of_expressions known rest a_cond = holds known.Cond
+of_expressions known rest a_cand = holds known.Cand
+of_expressions known rest a_cmp = holds known.Cmp
+of_expressions known rest a_sum = holds known.Sum
+of_expressions known rest a_term = holds known.Term
+of_expressions known rest a_differ = holds known.Differ
+of_expressions known rest a_union = holds known.Union
+of_expressions known rest a_mask = holds known.Mask
+of_expressions known rest a_prim = holds known.Prim
+of_expressions known rest a_primary = holds known.Primary
+of_expressions known rest a_ref = holds known.Ref
+of_expressions known rest s = rest s
+
+-- nothing more of the value of a map
+abbrev pub AsItIs : (s : Sort) → Grammar s → Value s → Type 0 → Type 0
+AsItIs s g x T = T
 
 unasked : {V : Type 0} (a : Ask V) → is_nothing a ≡ true → (x : V) → Asked a x
 unasked nothing h x = tt

@@ -1,3 +1,4 @@
+pub mod FactFolds
 pub mod Parts
 pub mod Lists
 pub mod FoundRows

@@ -1,6 +1,5 @@
 pub mod Tokens
 pub mod Small
-pub mod Layers
 pub mod Held
 pub mod Frames
 pub mod Trees

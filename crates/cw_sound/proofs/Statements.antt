@@ -3,6 +3,7 @@ pub mod Passes
 pub mod Procedures
 pub mod Folds
 pub mod Keeping
+pub mod Elements
 pub mod Parts
 pub mod Halves
 pub mod Nodes

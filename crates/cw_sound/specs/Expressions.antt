@@ -1,3 +1,4 @@
+pub mod Gathered
 pub mod Levels
 pub mod Regular
 pub mod Readings

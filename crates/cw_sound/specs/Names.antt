@@ -1,3 +1,4 @@
 pub mod Placed
 pub mod Found
 pub mod Standing
+pub mod Faultless

@@ -1,1 +1,2 @@
 pub mod TreeFits
+pub mod PartsStand

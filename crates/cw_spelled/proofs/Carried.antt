@@ -13,7 +13,7 @@ use Rattle.cw_macro.specs.declared.fault.TheConstants.{MOST_TOKENS, MOST_REPLACE
 use Rattle.cw_macro.specs.Expansion.{Leveled, BodyPart, Own, Parameter, Macro, Definitions, redefined, Expansion, is_name, is_string, is_open, is_close, is_comma, name_of, number_of, Heading, HasBody, parameters, parameters_if_any, closed, heading_of, part_if_any, part, macro_of, GivenArguments, arguments, counted, argument_list, tokens_of, brought, replacement, Step, Finished, Refused, Moved, Defining, moving, defining, removing, deleting, replacing, naming, step_at, step_in, expansion_step, Leads, finished, refused, moved, with_body, no_body, of_text, Expands}
 use Rattle.cw_macro.specs.Premises.{Each}
 use Rattle.cw_macro.proofs.Lists.{each_append, each_map, each_flat_map}
-use Rattle.cw_macro.proofs.Given.{GivenEach, arguments_each}
+use Rattle.cw_macro.proofs.Given.{GivenEach, arguments_each, argument_each}
 
 either : {A : Type 0} (T : A → Type 0) (b : Bool) (x y : A) → T x → T y → T (cond b x y)
 either T true x y h k = h
@@ -103,18 +103,9 @@ module _ (P Q : Lexeme → Type 0) (weak : (t : Lexeme) → P t → Q t) (on_lin
   list_right (suc n) [] h = tt
   list_right (suc n) (t ∷ rest) h = let o = arguments [] rest in either RightArguments (is_open t.lexeme.kind) (counted (suc n) o) None (counted_right (suc n) o (arguments_each Right rest h.1)) tt
 
-  weakened : (ts : List Leveled) → Each Right ts → Each Brought ts
-  weakened [] h = tt
-  weakened (t ∷ ts) h = (weak t.lexeme h.0, weakened ts h.1)
-
-  argument_right : (args : List (List Leveled)) (k : ℕ) → Each (Each Right) args → Each Brought (tokens_of args (Parameter k))
-  argument_right [] k h = tt
-  argument_right (a ∷ args) zero h = weakened a h.0
-  argument_right (a ∷ args) (suc k) h = argument_right args k h.1
-
   tokens_right : (args : List (List Leveled)) → Each (Each Right) args → (p : BodyPart) → RightPart p → Each Brought (tokens_of args p)
   tokens_right args h (Own t) k = (k, tt)
-  tokens_right args h (Parameter n) k = argument_right args n h
+  tokens_right args h (Parameter n) k = argument_each Right Brought (λ t. weak t.lexeme) args n h
 
   replacement_right : (call : Leveled) (body : List BodyPart) (args : List (List Leveled)) → Right call → Each RightPart body → Each (Each Right) args → Each Right (replacement call body args)
   replacement_right call body args p h k =

@@ -50,6 +50,12 @@ module _ {inside : (s : Sort) → Rule s → Value s → ℕ} {Within : (s : Sor
   pairs_count f l k b_end = omega arith
   pairs_count f l k (b_more (b_then {u = u} {v = v} {x = y} {y = x} c d) e) = omega (arith, l y u c, k x v d, pairs_count f l k e)
 
+  -- an operand, and more of them behind operators
+  pub operation_counts : {s o t : Sort} {g : Grammar s} {h : Grammar o} {f : Value s × List (Value o × Value s) → Value t} (inner : Value s → ℕ) (outer : Value t → ℕ)
+      → ((y : Value s) (more : List (Value o × Value s)) → outer (f (y, more)) ≤ inner y + separated (map (λ z. inner z.1) more))
+      → Counts inside Within s g inner → Counts inside Within o h (λ y. 1) → Counts inside Within t ((g · many (h · g)) ⇒ f) outer
+  operation_counts inner outer most counts signs x u (b_map (b_then {u = v} {x = y} {y = more} d e)) = omega (arith, most y more, counts y v d, pairs_count inner signs counts e)
+
   pub token_counts : {k : TokenKind} → Counts inside Within a_token (one k) (λ y. 1)
   token_counts x u b_one = omega arith
 

@@ -13,7 +13,7 @@ use Rattle.cw_tokens.specs.TreeTokens.{expr_tokens, primary_tokens, ref_tokens, 
 use Rattle.cw_tokens.proofs.Lists.{between_extended, arguments_most}
 use Rattle.cw_tokens.proofs.Layers.{cond-made, cand-made, cmp-made, expr-Choice, primary-Number, primary-Octal, primary-Literal, primary-Text, primary-Location, primary-Forced, primary-Bracket, primary-Ref, primary-Call, ref-Name, ref-One, ref-Two, ref-Bare}
 use Rattle.cw_tokens.proofs.Held.{mask_most, union_most, differ_most, term_most, sum_most, expr_of_keeps, prim_of_keeps}
-use Rattle.cw_tokens.proofs.Counting.{b_one, b_none, b_then, b_left, b_right, b_end, b_more, b_map, b_opens, pairs_count, name_counts, number_counts, sign_counts, factor_counts, comparator_counts, operator_counts}
+use Rattle.cw_tokens.proofs.Counting.{b_one, b_none, b_then, b_left, b_right, b_end, b_more, b_map, b_opens, pairs_count, operation_counts, name_counts, number_counts, sign_counts, factor_counts, comparator_counts, operator_counts}
 use Rattle.cw_tokens.proofs.Built.{second_tokens, Built, Counts}
 
 -- ---- names, numbers, types and signs
@@ -100,19 +100,19 @@ prim_counts x u (b_map (b_then {v = v} {x = bits} {y = p} d e)) = omega (arith, 
 
 mask_counts : Counts a_mask mask mask_tokens
 unfolding mask
-mask_counts x u (b_map (b_then {u = v} {x = y} {y = more} d e)) = omega (arith, mask_most y more, prim_counts y v d, pairs_count prim_tokens operator_counts prim_counts e)
+mask_counts x u d = operation_counts prim_tokens mask_tokens mask_most prim_counts operator_counts x u d
 
 union_counts : Counts a_union union union_tokens
 unfolding union
-union_counts x u (b_map (b_then {u = v} {x = y} {y = more} d e)) = omega (arith, union_most y more, mask_counts y v d, pairs_count mask_tokens operator_counts mask_counts e)
+union_counts x u d = operation_counts mask_tokens union_tokens union_most mask_counts operator_counts x u d
 
 differ_counts : Counts a_differ differ differ_tokens
 unfolding differ
-differ_counts x u (b_map (b_then {u = v} {x = y} {y = more} d e)) = omega (arith, differ_most y more, union_counts y v d, pairs_count union_tokens operator_counts union_counts e)
+differ_counts x u d = operation_counts union_tokens differ_tokens differ_most union_counts operator_counts x u d
 
 term_counts : Counts a_term term term_tokens
 unfolding term
-term_counts x u (b_map (b_then {u = v} {x = y} {y = more} d e)) = omega (arith, term_most y more, differ_counts y v d, pairs_count differ_tokens factor_counts differ_counts e)
+term_counts x u d = operation_counts differ_tokens term_tokens term_most differ_counts factor_counts x u d
 
 sum_counts : Counts a_sum sum sum_tokens
 unfolding sum
@@ -124,11 +124,13 @@ cmp_counts x u (b_map (b_then {u = v} {x = a} d (b_then {u = w} {v = z} {x = op}
 
 cand_counts : Counts a_cand cand cand_tokens
 unfolding cand
-cand_counts x u (b_map (b_then {u = v} {x = y} {y = more} d e)) = omega (arith, cand-made (extended (y ∷ [], []) more).0 (extended (y ∷ [], []) more).1, between_extended cmp_tokens (y ∷ [], []) more, cmp_counts y v d, pairs_count cmp_tokens operator_counts cmp_counts e)
+cand_counts x u d =
+    operation_counts cmp_tokens cand_tokens (λ y more. omega (arith, cand-made (extended (y ∷ [], []) more).0 (extended (y ∷ [], []) more).1, between_extended cmp_tokens (y ∷ [], []) more)) cmp_counts operator_counts x u d
 
 pub condition_counts : Counts a_cond condition cond_tokens
 unfolding condition
-condition_counts x u (b_map (b_then {u = v} {x = y} {y = more} d e)) = omega (arith, cond-made (extended (y ∷ [], []) more).0 (extended (y ∷ [], []) more).1, between_extended cand_tokens (y ∷ [], []) more, cand_counts y v d, pairs_count cand_tokens operator_counts cand_counts e)
+condition_counts x u d =
+    operation_counts cand_tokens cond_tokens (λ y more. omega (arith, cond-made (extended (y ∷ [], []) more).0 (extended (y ∷ [], []) more).1, between_extended cand_tokens (y ∷ [], []) more)) cand_counts operator_counts x u d
 
 pub expr_counts : Counts an_expr expr expr_tokens
 unfolding expr

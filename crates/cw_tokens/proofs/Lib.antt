@@ -1,4 +1,8 @@
 pub mod Lists
+pub mod Narrowed
+pub mod Kept
+pub mod Codes
+pub mod Passes
 pub mod Layers
 pub mod Held
 pub mod Counting

@@ -1,7 +1,7 @@
 -- Counts of lists, and of what one step or two steps give.
 use Rattle.std.proofs.Common.{◌≡◌, ℕ, suc, ◌+◌, ◌*◌, ◌≤◌, List, [], ◌∷◌, ◌++◌, length, map, Option, Some, None, refl, sym, ap, ◌∙◌, arith}
 use Rattle.std.proofs.lemmas.Option.{none-some, same_Some}
-use Rattle.cw_grammar.specs.Trees.{sole, ◌>>-◌, Operands, extended, first_of}
+use Rattle.cw_grammar.specs.Trees.{sole, Operands, extended, first_of}
 use Rattle.cw_tokens.specs.LeastTokens.{separated, arguments}
 use Rattle.cw_tokens.specs.TreeTokens.{between, total}
 
@@ -31,14 +31,6 @@ arguments_most [] = omega arith
 arguments_most (n ∷ ns) = omega arith
 
 -- ---- steps
-
--- What a step gives has the count of what it is taken from.
-abbrev pub Keeps : {A B : Type 0} → (A → ℕ) → (B → ℕ) → (A → Option B) → Type 0
-Keeps {A = A} {B = B} f g step = (x : A) (y : B) → step x ≡ Some y → g y ≡ f x
-
-pub then_keeps : {B C : Type 0} (n : ℕ) (g : B → ℕ) (h : C → ℕ) (o : Option B) (next : B → Option C) (z : C) → ((y : B) → o ≡ Some y → g y ≡ n) → Keeps g h next → (o >>- next) ≡ Some z → h z ≡ n
-then_keeps n g h None next z k l e = absurd (not_none e)
-then_keeps n g h (Some y) next z k l e = l y z e ∙ k y refl
 
 pub sole_keeps : {A : Type 0} (f : A → ℕ) (xs : List A) (x : A) → sole xs ≡ Some x → f x ≡ between (map f xs)
 sole_keeps f [] x e = absurd (not_none e)

@@ -1,3 +1,4 @@
 pub mod LeastTokens
+pub mod Texts
 pub mod TreeTokens
 pub mod SetLabels

@@ -2,13 +2,10 @@
 ghost use Rattle.std.specs.Prelude.{ℕ, ◌≤◌, List, length};
 ghost use Rattle.cw_lex.specs.Lexical.{Lexeme};
 ghost use Rattle.cw_tree.specs.declared.segment.Raw.{Raw};
-ghost use Rattle.cw_grammar.specs.Tokens.{numbered};
-ghost use Rattle.cw_grammar.specs.Grammar.{a_raw};
-ghost use Rattle.cw_grammar.specs.Statements.{text};
-ghost use Rattle.cw_grammar.specs.Derives.{Derives};
+ghost use Rattle.cw_tokens.specs.Texts.{IsTreeOf};
 ghost use Rattle.cw_tokens.specs.TreeTokens.{text_tokens};
 
 /// A text has at least as many tokens as its tree counts.
 pub fn tokens_counted()
-    ensures { (n : ℕ) (ts : List Lexeme) (raw : Raw) → Derives n a_raw text (numbered 1 ts) raw → text_tokens raw ≤ length ts }
+    ensures { (n : ℕ) (ts : List Lexeme) (raw : Raw) → IsTreeOf n ts raw → text_tokens raw ≤ length ts }
 {}

@@ -1,5 +1,5 @@
 -- Texts that are added one after the other.
-use Rattle.std.proofs.Common.{◌≡◌, ℕ, zero, suc, ◌+◌, ◌<◌, ◌≤◌, List, [], ◌∷◌, ◌++◌, length, take, drop, get_or, flat_map, Option, None, Some, Result, Ok, Err, refl, ap, subst, arith, sym, ◌∙◌, append_assoc, append-nil, length-append}
+use Rattle.std.proofs.Common.{◌≡◌, ℕ, zero, suc, ◌+◌, ◌<◌, ◌≤◌, List, [], ◌∷◌, ◌++◌, length, take, drop, get_or, flat_map, Option, Result, Ok, Err, refl, ap, subst, arith, sym, ◌∙◌, append_assoc, append-nil, length-append}
 use Rattle.std.proofs.lemmas.List.{take-append-le}
 use Rattle.std.proofs.Math.Seq.{take-append-add}
 use Rattle.cw_io.specs.Bytes.{after_told}
@@ -7,13 +7,6 @@ use Rattle.cw_io.specs.declared.source.Failed.{Failed}
 use Rattle.cw_write.specs.Said.{Writes}
 use Rattle.cw_write.proofs.Said.{after_told-append, writes_then}
 use Rattle.cw_trace.specs.Gathering.{Gathered, gathered, KeepsRest, Adds}
-
-pub keeps_none : (held : Option (List ℕ)) (waiting : List ℕ) → KeepsRest held waiting held waiting []
-keeps_none held waiting = ([], append-nil waiting, sym (nothing held))
-  where
-    nothing : (told : Option (List ℕ)) → after_told told [] ≡ told
-    nothing None = refl
-    nothing (Some held) = ap Some (append-nil held)
 
 -- one text and then another
 pub keeps_more : (held between new : Option (List ℕ)) (w v u s t : List ℕ) → KeepsRest held w between v s → KeepsRest between v new u t → KeepsRest held w new u (s ++ t)

@@ -7,10 +7,11 @@ use Rattle.std.proofs.lemmas.Grind.{flat_map-append}
 use Rattle.std.proofs.lemmas.Map.Keys.{IsDistinct-head, IsDistinct-tail}
 use Rattle.std.specs.Fmt.{signed_decimal}
 use Rattle.cw_word.specs.Word.{signed}
+use Rattle.cw_cpu86.proofs.Ends.{has_ended}
 use Rattle.cw_i86.specs.Encoding.{IsInstr, BeginsWith}
 use Rattle.cw_i86.specs.declared.instr.Instr.{Instr}
 use Rattle.cw_i86.specs.State.{State, word_at, data_segment}
-use Rattle.cw_i86.specs.MachineRun.{Event, End, Running, Ended, Stopped, Runs, FitsInput, written, last_given, IsOver, Observed, Shows}
+use Rattle.cw_i86.specs.MachineRun.{Event, End, Running, Runs, FitsInput, written, IsOver, Observed, Shows}
 use Rattle.cw_cpu86.proofs.Once.{runs_same}
 use Rattle.cw_cpu86.proofs.Told.{FitsInput-parts}
 use Rattle.cw_image.specs.Begun.{StatementPlace, lines_at, data_words, beginning}
@@ -139,18 +140,6 @@ told_here watch segment places area t watches code =
 pub record RunLaws : Type 0 where
   pub one : (bytes : List ℕ) (i j : Instr) → IsInstr i → IsInstr j → BeginsWith bytes i → BeginsWith bytes j → i ≡ j
   pub once : (s : State) (input : List ℕ) (n : ℕ) (a b : Observed) → Shows s input n a → Shows s input n b → a ≡ b
-
--- after HLT
-has_halted : (b : Bool) (kind segment line : ℕ) → (if b then Ended else Stopped kind segment line) ≡ Running → ⊥
-has_halted true kind segment line on = cc
-has_halted false kind segment line on = cc
-
--- a run that is over is not at work
-has_ended : (s : State) (n : ℕ) (events : List Event) (end : End) → IsOver s n events end → end ≡ Running → ⊥
-has_ended s n events end (k, t, less, runs, inl (u, steps, is)) on =
-    has_halted (last_given 0x13 events 0 == 0) (last_given 0x13 events 0) (last_given 0x14 events 0) (last_given 0x15 events 0 + 256 * last_given 0x16 events 0) (sym is ∙ on)
-has_ended s n events end (k, t, less, runs, inr (inl (steps, is))) on = cc
-has_ended s n events end (k, t, less, runs, inr (inr (steps, is))) on = cc
 
 not_both : RunLaws → (s : State) (input : List ℕ) (n : ℕ) (a b : List Event) (t : State) (end : End) → Runs n s a t → FitsInput input a → IsOver s n b end → FitsInput input b → ⊥
 not_both laws s input n a b t end runs fits over also =

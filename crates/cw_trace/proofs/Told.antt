@@ -1,16 +1,16 @@
 -- What is told of a run, one instruction further.
-use Rattle.std.proofs.Common.{◌≡◌, ℕ, zero, suc, ◌+◌, ◌-◌, ◌<◌, ◌≤◌, List, [], ◌∷◌, ◌++◌, take, Option, None, Some, Err, refl, sym, ap, subst, ◌∙◌, inl, inr, arith, append_assoc, append-nil}
+use Rattle.std.proofs.Common.{◌≡◌, ℕ, zero, suc, ◌+◌, ◌-◌, ◌<◌, ◌≤◌, List, [], ◌∷◌, ◌++◌, take, Option, Err, refl, sym, ap, subst, ◌∙◌, inl, inr, arith, append_assoc, append-nil}
 use Rattle.std.specs.Prelude.{◌⊎◌}
 use Rattle.std.proofs.lemmas.Bool.{cases_lt}
 use Rattle.cw_io.specs.Bytes.{after_told}
 use Rattle.cw_io.specs.declared.source.Failed.{Failed}
 use Rattle.cw_i86.specs.State.{State}
-use Rattle.cw_i86.specs.MachineRun.{Event, End, Runs, Steps, Halts, Divides, Undefined, Bad, Divided, end_after, IsOver}
+use Rattle.cw_i86.specs.MachineRun.{Event, End, Outcome, Runs, Steps, Halts, Divides, Undefined, Bad, Divided, end_after, IsOver}
 use Rattle.cw_cpu86.specs.Ports.{Device}
 use Rattle.cw_cpu86.specs.Answers.{Went, StepAnswers, PortFails}
 use Rattle.cw_cpu86.specs.declared.cpu.Step.TheVariants.{Ran}
 use Rattle.cw_cpu86.specs.declared.cpu.RunEnd.TheVariants as ends
-use Rattle.cw_cpu86.proofs.Told.{follows_more, follows_none}
+use Rattle.cw_cpu86.proofs.Told.{follows_more}
 use Rattle.cw_write.specs.Said.{Writes}
 use Rattle.cw_write.proofs.Said.{after_told-append}
 use Rattle.cw_trace.specs.Reports.{Reports, told_at}
@@ -43,13 +43,6 @@ pub record Going (watch : Watch) (n : ℕ) (s : State) (d : Device) (s' : State)
   pub text : List ℕ
   pub told : Told watch s went.events n text
   pub said : held' ≡ after_told held text
-
-nothing : (told : Option (List ℕ)) → told ≡ after_told told []
-nothing None = refl
-nothing (Some held) = ap Some (sym (append-nil held))
-
-pub going_nowhere : (watch : Watch) (s : State) (d : Device) (held : Option (List ℕ)) → Going watch 0 s d s d held held
-going_nowhere watch s d held = record { went = record { events = []; runs = (refl, refl); follows = follows_none d }; text = []; told = refl; said = nothing held }
 
 more_said : (held now next : Option (List ℕ)) (text more : List ℕ) → now ≡ after_told held text → next ≡ after_told now more → next ≡ after_told held (text ++ more)
 more_said held now next text more is also = also ∙ ap (λ told. after_told told more) is ∙ after_told-append held text more
@@ -123,21 +116,14 @@ halts watch n limit s d t e u f held now next so_far also less steps same =
     record { events = going.went.events; runs = subst (λ m. Runs m s going.went.events t) before going.went.runs; follows = going.went.follows } in
     ((omega arith, omega (arith, less), (t, went, steps)), ended watch n limit s d t f held now next (end_after going.went.events) going also less (inl (u, steps, refl)))
 
-pub is_bad : (watch : Watch) (n limit offset : ℕ) (s : State) (d : Device) (t : State) (e : Device) (u : State) (f : Device) (held now next : Option (List ℕ))
-    → Going watch n s d t e held now → next ≡ after_told now (told_at watch t) → n < limit → Steps t Undefined → offset ≡ t.instruction_pointer → u ≡ t → f ≡ e
-    → WatchAnswers watch (Run (ends.BadCode offset n)) limit s d u f held next
-is_bad watch n limit offset s d t e u f held now next so_far also less steps is same same_ports =
-    subst (λ x. WatchAnswers watch (Run (ends.BadCode offset n)) limit s d x f held next) (sym same)
+-- an instruction that does not run, as there is none or its quotient faults
+pub stops : (watch : Watch) (n limit offset : ℕ) (s : State) (d : Device) (t : State) (e : Device) (u : State) (f : Device) (held now next : Option (List ℕ)) (cause : Outcome) (end : End)
+    → Going watch n s d t e held now → next ≡ after_told now (told_at watch t) → n < limit → Steps t cause → offset ≡ t.instruction_pointer → u ≡ t → f ≡ e → ((events : List Event) → Over t events end)
+    → (answer : (n < limit) × Went n s d u f × Steps u cause × (offset ≡ u.instruction_pointer)) × Tells watch s answer.1.events limit held next
+stops watch n limit offset s d t e u f held now next cause end so_far also less steps is same same_ports over =
+    subst (λ x. (answer : (n < limit) × Went n s d x f × Steps x cause × (offset ≡ x.instruction_pointer)) × Tells watch s answer.1.events limit held next) (sym same)
     (let going = subst (λ x. Going watch n s d t x held now) (sym same_ports) so_far in
-    ((less, going.went, steps, is), ended watch n limit s d t f held now next (Bad t.instruction_pointer) going also less (inr (inl (steps, refl)))))
-
-pub divides : (watch : Watch) (n limit offset : ℕ) (s : State) (d : Device) (t : State) (e : Device) (u : State) (f : Device) (held now next : Option (List ℕ))
-    → Going watch n s d t e held now → next ≡ after_told now (told_at watch t) → n < limit → Steps t Divides → offset ≡ t.instruction_pointer → u ≡ t → f ≡ e
-    → WatchAnswers watch (Run (ends.Divide offset n)) limit s d u f held next
-divides watch n limit offset s d t e u f held now next so_far also less steps is same same_ports =
-    subst (λ x. WatchAnswers watch (Run (ends.Divide offset n)) limit s d x f held next) (sym same)
-    (let going = subst (λ x. Going watch n s d t x held now) (sym same_ports) so_far in
-    ((less, going.went, steps, is), ended watch n limit s d t f held now next (Divided t.instruction_pointer) going also less (inr (inr (steps, refl)))))
+    ((less, going.went, steps, is), ended watch n limit s d t f held now next end going also less (over going.went.events)))
 
 pub port_fails : (watch : Watch) (n limit : ℕ) (s : State) (d : Device) (t : State) (e : Device) (u : State) (f : Device) (held now next : Option (List ℕ))
     → Going watch n s d t e held now → next ≡ after_told now (told_at watch t) → n < limit → PortFails t e f → u ≡ t

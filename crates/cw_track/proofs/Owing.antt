@@ -7,7 +7,7 @@ use Rattle.cw_track.specs.Tracking.{Tracks}
 use Rattle.cw_track.specs.Watching.{watched, noted}
 use Rattle.cw_track.proofs.Paths.{Path, stay, next}
 use Rattle.cw_track.proofs.Simulations.{Quiet, one, LeaptRanked, RankedSimulation, tracks_ranked}
-use Rattle.cw_track.proofs.Watching.{Unnoted, unnoted}
+use Rattle.cw_track.proofs.Watching.{Unnoted, unnoted, still}
 
 -- How B goes on while A makes a step, where B owes these notes. It waits: A notes nothing, or notes something while nothing is owed, and
 -- this step of A pays for the step of B with which B will note it. Or it goes on: it notes what it owes before its first step, and where
@@ -179,9 +179,6 @@ module _ {O E : Type 0} (is_running : O → Bool) (A B : Machine O) (notesA : A.
     matched = inl (m, notes ∙ no_more es (notesA s) none, refl);
     progress = inr (let l : rank (A.step s) < n = omega arith in l);
   }
-
-  still : {S : Type 0} (s : S) (es : List E) (t : S) (fs : List E) → t ≡ s → fs ≡ [] → ◌≡◌ {A = S × List E} (t, es ++ fs) (s, es)
-  still s es t fs e none = ap₂ (λ x y. (x, y)) e (sym (no_more es fs none))
 
   pub simulation_owing : RankedSimulation still_runs (watched A notesA) (watched B notesB) Together
   simulation_owing = record {

@@ -57,6 +57,10 @@ pub record LeaptNoting {O E : Type 0} (A B : Machine O) (notesA : A.State → Li
   pub matched : Matches to reached
   pub progress : (0 < spent) ⊎ (rank to < rank s)
 
+-- nothing moves, and nothing is noted
+pub still : {S E : Type 0} (s : S) (es : List E) (t : S) (fs : List E) → t ≡ s → fs ≡ [] → ◌≡◌ {A = S × List E} (t, es ++ fs) (s, es)
+still s es t fs e n = ap₂ (λ x y. (x, y)) e (ap (λ y. es ++ y) n ∙ append-nil es)
+
 -- where the run is over nothing is noted
 pub record SimulationNoting {O E : Type 0} (is_running : O → Bool) (A B : Machine O) (notesA : A.State → List E) (notesB : B.State → List E) (Matches : A.State → B.State → Type 0) (rank : A.State → ℕ) : Type 0 where
   pub agrees : (s : A.State) (t : B.State) → Matches s t → B.shown t ≡ A.shown s
@@ -70,9 +74,6 @@ module _ {O E : Type 0} (is_running : O → Bool) (A B : Machine O) (notesA : A.
 
   abbrev pub MatchesNoting : A.State × List E → B.State × List E → Type 0
   MatchesNoting s t = Matches s.0 t.0 × (t.1 ≡ s.1)
-
-  still : {S : Type 0} (s : S) (es : List E) (t : S) (fs : List E) → t ≡ s → fs ≡ [] → ◌≡◌ {A = S × List E} (t, es ++ fs) (s, es)
-  still s es t fs e n = ap₂ (λ x y. (x, y)) e (ap (λ y. es ++ y) n ∙ append-nil es)
 
   still_noted : {s u : A.State} (es : List E) → A.step s ≡ u → notesA s ≡ [] → ◌≡◌ {A = A.State × List E} (A.step s, es ++ notesA s) (u, es)
   still_noted {s} {u} es st none = still u es (A.step s) (notesA s) st none

@@ -14,11 +14,11 @@ use Rattle.cw_unit.specs.declared.unit.Arg.{Arg, out-Arg}
 use Rattle.cw_unit.specs.declared.unit.Cond.{Cond, out-Cond}
 use Rattle.cw_unit.specs.declared.unit.Spot.{Spot, out-Spot}
 use Rattle.cw_unit.specs.declared.unit.Arg.TheOpen as layer
-use Rattle.cw_unit.specs.declared.unit.Arg.TheOpen.{Arg-F, Cond-F, Spot-F, Ref-F}
+use Rattle.cw_unit.specs.declared.unit.Arg.TheOpen.{Arg-F, Spot-F}
 use Rattle.cw_word.specs.FixedPoint.{fits_word}
 use Rattle.cw_unit.specs.Program.{Program, definition_of, item_address}
-use Rattle.cw_unit.specs.Stop.{AddressRange, Running, Ended, Stopped, Stuck}
-use Rattle.cw_unit.specs.Words.{Control, LabelControl, SwitchControl, ProcedureControl, Operand, Word, Held, Words, Outcome, Changed, Refused, Impossible, put_if, is_below, word_at}
+use Rattle.cw_unit.specs.Stop.{AddressRange, Running}
+use Rattle.cw_unit.specs.Words.{Control, LabelControl, SwitchControl, ProcedureControl, Operand, Word, Held, Words, Outcome, Changed, put_if, is_below, word_at}
 use Rattle.cw_unit.specs.Operation.{Form, Keep, SetVariable, AddStep, ReadByte, WriteByte, perform, holds}
 use Rattle.cw_unit.specs.Work.{Work, Nothing, Run, Eval, Address, FormAt, Do, Test, Choose, Jump, Give, Enter, Return, Leave, KeepAt, SetVar, Element, Turn, Bump, On, Loop, expression_work, condition_work, element_at}
 use Rattle.cw_unit.specs.LabelContinuation.{label_continuation}
@@ -32,8 +32,7 @@ module _ (p : Program) (Q : List Activation → Type 0) (none : Q []) (dropped :
 
   after-fine : (o : Outcome) (s line : ℕ) (now next : Work) (acts : List Activation) (w : Words) → Q acts → Fine (after o s line now next acts w)
   after-fine (Changed v) s line now next acts w h = h
-  after-fine (Refused kind) s line now next acts w h = h
-  after-fine Impossible s line now next acts w h = h
+  after-fine _ s line now next acts w h = h
 
   in_unit-fine : (u : Option SourceUnit) (f : SourceUnit → Configuration) (other : Configuration) → ((u : SourceUnit) → Fine (f u)) → Fine other → Fine (in_unit p u f other)
   in_unit-fine None f other h k = k
@@ -176,11 +175,8 @@ module _ (p : Program) (Q : List Activation → Type 0) (none : Q []) (dropped :
   -- ---- loops, choices and bodies
 
   choose_with-fine : (f : ℤ → ℤ → Bool) (xs : List Operand) (s : ℕ) (now pass fail : Work) (acts : List Activation) (w : Words) → Q acts → Fine (choose_with f xs s now pass fail acts w)
-  choose_with-fine f [] s now pass fail acts w h = h
-  choose_with-fine f (Held c ∷ rest) s now pass fail acts w h = h
-  choose_with-fine f (Word y ∷ []) s now pass fail acts w h = h
-  choose_with-fine f (Word y ∷ Held c ∷ rest) s now pass fail acts w h = h
   choose_with-fine f (Word y ∷ Word x ∷ rest) s now pass fail acts w h = h
+  choose_with-fine f _ s now pass fail acts w h = h
 
   element_step-fine : (e : Option Felem) (s i : ℕ) (c : Loop) (k : Work) (acts : List Activation) (w : Words) → Q acts → Fine (element_step p e s i c k acts w)
   element_step-fine None s i c k acts w h = h
@@ -228,9 +224,7 @@ module _ (p : Program) (Q : List Activation → Type 0) (none : Q []) (dropped :
 
   step-fine : (c : Configuration) → Fine c → Fine (step p c)
   step-fine (at s k acts w Running) h = advance-fine s k acts w h
-  step-fine (at s k acts w Ended) h = h
-  step-fine (at s k acts w (Stopped kind g line)) h = h
-  step-fine (at s k acts w Stuck) h = h
+  step-fine _ h = h
 
   steps-fine : (m : ℕ) (c : Configuration) → Fine c → Fine (steps p m c)
   steps-fine zero c h = h

@@ -32,7 +32,7 @@ run-row : {m : _} (ss : Row_of-Stmt m) (k : Work) → run_row ss k ≡ run_all (
 run-row end_of-Stmt k = refl
 run-row (more_of-Stmt s ss) k = ap (Run s) (run-row ss k)
 
-in-row : {m : _} (l : ℕ) (ss : Row_of-Stmt m) (k : Work) → row_continuation l ss k ≡ list_continuation l (items-the_row-Stmt m ss) k
+pub in-row : {m : _} (l : ℕ) (ss : Row_of-Stmt m) (k : Work) → row_continuation l ss k ≡ list_continuation l (items-the_row-Stmt m ss) k
 in-row l end_of-Stmt k = refl
 in-row l (more_of-Stmt s ss) k = ap₂ first_work (ap (label_continuation l s) (run-row ss k)) (in-row l ss k)
 

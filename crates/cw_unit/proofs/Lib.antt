@@ -5,6 +5,7 @@ pub mod Equations
 pub mod Families
 pub mod FirstFit
 pub mod Memory
+pub mod Forms
 pub mod Operations
 pub mod OwnSingles
 pub mod Placing

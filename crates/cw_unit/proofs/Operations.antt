@@ -1,5 +1,5 @@
 -- A step keeps the number of data words, and what was written stays.
-use Rattle.std.proofs.Common.{◌≡◌, ℕ, zero, suc, ◌+◌, ℤ, pos, negsuc, ◌+ℤ◌, ◌-ℤ◌, ◌*ℤ◌, neg_ℤ, List, [], ◌∷◌, ◌++◌, length, set, Bool, true, false, refl, sym, ◌∙◌}
+use Rattle.std.proofs.Common.{◌≡◌, ℕ, zero, suc, ◌+◌, ℤ, pos, negsuc, ◌+ℤ◌, ◌-ℤ◌, neg_ℤ, List, [], ◌∷◌, ◌++◌, length, set, Bool, true, false, refl, sym, ◌∙◌}
 use Rattle.std.proofs.lemmas.List.{length-set, append-nil}
 use Rattle.cw_word.specs.FixedPoint.{fits_word, rescaled, scaled_product, scaled_quotient}
 use Rattle.cw_word.specs.BitField.{unsigned_field}
@@ -8,6 +8,7 @@ use Rattle.std.specs.Prelude.{int_le, ◌&&◌}
 use Rattle.cw_unit.specs.Stop.{StopKind, Overflow, AddressRange, IndexRange}
 use Rattle.cw_unit.specs.Words.{Operand, Word, Held, Words, Outcome, Changed, Refused, Impossible, with_operands, with_memory, put, put_if, put_value, on_one, on_two, through, at_address, is_below, word_at, read_byte, field_value, stored_value, with_bits, logic_word, byte_of}
 use Rattle.cw_unit.specs.Operation.{divide, fitting, address_of, form_address, Addressing, Known, Taken, Indexed, Indexed2, Scaled, Operation, Constant, Rescale, Fetch, Store, StoreBits, Add, Subtract, Negate, Multiply, Divide, Combine, Extract, InBounds, Form, Keep, SetVariable, AddStep, ReadByte, WriteByte, store_with, store_sum, perform}
+use Rattle.cw_unit.proofs.Forms.{row_address, entry_address, of_row, of_entry}
 
 -- n data words, and this output to which more was added
 pub record Grows (n : ℕ) (before : List ℕ) (memory : List ℤ) (output : List ℕ) : Type 0 where
@@ -89,33 +90,9 @@ form_address-keeps area (Indexed base l) w =
     w.operands
     w
 form_address-keeps area (Indexed2 base l1 l2 n) w =
-    on_two-keeps
-    (λ i j v.
-    fitting (fits_word (i -ℤ l1))
-    (fitting (fits_word ((i -ℤ l1) *ℤ pos n))
-    (fitting (fits_word (j -ℤ l2))
-    (fitting (fits_word ((i -ℤ l1) *ℤ pos n +ℤ (j -ℤ l2))) (address_of area (base +ℤ ((i -ℤ l1) *ℤ pos n +ℤ (j -ℤ l2))) v)))))
-    (λ i j v.
-    let last : ℤ = base +ℤ ((i -ℤ l1) *ℤ pos n +ℤ (j -ℤ l2)) in
-    let b4 : Bool = fits_word ((i -ℤ l1) *ℤ pos n +ℤ (j -ℤ l2)) in
-    let b3 : Bool = fits_word (j -ℤ l2) in
-    let b2 : Bool = fits_word ((i -ℤ l1) *ℤ pos n) in
-    fitting-keeps (fits_word (i -ℤ l1)) (λ t. fitting b2 (fitting b3 (fitting b4 (address_of area last t))))
-    (fitting-keeps b2 (λ t. fitting b3 (fitting b4 (address_of area last t)))
-    (fitting-keeps b3 (λ t. fitting b4 (address_of area last t)) (fitting-keeps b4 (address_of area last) (address_of-keeps area last))))
-    v)
-    w.operands
-    w
+    on_two-keeps (row_address area base l1 l2 n) (of_row Keeps fitting-keeps area (address_of-keeps area) base l1 l2 n) w.operands w
 form_address-keeps area (Scaled base n q) w =
-    on_one-keeps
-    (λ i v. fitting (fits_word (i *ℤ pos n)) (fitting (fits_word (i *ℤ pos n +ℤ pos q)) (address_of area (base +ℤ (i *ℤ pos n +ℤ pos q)) v)))
-    (λ i v.
-    let last : ℤ = base +ℤ (i *ℤ pos n +ℤ pos q) in
-    fitting-keeps (fits_word (i *ℤ pos n)) (λ t. fitting (fits_word (i *ℤ pos n +ℤ pos q)) (address_of area last t))
-    (fitting-keeps (fits_word (i *ℤ pos n +ℤ pos q)) (address_of area last) (address_of-keeps area last))
-    v)
-    w.operands
-    w
+    on_one-keeps (entry_address area base n q) (of_entry Keeps fitting-keeps area (address_of-keeps area) base n q) w.operands w
 
 pub store_sum-keeps : (b : Bool) (i : ℕ) (z : ℤ) → Keeps (store_sum b i z)
 store_sum-keeps true i z w = set-keeps i z w

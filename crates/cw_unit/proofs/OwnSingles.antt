@@ -1,5 +1,5 @@
 -- The layout and the map of a unit whose items are single words of its own.
-use Rattle.std.proofs.Common.{◌≡◌, ◌≢◌, ℕ, zero, suc, ◌+◌, ◌<◌, ◌≤◌, max, List, [], ◌∷◌, ◌++◌, map, length, take, replicate, Bool, true, false, ◌&&◌, cond, nat_eq, Some, None, is_none, All, slice_get, refl, sym, ap, ap₂, ◌∙◌, arith, length-take-le, inl, inr, subst, true≢false, append-nil}
+use Rattle.std.proofs.Common.{◌≡◌, ◌≢◌, ℕ, zero, suc, ◌+◌, ◌<◌, ◌≤◌, max, List, [], ◌∷◌, ◌++◌, map, length, take, replicate, true, false, ◌&&◌, cond, nat_eq, Some, None, is_none, All, slice_get, refl, sym, ap, ap₂, ◌∙◌, arith, length-take-le, inl, inr, subst, true≢false, append-nil}
 use Rattle.std.proofs.lemmas.List.Elements.{All-head, All-tail, All-take, All-nil}
 use Rattle.std.proofs.lemmas.Option.{none-some, same_Some}
 use Rattle.std.proofs.lemmas.Bool.{eq-eqb, eqb-true}
@@ -50,9 +50,6 @@ module _ (u : SourceUnit) (all : AllSingle u.items) where
   own-roots [] h = refl
   own-roots (i ∷ is) h =
       ap₂ (λ b n. cond (is_none b) 1 0 + n) (single-base u i (All-head IsOwnSingle i is h)) (own-roots is (All-tail IsOwnSingle i is h)) ∙ omega arith
-
-  part : (n r : ℕ) (i : Item) → IsOwnSingle i → Bool → ℕ
-  part n r i h b = cond b (family_offset u n + i.words) 0
 
   part-one : (n : ℕ) (i : Item) → IsOwnSingle i → cond (nat_eq (root_of u n) n) (family_offset u n + i.words) 0 ≡ 1
   part-one n i h =

@@ -19,7 +19,7 @@ use Rattle.cw_unit.specs.declared.unit.Arg.{Arg, out-Arg}
 use Rattle.cw_unit.specs.declared.unit.Cond.{Cond, out-Cond}
 use Rattle.cw_unit.specs.declared.unit.Spot.{Spot, out-Spot}
 use Rattle.cw_unit.specs.declared.unit.Arg.TheOpen as layer
-use Rattle.cw_unit.specs.declared.unit.Arg.TheOpen.{Arg-F, Cond-F, Spot-F, Ref-F}
+use Rattle.cw_unit.specs.declared.unit.Arg.TheOpen.{Arg-F, Spot-F}
 use Rattle.cw_unit.specs.Program.{Program, definition_of, item_address}
 use Rattle.cw_word.specs.FixedPoint.{fits_word}
 use Rattle.cw_unit.specs.Stop.{AddressRange, Running, Ended, Stopped, Stuck}
@@ -53,8 +53,6 @@ in_unit-kept p (Some u) f other w h k = h u
 
 pub put_constant-kept : (p : Program) (e : Expr-F Arg Cond Expr Spot Ref) (s f : ℕ) (acts : List Activation) (w : Words) → Follows (length w.memory) w.output (put_constant p e s f acts w)
 put_constant-kept p (layer.Num n) s f acts w = still w
-put_constant-kept p (layer.Const z) s f acts w = still w
-put_constant-kept p (layer.Text i) s f acts w = still w
 put_constant-kept p _ s f acts w = still w
 
 pub address_step-kept : (p : Program) (c : Bool) (spot : Spot) (l : Spot-F Arg Cond Expr Spot Ref) (s line : ℕ) (k : Work) (acts : List Activation) (w : Words) → Kept w (address_step p c spot l s line k acts w)
@@ -102,9 +100,7 @@ bind_one-length f (param.Value i s) x b n e = bind_word-length (f i) x b n e
 bind_one-length f (param.Location i s) x b n e = bind_word-length (f i) x b n e
 bind_one-length f (param.Array i s) x b n e = bind_word-length (f i) x b n e
 bind_one-length f (param.Table i m) x b n e = bind_word-length (f i) x b n e
-bind_one-length f (param.Label k) x b n e = bind_control-length x b n e
-bind_one-length f (param.Switch k) x b n e = bind_control-length x b n e
-bind_one-length f (param.Proc k s) x b n e = bind_control-length x b n e
+bind_one-length f _ x b n e = bind_control-length x b n e
 
 pub bind_all-length : (f : ℕ → ℕ) (qs : List Param) (xs : List Operand) (b : Option Bound) (n : ℕ) → Length n b → Length n (bind_all f qs xs b)
 bind_all-length f [] [] None n e = tt
@@ -228,11 +224,8 @@ jump_step-kept p (dest.SpecialSwitch k e) s line now acts w = jump_by_control-ke
 -- ---- loops, choices and bodies
 
 pub choose_with-kept : (f : ℤ → ℤ → Bool) (xs : List Operand) (s : ℕ) (now pass fail : Work) (acts : List Activation) (w : Words) → Kept w (choose_with f xs s now pass fail acts w)
-choose_with-kept f [] s now pass fail acts w = still w
-choose_with-kept f (Held c ∷ rest) s now pass fail acts w = still w
-choose_with-kept f (Word y ∷ []) s now pass fail acts w = still w
-choose_with-kept f (Word y ∷ Held c ∷ rest) s now pass fail acts w = still w
 choose_with-kept f (Word y ∷ Word x ∷ rest) s now pass fail acts w = still w
+choose_with-kept f _ s now pass fail acts w = still w
 
 pub element_step-kept : (p : Program) (e : Option Felem) (s i : ℕ) (c : Loop) (k : Work) (acts : List Activation) (w : Words) → Kept w (element_step p e s i c k acts w)
 element_step-kept p None s i c k acts w = still w
@@ -357,9 +350,7 @@ output-grows p input m n =
 
 over-from : (c : Configuration) → (shown c).end ≢ Running → IsOver c
 over-from (at s k acts w Running) h = h refl
-over-from (at s k acts w Ended) h = tt
-over-from (at s k acts w (Stopped kind g line)) h = tt
-over-from (at s k acts w Stuck) h = tt
+over-from _ h = tt
 
 pub shows-same : (p : Program) (input : List ℕ) (m n : ℕ) → (observed p input m).end ≢ Running → observed p input (m + n) ≡ observed p input m
 shows-same p input m n h =

@@ -144,10 +144,6 @@ stands us ok x h = subst (Stands us) (sym h.6) (stands-there us h.0 h.1 h.2 h.3 
 
 -- ---- items of one family
 
-shared-name : FamilyKey → Name
-shared-name (Shared a) = a
-shared-name (Private g n) = []
-
 is-shared : FamilyKey → Bool
 is-shared (Shared a) = true
 is-shared (Private g n) = false

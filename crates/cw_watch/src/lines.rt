@@ -1,17 +1,17 @@
 // The lines of the storage map that have an address.
-ghost use Rattle.std.specs.Prelude.{◌≡◌, ◌+◌, ◌++◌, [], All, OnOk, IfOk, slice_index, slice_index_or, slice_get, flat_map};
+ghost use Rattle.std.specs.Prelude.{◌≡◌, ◌+◌, ◌++◌, All, OnOk, IfOk, slice_index, slice_get, flat_map};
 ghost use Rattle.cw_unit.specs.Program.{is_frame_family};
 ghost use Rattle.cw_view.specs.ObjectFormat.{IsObject};
 ghost use Rattle.cw_view.specs.Reading.{family_in, item_in};
 ghost use Rattle.cw_view.specs.Views.{entry_of};
 ghost use Rattle.cw_link.specs.Contents.{records_of};
-ghost use Rattle.cw_list.specs.Listing.{unnamed};
 ghost use Rattle.cw_watch.specs.Watching.{owner_text, name_text, item_text, line_of, lines_from};
 
 use crate::opening::view_of;
+use cw_link::families_of;
+use cw_list::{add, addresses, unnamed};
 use cw_unit::layout::{Family, ItemView, Map, Sort};
-use cw_unit::unit::ItemKind;
-use cw_view::{View, read_family, read_item};
+use cw_view::{View, read_item};
 use cw_word::{List, Name, NoMemory};
 use std::alloc::Global;
 
@@ -21,18 +21,6 @@ pub(crate) struct ItemLine {
     pub(crate) text: List<u8>,
     pub(crate) address: u32,
     pub(crate) words: u32,
-}
-
-fn families_of(alloc: Global, view: &View) -> Result<List<Family>, NoMemory>
-    ensures { IfOk result (λ families. families ≡ records_of family_in 3 view.now) }
-{
-    let mut families = List::new(alloc);
-    for payload in view.records(3) {
-        if let Some(family) = read_family(payload) {
-            families.push(family)?;
-        }
-    }
-    Ok(families)
 }
 
 fn is_frame(families: &[Family], family: u16) -> bool
@@ -54,21 +42,6 @@ fn home_of(homes: &[u16], family: u16) -> u16
         Some(home) => *home,
         None => 0,
     }
-}
-
-fn unnamed(kind: ItemKind) -> &'static [u8]
-    ensures { result.now ≡ unnamed kind }
-{
-    match kind {
-        ItemKind::Loop => b"FOR@",
-        _ => b"STRING@",
-    }
-}
-
-fn add(text: &mut Vec<u8>, piece: &[u8]) -> Result<(), NoMemory>
-    ensures { OnOk result (text.new.items ≡ text.old.items ++ piece.now) }
-{
-    text.extend_from_slice(piece).map_err(|_| NoMemory)
 }
 
 fn add_owner(text: &mut Vec<u8>, segment: &Name, item: &ItemView) -> Result<(), NoMemory>
@@ -151,15 +124,6 @@ fn add_lines(
     Ok(())
 }
 
-fn homes_of(map: &Map, segment: usize) -> &[u16]
-    ensures { result.now ≡ slice_index_or map.now.homes segment [] }
-{
-    match map.homes.as_slice().get(segment) {
-        Some(homes) => homes.as_slice(),
-        None => &[],
-    }
-}
-
 /// Those of objects that were linked, in order of segment and place in the text.
 pub(crate) fn all_lines(
     alloc: Global,
@@ -172,7 +136,7 @@ pub(crate) fn all_lines(
     let mut lines = List::new(alloc);
     for segment in 0..objects.len() {
         let view = view_of(objects[segment].as_slice());
-        add_lines(alloc, &mut lines, &view, homes_of(map, segment))?;
+        add_lines(alloc, &mut lines, &view, addresses(map, segment))?;
     }
     Ok(lines)
 }

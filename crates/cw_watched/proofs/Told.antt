@@ -24,33 +24,21 @@ use Rattle.cw_watched.specs.declared.running.WatchedEnd.TheVariants.{Image, SayF
 
 said_is : (end : RunEnd) (steps : ℕ) (s : State) (d : Device) (s' : State) (d' : Device) (answers : RunAnswers end steps s d s' d') → said_of end steps s d s' d' answers ≡ events_of end steps s d s' d' answers
 said_is ends.Limit steps s d s' d' answers = refl
-said_is (ends.Halted n) steps s d s' d' answers = refl
-said_is (ends.BadCode offset n) steps s d s' d' answers = refl
-said_is (ends.Divide offset n) steps s d s' d' answers = refl
-said_is (ends.PortFault n) steps s d s' d' answers = refl
+said_is _ steps s d s' d' answers = refl
 
 -- a run that was cut short stood at an instruction that a port refused
 reach_cut : (end : RunEnd) (n steps : ℕ) → n ≡ steps_shown end steps → n < steps → reach_of end steps ≡ n + 1
 reach_cut (ends.PortFault m) n steps is less = omega (arith, is)
-reach_cut ends.Limit n steps is less = absurd (omega (arith, is, less))
-reach_cut (ends.Halted m) n steps is less = absurd (omega (arith, is, less))
-reach_cut (ends.BadCode offset m) n steps is less = absurd (omega (arith, is, less))
-reach_cut (ends.Divide offset m) n steps is less = absurd (omega (arith, is, less))
+reach_cut _ n steps is less = absurd (omega (arith, is, less))
 
 -- one of which all steps show was not
 reach_all : (end : RunEnd) (steps : ℕ) (s : State) (d : Device) (s' : State) (d' : Device) → RunAnswers end steps s d s' d' → steps ≡ steps_shown end steps → reach_of end steps ≡ steps
 reach_all (ends.PortFault m) steps s d s' d' answers is = absurd (omega (arith, is, answers.0))
-reach_all ends.Limit steps s d s' d' answers is = refl
-reach_all (ends.Halted m) steps s d s' d' answers is = refl
-reach_all (ends.BadCode offset m) steps s d s' d' answers is = refl
-reach_all (ends.Divide offset m) steps s d s' d' answers is = refl
+reach_all _ steps s d s' d' answers is = refl
 
 reach_some : (end : RunEnd) (n steps : ℕ) → n ≡ steps_shown end steps → (reach_of end steps ≡ n) ⊎ (reach_of end steps ≡ n + 1)
 reach_some (ends.PortFault m) n steps is = inr (omega (arith, is))
-reach_some ends.Limit n steps is = inl (sym is)
-reach_some (ends.Halted m) n steps is = inl (sym is)
-reach_some (ends.BadCode offset m) n steps is = inl (sym is)
-reach_some (ends.Divide offset m) n steps is = inl (sym is)
+reach_some _ n steps is = inl (sym is)
 
 tells_at : (watch : Watch) (s : State) (input : List ℕ) (events : List Event) (text : List ℕ) (k n : ℕ) → FitsInput input events → Reports watch s events k text → k ≡ n → TellsOf watch s input n text
 tells_at watch s input events text k n fits reports is = (events, fits, subst (λ m. Reports watch s events m text) is reports)
@@ -67,11 +55,7 @@ module _ (watch : Watch) (end : RunEnd) (steps : ℕ) (s : State) (d : Device) (
   tells_run InputFault shows behind = at (shows.0.0.n + 1) (reach_cut end shows.0.0.n steps behind shows.0.0.within)
   tells_run TooLong shows behind = at (shows.0.n + 1) (reach_cut end shows.0.n steps behind shows.0.within)
   tells_run OutFault shows behind = elim (reach_some end shows.0 steps behind) [ inl is ↦ inl (at shows.0 is) | inr is ↦ inr (at (shows.0 + 1) is) ]
-  tells_run Ended shows behind = at steps (reach_all end steps s d s' d' answers behind)
-  tells_run (Stopped kind segment line) shows behind = at steps (reach_all end steps s d s' d' answers behind)
-  tells_run Unfinished shows behind = at steps (reach_all end steps s d s' d' answers behind)
-  tells_run (BadCode offset) shows behind = at steps (reach_all end steps s d s' d' answers behind)
-  tells_run (Divided offset) shows behind = at steps (reach_all end steps s d s' d' answers behind)
+  tells_run _ shows behind = at steps (reach_all end steps s d s' d' answers behind)
 
 pub told_run : (watch : Watch) (end : RunEnd) (shown : End) (status : ImageEnd) (steps : ℕ) (s : State) (d : Device) (s' : State) (d' : Device) (a b : Outside) (said said' : Said) (answers : RunAnswers end steps s d s' d')
     → Concludes end shown status s (said_of end steps s d s' d' answers) steps a b → Tells watch s (events_of end steps s d s' d' answers) (reach_of end steps) said.held said'.held → said'.faults ≡ said.faults
@@ -126,11 +110,7 @@ module _ (watch : Watch) (n steps : ℕ) (less : n < steps) (s : State) (d : Dev
   cut_at OutFault shows behind alike =
       let ran : Ran s input n a.left b.left false shows.3 = subst (λ m. Ran s input m a.left b.left false shows.3) behind (subst (λ x. Ran s input shows.0 a.left b.left x shows.3) alike.0 shows.4) in
       cut_by shows.3 ran alike.1 shows.5.0 shows.5.1 (λ none. absurd (none shows.8)) shows.6 shows.7
-  cut_at Ended shows behind alike = cut_by shows.0 shows.1 alike (length shows.0.output) (all_of shows.0 shows.3) (λ none. refl) shows.4 shows.5
-  cut_at (Stopped kind segment line) shows behind alike = cut_by shows.0 shows.1 alike (length shows.0.output) (all_of shows.0 shows.3) (λ none. refl) shows.4 shows.5
-  cut_at Unfinished shows behind alike = cut_by shows.0 shows.1 alike (length shows.0.output) (all_of shows.0 shows.3) (λ none. refl) shows.4 shows.5
-  cut_at (BadCode offset) shows behind alike = cut_by shows.0 shows.1 alike (length shows.0.output) (all_of shows.0 shows.3) (λ none. refl) shows.4 shows.5
-  cut_at (Divided offset) shows behind alike = cut_by shows.0 shows.1 alike (length shows.0.output) (all_of shows.0 shows.3) (λ none. refl) shows.4 shows.5
+  cut_at _ shows behind alike = cut_by shows.0 shows.1 alike (length shows.0.output) (all_of shows.0 shows.3) (λ none. refl) shows.4 shows.5
 
 pub cut_short : (watch : Watch) (status : ImageEnd) (n steps : ℕ) (s : State) (d : Device) (s' : State) (d' : Device) (a b : Outside) (said said' : Said) → n < steps → (went : Went n s d s' d') → Concludes ends.Limit Running status s went.events n a b
     → TellsPart watch s s' went.events n said.held said'.held → said.faults ≤ said'.faults → Rose said.faults said'.faults → WatchedTells watch SayFault s steps a b said said'

@@ -1,6 +1,7 @@
 mod Chains
 mod Expand
 pub mod Rules
+pub mod Fronts
 pub mod Labels
 pub mod SimpleLabels
 pub mod Elems

@@ -13,7 +13,7 @@ use Rattle.cw_grammar.specs.Derives.{Derives, is_then, is_left, is_right, is_end
 use Rattle.cw_written.specs.Alike.{IsAlike}
 use Rattle.cw_written.specs.Written.{labelled_simple as written_simple}
 use Rattle.cw_written.proofs.Rules.{simple_alike}
-use Rattle.cw_written.proofs.Labels.{label}
+use Rattle.cw_written.proofs.Fronts.{label, MayHaveLabels, in_labels, behind_labels}
 
 abbrev Pair : Sort
 Pair = a_pair (a_list a_name) a_simple
@@ -80,29 +80,19 @@ front_bare n p (of_left (of_map (of_first q))) = of_again (of_left (of_map (of_f
 front_bare n p (of_left (of_map (of_second d q))) = of_again (of_left (of_map (of_second d (of_right (of_map q)))))
 front_bare n p (of_right q) = of_again (of_right (of_map q))
 
-front_labelled : (n : ℕ) (p : Bool) (a c v : List Item) (t : Item) (x : RawName) → Derives n a_name name a x → Derives n a_token (symbol symbols.Colon) c t → IsViablePrefix n Pair (again (labelled_simple p)) v → IsViablePrefix n Pair (again (labelled_simple p)) ((a ++ c) ++ v)
+may_have_labels : (n : ℕ) (p : Bool) → MayHaveLabels n (λ (w : List Item). IsViablePrefix n Pair (again (labelled_simple p)) w)
 unfolding again_rule simple
-front_labelled n p a c v t x d e k =
-    subst (λ (z : List Item). IsViablePrefix n Pair (again (labelled_simple p)) z) (sym (append_assoc a c v)) (of_again (of_left (of_map (of_second d (of_left (of_map (of_map (of_second e k))))))))
-
-front_labels : (n : ℕ) (p : Bool) {w : List Item} → IsViablePrefix n (a_list a_name) (many label) w → IsViablePrefix n Pair (again (labelled_simple p)) w
-unfolding again_rule simple
-front_labels n p no_token = no_token
-front_labels n p (of_item no_token) = no_token
-front_labels n p (of_item (of_map no_token)) = no_token
-front_labels n p (of_item (of_map (of_first q))) = of_again (of_left (of_map (of_first q)))
-front_labels n p (of_item (of_map (of_second d e))) = of_again (of_left (of_map (of_second d (of_left (of_map (of_map (of_first e)))))))
-front_labels n p (of_more {v = v} (is_map (is_then {u = a} {v = c} {x = x} {y = t} d e)) q) = front_labelled n p a c v t x d e (front_labels n p q)
-
-front_after : (n : ℕ) (p : Bool) {u v : List Item} {ns : List RawName} → Derives n (a_list a_name) (many label) u ns → IsViablePrefix n a_simple (unlabelled_simple p) v → IsViablePrefix n Pair (again (labelled_simple p)) (u ++ v)
-front_after n p is_end q = front_bare n p q
-front_after n p {v = v} (is_more {v = w} (is_map (is_then {u = a} {v = c} {x = x} {y = t} d e)) ls) q =
-    subst (λ (z : List Item). IsViablePrefix n Pair (again (labelled_simple p)) z) (sym (append_assoc (a ++ c) w v)) (front_labelled n p a c (w ++ v) t x d e (front_after n p ls q))
+may_have_labels n p = record {
+  nothing = no_token;
+  in_name = λ q. of_again (of_left (of_map (of_first q)));
+  in_colon = λ d e. of_again (of_left (of_map (of_second d (of_left (of_map (of_map (of_first e)))))));
+  labelled = λ d e k. of_again (of_left (of_map (of_second d (of_left (of_map (of_map (of_second e k)))))));
+}
 
 front_back : (n : ℕ) (p : Bool) {w : List Item} → IsViablePrefix n Pair (repeated p) w → IsViablePrefix n Pair (again (labelled_simple p)) w
 front_back n p no_token = no_token
-front_back n p (of_first q) = front_labels n p q
-front_back n p (of_second ls q) = front_after n p ls q
+front_back n p (of_first q) = in_labels (may_have_labels n p) q
+front_back n p (of_second ls q) = behind_labels (may_have_labels n p) ls (front_bare n p q)
 
 -- ---- the statement with its alternatives written out
 

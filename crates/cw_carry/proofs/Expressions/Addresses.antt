@@ -26,12 +26,13 @@ use Rattle.cw_gen_expr.specs.ReferenceExpressions.{at_line, saved, item_order, i
 use Rattle.cw_gen_expr.specs.KnownValues.{all_inside}
 use Rattle.cw_gen_expr.specs.BuiltExpressions.{whole, built_value, built_reference, is_spot}
 use Rattle.cw_gen_expr.proofs.Layers.{indexed_layer, built_spot_layer, spot-built, reference-built, reference_size, reference-size, spot-size, spot_size_layer, expression_size}
+use Rattle.cw_safety.proofs.Truth.{both}
 use Rattle.cw_carry.proofs.Expressions.Standing.{Stands, Made, saved_made, one_made}
-use Rattle.cw_carry.proofs.Expressions.Effects.{IsPossible, is_silent, all_silent, total_weight, through_all, loaded_through, OnLine}
+use Rattle.cw_carry.proofs.Expressions.Effects.{IsPossible, is_silent, all_silent, total_weight, through_all, loaded_through, OnLine, same_change}
 use Rattle.cw_carry.proofs.Expressions.Carried.{Ready, OperationFits, operation_orders, gives_word, takes_index}
 use Rattle.cw_carry.proofs.Expressions.Operations.{FormsOf, operation-runs, form-runs, behind_item}
 use Rattle.cw_carry.proofs.Expressions.Stepping.{Compiled, source, target, IsSane, work_size, silent}
-use Rattle.cw_carry.proofs.Expressions.Moments.{both, light_order, item_silent, item_light, item_loads, item_tells, IsLight, silent_and, Moment, here_in, layout, scope, has_words, code, marks, At, Leads_to, Close, at_close, close_to, past_save, Steps, next, run, Facts, becomes, done_by}
+use Rattle.cw_carry.proofs.Expressions.Moments.{light_order, item_silent, item_light, item_loads, item_tells, IsLight, silent_and, Moment, here_in, layout, scope, has_words, code, marks, At, Leads_to, Close, at_close, close_to, past_save, Steps, next, run, Facts, becomes, done_by}
 
 -- ---- operations
 
@@ -172,21 +173,13 @@ IsChange (Changed v) = Unit {0}
 IsChange (Refused kind) = ⊥
 IsChange Impossible = ⊥
 
-abbrev changed_or : Words → Outcome → Words
-changed_or w (Changed v) = v
-changed_or w (Refused kind) = w
-changed_or w Impossible = w
-
-pub same_words : (v w : Words) → Changed v ≡ Changed w → v ≡ w
-same_words v w e = ap (changed_or v) e
-
 module _ (area : ℕ) where
   is_address : (z : ℤ) (rest : List Operand) → is_below z area ≡ true → Ready area true (Word z ∷ rest)
   is_address (pos n) rest h = (n, rest, refl, ltb-true n area h)
   is_address (negsuc n) rest h = absurd (false≢true h)
 
   put_ready : (b : Bool) (z : ℤ) (w v : Words) → is_below z area ≡ b → put_if b AddressRange z w ≡ Changed v → Ready area true v.operands
-  put_ready true z w v h e = subst (λ x. Ready area true x.operands) (same_words (put z w) v e) (is_address z w.operands h)
+  put_ready true z w v h e = subst (λ x. Ready area true x.operands) (same_change (put z w) v e) (is_address z w.operands h)
   put_ready false z w v h e = absurd (subst IsChange (sym e) tt)
 
   fitted : (b : Bool) (o : Outcome) (v : Words) → fitting b o ≡ Changed v → o ≡ Changed v
@@ -291,7 +284,7 @@ module _ (c : Compiled) (t : Moment c) where
       done_by c t (Address a line k) k line q n false true (item_order (layout c t) i 0 ∷ []) w true (Changed (put (pos at) w)) stands (form_light (layout c t) line t.unit.bounds (layer.Direct i)) facts
       (addresses a (layer.Direct i) line k w is)
       (λ ok. behind_item (target c) (here_in c t) t.calls_below (source c) t.segment t.acts (layout c t) (has_words c t) t.in_words t.stand i 1 [] w b (let z : 0 < 1 = omega arith in z))
-      (λ v e. subst (λ z. Ready c.limits.area true z.operands) (same_words (put (pos at) w) v e) (at, w.operands, refl, (let inside = t.stand.within i 0 1 b (omega arith) in let z : at < c.limits.area = omega (arith, inside) in z)))
+      (λ v e. subst (λ z. Ready c.limits.area true z.operands) (same_change (put (pos at) w) v e) (at, w.operands, refl, (let inside = t.stand.within i 0 1 b (omega arith) in let z : at < c.limits.area = omega (arith, inside) in z)))
       carried
   addressed a (layer.Through i) line k q n free last w is b made carried facts =
       let x : Spot-F Arg Cond Expr Spot Ref = layer.Through i in

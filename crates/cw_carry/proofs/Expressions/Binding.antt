@@ -15,6 +15,7 @@ use Rattle.cw_order.specs.OrderState.{OrderActivation, operand_words, argument_b
 use Rattle.cw_order.specs.Loading.{loaded_after}
 use Rattle.cw_order.specs.OrderCosts.{weight_of}
 use Rattle.cw_gen_expr.specs.ReferenceExpressions.{parameter_words, argument_words, control_place_from, control_place}
+use Rattle.cw_safety.proofs.Calling.{reversed-twice}
 use Rattle.cw_carry.proofs.Expressions.Effects.{through_all, loaded_through, TellsLine, OnLine, then_do, is_silent, all_silent, total_weight, growth, total_growth, effect, run_orders}
 use Rattle.cw_carry.proofs.Expressions.Operations.{words}
 use Rattle.cw_carry.proofs.Expressions.Moments.{silent_and}
@@ -100,12 +101,8 @@ pub reversed_words : (xs ys : List Operand) → operand_words (reversed_onto xs 
 reversed_words [] ys = let e : operand_words ys ≡ 0 + operand_words ys = omega arith in e
 reversed_words (x ∷ xs) ys = omega (arith, reversed_words xs (x ∷ ys), one_words x xs, one_words x ys)
 
-reversed_twice : (xs ys zs : List Operand) → reversed_onto (reversed_onto xs ys) zs ≡ reversed_onto ys (xs ++ zs)
-reversed_twice [] ys zs = refl
-reversed_twice (x ∷ xs) ys zs = reversed_twice xs (x ∷ ys) zs
-
 pub reversed_back : (xs : List Operand) → reversed_onto (reversed_onto xs []) [] ≡ xs
-reversed_back xs = reversed_twice xs [] [] ∙ append-nil xs
+reversed_back xs = reversed-twice xs [] [] ∙ append-nil xs
 
 -- the orders of a body's entry put the words where the source puts them
 module _ (p : OrderProgram) (g : ℕ) (bs : List OrderActivation) (y : Layout) (V : ℕ → Type 0) (f : ℕ → ℕ) (arguments : List Operand) (binds : (k i : ℕ) (z : ℤ) (w : Words) → V i → argument_behind k arguments ≡ Some (Word z) → effect p g bs (bound_order y k i) w ≡ Changed (with_memory w (set w.memory (f i) z))) where
@@ -167,9 +164,7 @@ bound_light y k i = of_family (slice_get y.families (slice_index_or y.homes i (0
   where
     of_sort : (x : Sort) (f o : ℕ) → IsTrue (is_silent (bound_by k x f o)) × (weight_of (bound_by k x f o) ≤ 4)
     of_sort (sort.Common d) f o = (refl, omega arith)
-    of_sort sort.Own f o = (refl, omega arith)
-    of_sort (sort.Absolute a) f o = (refl, omega arith)
-    of_sort (sort.Frame b) f o = (refl, omega arith)
+    of_sort _ f o = (refl, omega arith)
 
     of_family : (x : Option Family) (f o : ℕ) → IsTrue (is_silent (bound_in k x f o)) × (weight_of (bound_in k x f o) ≤ 4)
     of_family None f o = (refl, omega arith)
@@ -180,9 +175,7 @@ bound_flat y k i = of_family (slice_get y.families (slice_index_or y.homes i (0,
   where
     of_sort : (x : Sort) (f o : ℕ) → growth (bound_by k x f o) ≡ 0
     of_sort (sort.Common d) f o = refl
-    of_sort sort.Own f o = refl
-    of_sort (sort.Absolute a) f o = refl
-    of_sort (sort.Frame b) f o = refl
+    of_sort _ f o = refl
 
     of_family : (x : Option Family) (f o : ℕ) → growth (bound_in k x f o) ≡ 0
     of_family None f o = refl
@@ -229,9 +222,7 @@ bound_free line y k i = of_family (slice_get y.families (slice_index_or y.homes 
   where
     of_sort : (x : Sort) (f o : ℕ) → (loaded_after (bound_by k x f o) false ≡ Some false) × TellsLine line (bound_by k x f o)
     of_sort (sort.Common d) f o = (refl, tt)
-    of_sort sort.Own f o = (refl, tt)
-    of_sort (sort.Absolute a) f o = (refl, tt)
-    of_sort (sort.Frame b) f o = (refl, tt)
+    of_sort _ f o = (refl, tt)
 
     of_family : (x : Option Family) (f o : ℕ) → (loaded_after (bound_in k x f o) false ≡ Some false) × TellsLine line (bound_in k x f o)
     of_family None f o = (refl, tt)

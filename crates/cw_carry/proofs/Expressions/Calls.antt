@@ -18,17 +18,17 @@ use Rattle.cw_unit.specs.Step.{Bound, bind_all, first_operands, begun, enter_fra
 use Rattle.cw_unit.specs.Behaviour.{shown}
 use Rattle.cw_order.specs.declared.order.Order.{Order}
 use Rattle.cw_order.specs.declared.order.Order.TheVariants as order
-use Rattle.cw_order.specs.OrderProgram.{ProcedureEntry, mark_in, place_of, procedure_at as order_procedure, procedure_in as order_procedure_in}
+use Rattle.cw_order.specs.OrderProgram.{mark_in, place_of, procedure_at as order_procedure, procedure_in as order_procedure_in}
 use Rattle.cw_order.specs.OrderState.{OrderActivation, OrderState, at as state, operand_words, stack_words, frame_end, argument_behind}
 use Rattle.cw_order.specs.Loading.{loaded_after}
 use Rattle.cw_order.specs.OrderActions.{action_of}
 use Rattle.cw_order.specs.OrderCosts.{weight_of, weight_at}
 use Rattle.cw_order.specs.OrderMachine.{act, carry_out, call, called, call_at, call_entry, enter, enter_with}
 use Rattle.cw_order.specs.Starting.{started_by}
-use Rattle.cw_gen_expr.specs.ReferenceExpressions.{argument_words, call_order}
+use Rattle.cw_gen_expr.specs.ReferenceExpressions.{argument_words}
 use Rattle.cw_gen_expr.specs.UnitTables.{tables_of, procedure_mark, procedure_entry}
 use Rattle.cw_carry.proofs.Expressions.Standing.{Stands}
-use Rattle.cw_carry.proofs.Expressions.Effects.{BeginsNone, effect, all_silent, total_weight, total_growth, run_orders, run_through}
+use Rattle.cw_carry.proofs.Expressions.Effects.{BeginsNone, effect, total_weight, total_growth, run_through}
 use Rattle.cw_carry.proofs.Expressions.Carried.{here, LeavesAt, after_call, going, over}
 use Rattle.cw_gen_unit.specs.Endings.{comes_to_end}
 use Rattle.cw_gen_expr.specs.ReferenceEntries.{parameters_in, parameters_of}
@@ -40,7 +40,7 @@ use Rattle.cw_carry.proofs.Expressions.Binding.{all_bound, bind_light, bind_flat
 use Rattle.cw_gen_expr.specs.NamedItems.{ItemsFit}
 use Rattle.cw_gen_expr.specs.ReferenceEntries.{bound_order, bind_orders}
 
-layout_is : (us : List SourceUnit) (g : ℕ) (u : SourceUnit) → slice_get us g ≡ Some u → slice_index_or (map layout_of us) g no_layout ≡ layout_of u
+pub layout_is : (us : List SourceUnit) (g : ℕ) (u : SourceUnit) → slice_get us g ≡ Some u → slice_index_or (map layout_of us) g no_layout ≡ layout_of u
 layout_is [] g u h = absurd (none-some u h)
 layout_is (v ∷ us) zero u h = ap layout_of (same_Some v u h)
 layout_is (v ∷ us) (suc g) u h = layout_is us g u h
@@ -88,9 +88,6 @@ module _ (c : Compiled) where
       ap (λ x. order_procedure_in x p) (slice_get-map (tables_of c.units) c.units h ∙ ap (option_map (tables_of c.units)) is) ∙ ap (option_map (procedure_entry v p)) h'
 
   module _ (t : Moment c) (tg : Target) (line : ℕ) (wanted : Bool) (k : Work) (q n : ℕ) (w : Words) (h p : ℕ) (v : SourceUnit) (proc : Proc) (o : Order) (v_is : slice_get c.units h ≡ Some v) (proc_is : slice_get v.procs p ≡ Some proc) (stands : ProcedureAt h v p proc) (call_here : slice_get (code c t) q ≡ Some o) (turn : loaded_after o false ≡ Some false) (cheap : weight_of o ≤ 16) (some : 0 < weight_of o) (none_begins : BeginsNone o) (calls_it : act (target c) (action_of (target c) (here_in c t) t.calls_below o) (here_in c t) q false t.calls_below w ≡ call (target c) line (Some (ProcedureControl h p)) (here_in c t) q false t.calls_below w) (goes_in : next c t (Enter tg line wanted k) w ≡ enter_step (source c) (Calling h p) t.segment line wanted (Enter tg line wanted k) k t.acts w) (behind : Stands (code c t) (q + 1) (after_call (target_of.Own 0) wanted) n) (carried : Leads_to c t n wanted false k) (facts : Facts c t (Enter tg line wanted k) w) (enough : length proc.params ≤ length w.operands) (binds : frame_top (source c) t.acts + frame_size_of (source c) h p ≤ c.limits.area → (b : OrderActivation) (j i : ℕ) (z : ℤ) (x : Words) → b.frame_base ≡ frame_top (source c) t.acts → IsTrue (c.has_words h v (Some p) i 1) → argument_behind j b.arguments ≡ Some (Word z) → effect (target c) h (b ∷ t.calls_below) (bound_order (layout_of v) j i) x ≡ Changed (with_memory x (set x.memory (item_address (source c) h i (frame_top (source c) t.acts)) z))) where
-    arguments : ℕ
-    arguments = length proc.params
-
     abbrev now : Work
     now = Enter tg line wanted k
 

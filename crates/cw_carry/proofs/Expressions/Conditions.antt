@@ -26,10 +26,11 @@ use Rattle.cw_gen_expr.specs.ReferenceExpressions.{at_line, two_values, comparat
 use Rattle.cw_gen_expr.specs.BuiltExpressions.{whole, built_value, is_condition, most_levels}
 use Rattle.cw_gen_expr.proofs.Layers.{condition_layer, condition-made, built_condition_layer, condition-built, expression_size, condition_size, condition-size, condition_size_layer}
 use Rattle.cw_gen_expr.proofs.Scales.{natural-is, built-natural-is}
+use Rattle.cw_safety.proofs.Truth.{both}
 use Rattle.cw_carry.proofs.Expressions.Standing.{Made, both_made, end_made}
 use Rattle.cw_carry.proofs.Expressions.Carried.{Leads, here, past, Via, Pick}
 use Rattle.cw_carry.proofs.Expressions.Stepping.{Compiled, source, target, IsSane, mark_here}
-use Rattle.cw_carry.proofs.Expressions.Moments.{both, Moment, here_in, scope, has_words, code, marks, At, Leads_to, Steps, next, becomes, acts_once}
+use Rattle.cw_carry.proofs.Expressions.Moments.{Moment, here_in, scope, has_words, code, marks, At, Leads_to, Steps, next, becomes, acts_once}
 use Rattle.cw_carry.proofs.Expressions.Values.{two_at}
 
 -- ---- comparisons

@@ -27,6 +27,7 @@ use Rattle.cw_order.specs.OrderChanges.{from_base, bind, put_address, put_index,
 use Rattle.cw_order.specs.OrderCosts.{weight_of, weight_at}
 use Rattle.cw_order.specs.OrderMachine.{go_on, after, unrefused, act, carry_with, carry_out, order_machine}
 use Rattle.cw_order.specs.Starting.{started_by, starts}
+use Rattle.cw_safety.proofs.Truth.{both}
 use Rattle.cw_carry.proofs.Expressions.Standing.{Stands}
 
 -- ---- outcomes
@@ -147,7 +148,6 @@ total_growth (o ∷ os) = growth o + total_growth os
 
 growth_small : (o : Order) → growth o ≤ 2
 growth_small (order.Bind k f o) = omega arith
-growth_small (order.BindFrame k o) = omega arith
 growth_small _ = omega arith
 
 pub growth_within : (os : List Order) → total_growth os ≤ 2 * length os
@@ -159,10 +159,6 @@ growth_within (o ∷ os) =
 abbrev pub total_weight : List Order → ℕ
 total_weight [] = 0
 total_weight (o ∷ os) = weight_of o + total_weight os
-
-both_true : (a b : Bool) → IsTrue (a && b) → IsTrue a × IsTrue b
-both_true true b h = (refl, h)
-both_true false b h = absurd (false≢true h)
 
 pub costs_some : (o : Order) → IsTrue (is_silent o) → 0 < weight_of o
 costs_some order.WriteByte h = absurd (false≢true h)
@@ -430,8 +426,7 @@ module _ (p : OrderProgram) (g : ℕ) (acts : List OrderActivation) where
 
   no_stop : (n k : ℕ) (o : Outcome) (q : ℕ) (l : Bool) (w : Words) → after p.room n (unrefused o) g q l acts w ≡ after p.room k (unrefused o) g q l acts w
   no_stop n k (Changed v) q l w = refl
-  no_stop n k (Refused kind) q l w = refl
-  no_stop n k Impossible q l w = refl
+  no_stop n k _ q l w = refl
 
   acts_as : (a : Action) (line q : ℕ) (l : Bool) (w : Words) → Tells line a → stack_words w.operands acts ≤ p.room → IsPossible (word_effect p.limits.area a w) → act p a g q l acts w ≡ after p.room line (word_effect p.limits.area a w) g q l acts w
   acts_as (Perform n op) line q l w tells room h = ap (λ k. after p.room k (perform p.limits.area op w) g q l acts w) tells
@@ -502,6 +497,6 @@ module _ (p : OrderProgram) (g : ℕ) (acts : List OrderActivation) where
     pub run_through : (os : List Order) (q next : ℕ) (l m : Bool) (w : Words) → Stands code q os next → IsTrue (all_silent os) → OnLine line os → loaded_through os l ≡ Some m → total_growth os + stack_words w.operands acts ≤ p.room → Ran line q next l m os w (run_orders os w)
     run_through [] q next l m w stands s tells turns room = (stay (ap (λ x. state g x l acts w Running) stands ∙ ap (λ x. state g next x acts w Running) (same_Some l m turns)) refl, refl)
     run_through (o ∷ os) q next l m w (h, stands) s tells turns room =
-        let silent = both_true (is_silent o) (all_silent os) s in
+        let silent = both (is_silent o) (all_silent os) s in
         let turn = turned m (loaded_after o l) os turns in
         ran_one o os q next l turn.0 m w (effect o w) (begins_none o silent.0) (at_code q o h) tells.0 turn.1 refl (costs_some o silent.0) (fine_order o w silent.0) room (λ v e. grows o w v silent.0 e) (λ v small. run_through os (q + 1) next turn.0 m v stands silent.1 tells.1 turn.2 small)

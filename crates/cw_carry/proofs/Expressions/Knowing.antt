@@ -29,11 +29,12 @@ use Rattle.cw_gen_expr.specs.BuiltExpressions.{whole, most_levels, built_referen
 use Rattle.cw_gen_expr.proofs.Layers.{value-made, computed_layer, known_layer, word_item, word_layer, indexed_layer, spot-made, reference-made, built_value_layer, value-built, built_spot_layer, expression_size, expression_size_layer, expression-size}
 use Rattle.cw_gen_expr.proofs.Scales.{operand-is}
 use Rattle.cw_order.specs.OrderCosts.{weight_of}
+use Rattle.cw_safety.proofs.Truth.{both}
 use Rattle.cw_carry.proofs.Expressions.Standing.{Made}
 use Rattle.cw_carry.proofs.Expressions.Operations.{then_changed}
 use Rattle.cw_carry.proofs.Expressions.Carried.{Via}
 use Rattle.cw_carry.proofs.Expressions.Stepping.{Compiled, A, source}
-use Rattle.cw_carry.proofs.Expressions.Moments.{both, IsLight, light_order, Moment, scope, layout, has_words, code, marks, At, Leads_to, Comes, Goes, config, Facts, leaps_by, item_light, item_silent, item_loads, item_tells}
+use Rattle.cw_carry.proofs.Expressions.Moments.{IsLight, light_order, Moment, scope, layout, has_words, code, marks, At, Leads_to, Comes, Goes, config, Facts, leaps_by, item_light, item_silent, item_loads, item_tells}
 use Rattle.cw_carry.proofs.Expressions.Addresses.{built_spot, address_follows, addresses}
 use Rattle.cw_carry.proofs.Expressions.Values.{number-is, constant-is, narrowed, at_most, built_of, wide, operand_built, scale_small, evaluates, evaluation_follows}
 use Rattle.cw_carry.proofs.Expressions.Results.{of_one, of_two, sum_fits, difference_fits, negative_fits, rescaled_fits, product_fits, quotient_fits, sum_put, difference_put, negative_put, rescaled_put, product_put, quotient_put, combined_put, bits_put, compared_put, from_above, of_count, inside_is, element_found, entry_found, element_of_two_found}

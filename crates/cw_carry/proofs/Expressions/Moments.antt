@@ -36,10 +36,6 @@ use Rattle.cw_gen_expr.specs.ReferenceEntries.{scope_of}
 use Rattle.cw_carry.proofs.Expressions.Operations.{ItemsStand}
 use Rattle.cw_carry.proofs.Expressions.Stepping.{Quiet, Compiled, source, target, A, B, AllCalls, work_size, Carried, Leading, From, FromNoting, IsSane, Leaps, Seen, order_here, lands, silent, straight, leapt}
 
-pub both : (a b : Bool) → IsTrue (a && b) → IsTrue a × IsTrue b
-both true b h = (refl, h)
-both false b h = absurd (false≢true h)
-
 pub a_level : (levels : ℕ) (p : ℕ → Bool) → IsTrue (within levels p) → (m : ℕ) × (levels ≡ suc m) × IsTrue (p m)
 a_level zero p h = absurd (false≢true h)
 a_level (suc m) p h = (m, refl, h)
@@ -51,9 +47,7 @@ item_silent y i n = of_family (slice_get y.families (slice_index_or y.homes i (0
   where
     of_sort : (x : Sort) (f o : ℕ) → IsTrue (is_silent (placed_by x f o))
     of_sort (sort.Common d) f o = refl
-    of_sort sort.Own f o = refl
-    of_sort (sort.Absolute a) f o = refl
-    of_sort (sort.Frame b) f o = refl
+    of_sort _ f o = refl
 
     of_family : (x : Option Family) (f o : ℕ) → IsTrue (is_silent (placed_in x f o))
     of_family None f o = refl
@@ -64,9 +58,7 @@ item_light y i n = of_family (slice_get y.families (slice_index_or y.homes i (0,
   where
     of_sort : (x : Sort) (f o : ℕ) → (0 < weight_of (placed_by x f o)) × (weight_of (placed_by x f o) ≤ 4)
     of_sort (sort.Common d) f o = (omega arith, omega arith)
-    of_sort sort.Own f o = (omega arith, omega arith)
-    of_sort (sort.Absolute a) f o = (omega arith, omega arith)
-    of_sort (sort.Frame b) f o = (omega arith, omega arith)
+    of_sort _ f o = (omega arith, omega arith)
 
     of_family : (x : Option Family) (f o : ℕ) → (0 < weight_of (placed_in x f o)) × (weight_of (placed_in x f o) ≤ 4)
     of_family None f o = (omega arith, omega arith)
@@ -78,9 +70,7 @@ item_loads y i n = of_family (slice_get y.families (slice_index_or y.homes i (0,
   where
     of_sort : (x : Sort) (f o : ℕ) → loaded_after (placed_by x f o) false ≡ Some true
     of_sort (sort.Common d) f o = refl
-    of_sort sort.Own f o = refl
-    of_sort (sort.Absolute a) f o = refl
-    of_sort (sort.Frame b) f o = refl
+    of_sort _ f o = refl
 
     of_family : (x : Option Family) (f o : ℕ) → loaded_after (placed_in x f o) false ≡ Some true
     of_family None f o = refl
@@ -91,9 +81,7 @@ item_tells line y i n = of_family (slice_get y.families (slice_index_or y.homes 
   where
     of_sort : (x : Sort) (f o : ℕ) → TellsLine line (placed_by x f o)
     of_sort (sort.Common d) f o = tt
-    of_sort sort.Own f o = tt
-    of_sort (sort.Absolute a) f o = tt
-    of_sort (sort.Frame b) f o = tt
+    of_sort _ f o = tt
 
     of_family : (x : Option Family) (f o : ℕ) → TellsLine line (placed_in x f o)
     of_family None f o = tt

@@ -25,8 +25,8 @@ use Rattle.cw_unit.specs.declared.unit.Arg.TheOpen as layer
 use Rattle.cw_unit.specs.declared.unit.Arg.TheOpen.{Spot-F}
 use Rattle.cw_unit.specs.Program.{Program}
 use Rattle.cw_unit.specs.Stop.{Overflow, AddressRange}
-use Rattle.cw_unit.specs.Words.{Control, Operand, Word, Held, Words, Outcome, Changed, Refused, Impossible, on_one, on_two, logic_word, with_operands, with_memory, is_below, put, put_if, put_value, word_at, through, field_value, stored_value}
-use Rattle.cw_unit.specs.Operation.{Operation, Constant, Rescale, Fetch, Store, StoreBits, Add, Subtract, Negate, Multiply, Divide, Combine, Extract, InBounds, Form, Addressing, Known, Taken, Indexed, Indexed2, Scaled, Keep, SetVariable, AddStep, ReadByte, WriteByte, fitting, address_of, form_address, perform}
+use Rattle.cw_unit.specs.Words.{Control, Operand, Word, Held, Words, Outcome, Changed, on_one, on_two, logic_word, with_memory, is_below, put, put_if, put_value, word_at, through, field_value, stored_value}
+use Rattle.cw_unit.specs.Operation.{Operation, Rescale, Fetch, Store, StoreBits, Add, Subtract, Negate, Multiply, Divide, Combine, Extract, InBounds, Addressing, Taken, Indexed, Indexed2, Scaled, Keep, SetVariable, AddStep, form_address, perform}
 use Rattle.cw_unit.specs.Configuration.{Activation, address_at}
 use Rattle.cw_unit.specs.Step.{held, table_base, addressing_of}
 use Rattle.cw_order.specs.declared.order.Order.{Order}
@@ -39,6 +39,7 @@ use Rattle.cw_order.specs.FittingWords.{OperandFits, WordsFit}
 use Rattle.cw_gen_expr.specs.ReferenceExpressions.{item_order, item_span, table_orders, table_span, row_order, form_orders, narrow}
 use Rattle.cw_gen_expr.specs.KnownValues.{of_index, word_inside, from_lower, element_of_two_word, all_inside}
 use Rattle.cw_safety.specs.Coherent.{LieBetween}
+use Rattle.cw_safety.proofs.Truth.{both}
 use Rattle.cw_gen_expr.specs.BuiltExpressions.{whole, built_value}
 use Rattle.cw_gen_expr.proofs.Layers.{built_spot_layer}
 use Rattle.cw_gen_unit.specs.SimpleLoops.{are_apart}
@@ -70,17 +71,12 @@ rescaled-same x f =
 
 pub then_changed : (o : Outcome) → then_do o (λ v. Changed v) ≡ o
 then_changed (Changed v) = refl
-then_changed (Refused kind) = refl
-then_changed Impossible = refl
+then_changed _ = refl
 
 -- where an address of two indexes is formed without a test, they lie between their bounds
 abbrev pub FormsOf : (compared : Bool) → Spot-F Arg Cond Expr Spot Ref → List Operand → Type 0
 FormsOf true (layer.Two i l1 u1 l2 u2 n e g) hand = LieBetween l1 u1 l2 u2 hand
 FormsOf _ _ hand = Unit {0}
-
-both_true : (a b : Bool) → IsTrue (a && b) → IsTrue a × IsTrue b
-both_true true b h = (refl, h)
-both_true false b h = absurd (false≢true h)
 
 -- numbers that are in order are so far apart
 apart_by : (a b : ℤ) → IsTrue (int_le a b) → (n : ℕ) × (b -ℤ a ≡ pos n)
@@ -92,7 +88,7 @@ apart_by (negsuc m) (negsuc n) h = (m - n, grind (arith, ints, nat_tests))
 -- an index between bounds is above the lower one by no more than the upper one
 index_within : (lower upper z : ℤ) (last : ℕ) {i : ℕ} → Above true lower upper (Some upper) i → i ≡ last → IsTrue (int_le lower z && int_le z upper) → (n : ℕ) × (z -ℤ lower ≡ pos n) × (n ≤ last)
 index_within lower upper z last a same between =
-    let parts = both_true (int_le lower z) (int_le z upper) between in
+    let parts = both (int_le lower z) (int_le z upper) between in
     let below = apart_by lower z parts.0 in
     let above = apart_by z upper parts.1 in
     let at : a.index ≡ upper = sym (same_Some upper a.index a.is) in
@@ -108,16 +104,12 @@ a_word (Some n) h = (n, refl)
 
 -- what never stops
 pub plain_one : (f : ℤ → Words → Words) (hand : List Operand) (w : Words) → unrefused (on_one (λ x v. Changed (f x v)) hand w) ≡ on_one (λ x v. Changed (f x v)) hand w
-plain_one f [] w = refl
-plain_one f (Held c ∷ rest) w = refl
 plain_one f (Word x ∷ rest) w = refl
+plain_one f _ w = refl
 
 pub plain_two : (f : ℤ → ℤ → Words → Words) (hand : List Operand) (w : Words) → unrefused (on_two (λ x y v. Changed (f x y v)) hand w) ≡ on_two (λ x y v. Changed (f x y v)) hand w
-plain_two f [] w = refl
-plain_two f (Held c ∷ rest) w = refl
-plain_two f (Word y ∷ []) w = refl
-plain_two f (Word y ∷ Held c ∷ rest) w = refl
 plain_two f (Word y ∷ Word x ∷ rest) w = refl
+plain_two f _ w = refl
 
 pub plain_held : (x : Option Control) (w : Words) → unrefused (held x w) ≡ held x w
 plain_held None w = refl
@@ -290,7 +282,7 @@ module _ (p : OrderProgram) (g : ℕ) (bs : List OrderActivation) where
         row-runs line compared true hand memory input output is lie =
             let w = words hand memory input output in
             let o = order.ElementInside l1 l2 n (item_span y i) in
-            let known = both_true compared (is_some (element_of_two_word (item_span y i) n (from_lower true l1 u1 (Some u1)) (from_lower true l2 u2 (Some u2)))) is in
+            let known = both compared (is_some (element_of_two_word (item_span y i) n (from_lower true l1 u1 (Some u1)) (from_lower true l2 u2 (Some u2)))) is in
             behind_item i 1 (o ∷ []) w has some ∙ one o (put (pos (address i)) w) ∙ ap unrefused (based (λ base. Indexed2 base l1 l2 n) (pos (address i)) w)
             ∙ never_refused hand memory input output known.1 (lie known.0)
 
@@ -304,25 +296,25 @@ module _ (p : OrderProgram) (g : ℕ) (bs : List OrderActivation) where
       form-runs compared line u (layer.One i l h e) hand memory input output found b =
           let w = words hand memory input output in
           let o = order.Element l (item_span y i) line in
-          behind_item i 1 (o ∷ []) w (both_true (has_words i 1) (whole (built_value u has_words e) 0) b).0 some ∙ one o (put (pos (address i)) w) ∙ based (λ base. Indexed base l) (pos (address i)) w
+          behind_item i 1 (o ∷ []) w (both (has_words i 1) (whole (built_value u has_words e) 0) b).0 some ∙ one o (put (pos (address i)) w) ∙ based (λ base. Indexed base l) (pos (address i)) w
       form-runs compared line u (layer.Two i l1 h1 l2 h2 n e f) hand memory input output found b =
-          row-runs i n l1 h1 l2 h2 (both_true (has_words i 1) (whole (built_value u has_words e) 0 && whole (built_value u has_words f) 0) b).0 line compared (all_inside compared (item_span y i) l1 h1 l2 h2 n) hand memory input output refl
+          row-runs i n l1 h1 l2 h2 (both (has_words i 1) (whole (built_value u has_words e) 0 && whole (built_value u has_words f) 0) b).0 line compared (all_inside compared (item_span y i) l1 h1 l2 h2 n) hand memory input output refl
           (λ same. subst (λ c. FormsOf c (layer.Two i l1 h1 l2 h2 n e f) hand) same found)
       form-runs compared line u (layer.ParamArray i e) hand memory input output found b =
           let w = words hand memory input output in
           let o = order.Element (pos 0) 0 line in
-          let h = (both_true (has_words i 1) (whole (built_value u has_words e) 0) b).0 in
+          let h = (both (has_words i 1) (whole (built_value u has_words e) 0) b).0 in
           behind_item i 1 (order.Load ∷ o ∷ []) w h some ∙ behind_load (address i) (o ∷ []) hand memory input output (inside i 1 h some) ∙ one o (put (word_at memory (address i)) w) ∙ based (λ base. Indexed base (pos 0)) (word_at memory (address i)) w
       form-runs compared line u (layer.Word i t m e) hand memory input output found b =
           let w = words hand memory input output in
           let o = order.Element (pos 0) (table_span y t i) line in
           let base = table_base program t s acts w i in
-          behind_table t i (o ∷ []) hand memory input output (both_true (has_words i 1) (whole (built_value u has_words e) 0) b).0 ∙ one o (put base w) ∙ based (λ z. Indexed z (pos 0)) base w
+          behind_table t i (o ∷ []) hand memory input output (both (has_words i 1) (whole (built_value u has_words e) 0) b).0 ∙ one o (put base w) ∙ based (λ z. Indexed z (pos 0)) base w
       form-runs compared line u (layer.Elem i t n m q e) hand memory input output found b =
           let w = words hand memory input output in
           let o = order.Entry n q (table_span y t i) line in
           let base = table_base program t s acts w i in
-          behind_table t i (o ∷ []) hand memory input output (both_true (has_words i 1) (whole (built_value u has_words e) 0) b).0 ∙ one o (put base w) ∙ based (λ z. Scaled z n q) base w
+          behind_table t i (o ∷ []) hand memory input output (both (has_words i 1) (whole (built_value u has_words e) 0) b).0 ∙ one o (put base w) ∙ based (λ z. Scaled z n q) base w
       form-runs compared line u (layer.Bare e) hand memory input output found b = area_tested line (words hand memory input output)
 
       -- ---- loops

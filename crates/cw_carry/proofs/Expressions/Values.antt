@@ -4,7 +4,7 @@ use Rattle.std.specs.Prelude.{slice_get, nat_le, nat_lt, IsTrue, ◌&&◌, if◌
 use Rattle.std.proofs.lemmas.Bool.{ltb-true, lt-ltb}
 use Rattle.std.proofs.lemmas.Bool.Decides.{nat_tests}
 use Rattle.std.proofs.lemmas.Int.{ints}
-use Rattle.cw_word.specs.FixedPoint.{FitsWord, fits_word}
+use Rattle.cw_word.specs.FixedPoint.{fits_word}
 use Rattle.cw_word.specs.Decimal.{decimal_floor}
 use Rattle.cw_word.specs.Word.{signed, unsigned}
 use Rattle.cw_word.proofs.Words.{signed-unsigned, unsigned-lt}
@@ -15,7 +15,6 @@ use Rattle.cw_unit.specs.declared.unit.Expr.{Expr, Expr-F, out-Expr}
 use Rattle.cw_unit.specs.declared.unit.Spot.{Spot}
 use Rattle.cw_unit.specs.declared.unit.Ref.{Ref, out-Ref}
 use Rattle.cw_unit.specs.declared.unit.Arg.TheOpen as layer
-use Rattle.cw_unit.specs.declared.unit.Arg.TheOpen.{Arg-F, Cond-F, Spot-F, Ref-F}
 use Rattle.cw_unit.specs.Scales.{operand_scale, answer_scale}
 use Rattle.cw_unit.specs.Stop.{Running}
 use Rattle.cw_unit.specs.Words.{Words, Changed, put}
@@ -25,17 +24,18 @@ use Rattle.cw_unit.specs.Configuration.{at as configuration, address_at}
 use Rattle.cw_unit.specs.Step.{in_unit, stuck, put_constant}
 use Rattle.cw_order.specs.declared.order.Order.{Order}
 use Rattle.cw_order.specs.declared.order.Order.TheVariants as order
+use Rattle.cw_order.proofs.FittingWords.{tested-fits}
 use Rattle.cw_gen_expr.specs.Pieces.{plain, followed_by, sequence}
 use Rattle.cw_gen_expr.specs.ReferenceExpressions.{at_line, two_values, item_order, load_orders, rescale_orders, narrow, number_order, logic_order, call_order, value_of, expression_piece, condition_piece, argument_piece, reference_of}
 use Rattle.cw_gen_expr.specs.BuiltExpressions.{BuiltValue, whole, within, all_built, answers, built_value, is_condition, is_argument, is_expression, most_levels}
 use Rattle.cw_gen_expr.proofs.Layers.{computed_layer, reference-made, built_value_layer, value-built, expression_size, expression-size, expression_size_layer, argument_size, reference_size, condition_size, total}
 use Rattle.cw_gen_expr.proofs.Scales.{operand-is, built-operand-is}
+use Rattle.cw_safety.proofs.Truth.{both}
 use Rattle.cw_carry.proofs.Expressions.Standing.{Stands, parted, Made, both_made, one_made, two_made, parted_made}
-use Rattle.cw_carry.proofs.Expressions.Effects.{IsPossible, total_weight}
 use Rattle.cw_carry.proofs.Expressions.Carried.{Leads, here, past, over as leap, Via, wider, OperationFits, operation_orders, gives_word}
 use Rattle.cw_carry.proofs.Expressions.Operations.{behind_item}
 use Rattle.cw_carry.proofs.Expressions.Stepping.{Compiled, source, target, work_size}
-use Rattle.cw_carry.proofs.Expressions.Moments.{both, a_level, IsLight, light_order, silent_and, Moment, here_in, layout, scope, has_words, code, marks, At, Leads_to, Close, at_close, past_save, Steps, next, run, Facts, at_once, becomes, done_by}
+use Rattle.cw_carry.proofs.Expressions.Moments.{a_level, IsLight, light_order, silent_and, Moment, here_in, layout, scope, has_words, code, marks, At, Leads_to, Close, at_close, past_save, Steps, next, run, Facts, at_once, becomes, done_by}
 use Rattle.cw_carry.proofs.Expressions.Addresses.{item_and}
 
 -- ---- numbers
@@ -43,13 +43,9 @@ use Rattle.cw_carry.proofs.Expressions.Addresses.{item_and}
 pub number-is : (n : ℕ) → IsTrue (nat_lt n 32768) → signed (n % 65536) ≡ pos n
 number-is n h = let lt : n < 32768 = ltb-true n 32768 h in let e : n % 65536 ≡ n = omega arith in ap signed e ∙ (let z : signed n ≡ pos n = omega (arith, ints) in z)
 
-pub untested : (z : ℤ) → fits_word z ≡ true → FitsWord z
-untested (pos n) h = grind (arith, ints, nat_tests)
-untested (negsuc n) h = grind (arith, ints, nat_tests)
-
 pub constant-is : (z : ℤ) → IsTrue (fits_word z) → signed (unsigned z % 65536) ≡ z
 constant-is z h =
-    let fits = untested z h in
+    let fits = tested-fits z h in
     let lt = unsigned-lt z fits in
     let e : unsigned z % 65536 ≡ unsigned z = omega (arith, lt) in
     ap signed e ∙ signed-unsigned z fits

@@ -33,7 +33,7 @@ use Rattle.cw_order.specs.OrderState.{OrderActivation, OrderState, at as state, 
 use Rattle.cw_order.specs.Loading.{loaded_after}
 use Rattle.cw_order.specs.OrderActions.{action_of}
 use Rattle.cw_order.specs.OrderCosts.{weight_of}
-use Rattle.cw_order.specs.OrderMachine.{act, call, next_body as order_next_body, step as order_step}
+use Rattle.cw_order.specs.OrderMachine.{act, call, next_body as order_next_body}
 use Rattle.cw_order.specs.Starting.{started_by, starts}
 use Rattle.cw_order.specs.FittingWords.{WordsFit, StateFits}
 use Rattle.cw_gen_expr.specs.ReferenceExpressions.{at_line, argument_words, control_place, call_order}
@@ -43,7 +43,7 @@ use Rattle.cw_carry.proofs.Expressions.Effects.{BeginsNone, effect}
 use Rattle.cw_carry.proofs.Expressions.Carried.{Via, Ready, after_call, answered, takes_index, takes_number, who_of, CarriedIn, going, beginning, over}
 use Rattle.cw_gen_expr.specs.ReferenceEntries.{parameters_of}
 use Rattle.cw_carry.proofs.Expressions.Operations.{ItemsStand, FormsOf}
-use Rattle.cw_carry.proofs.Expressions.Stepping.{Compiled, source, target, orders, A, B, AllCalls, Belong, Goes, GoesNoting, Leaps, quietly, IsSane, work_size, rank}
+use Rattle.cw_carry.proofs.Expressions.Stepping.{Compiled, source, target, orders, A, B, AllCalls, Belong, Goes, GoesNoting, Leaps, quietly, IsSane, rank}
 use Rattle.cw_carry.proofs.Expressions.Moments.{Moment, here_in, scope, code, marks, At, Leads_to, Steps, StepsNoting, Leap, next, Facts}
 use Rattle.cw_carry.proofs.Expressions.Moments
 use Rattle.cw_carry.proofs.Expressions.Addresses.{operation, address_formed}
@@ -172,10 +172,8 @@ module _ (c : Compiled) where
     place_no_byte (Some q) h = h
 
     control_no_byte : (x : Option Control) → IsByte (callee_of_control x) → ⊥
-    control_no_byte None h = h
     control_no_byte (Some (LabelControl a b d)) h = h
-    control_no_byte (Some (SwitchControl a b d)) h = h
-    control_no_byte (Some (ProcedureControl a b)) h = h
+    control_no_byte _ h = h
 
     reading : (x : Callee) → x ≡ Reading → IsByte x
     reading x e = subst IsByte (sym e) tt
@@ -270,9 +268,8 @@ module _ (c : Compiled) where
     nothing_from s (a ∷ acts) bs u w q unit_is calls h none empty = absurd (subst IsEmpty (sym none) tt)
 
     no_caller : (s : ℕ) (hand : List Operand) (now : Work) (w : Words) → IsSane (Rattle.cw_unit.specs.Step.come_back_with hand s now [] w) → ⊥
-    no_caller s [] now w h = h
     no_caller s (Word z ∷ rest) now w h = h
-    no_caller s (Rattle.cw_unit.specs.Words.Held x ∷ rest) now w h = h
+    no_caller s _ now w h = h
 
     return_from : (s : ℕ) (acts : List Activation) (bs : List OrderActivation) (u : SourceUnit) (w : Words) (q : ℕ) → slice_get c.units (segment_of s acts) ≡ Some u → AllCalls c s acts bs → slice_get (c.orders_for u).list q ≡ Some (order.Return (argument_words (parameters_of u (who_of acts))) true) → 24 + stack_words w.operands bs ≤ c.room → IsSane ((A c).step (configuration s Return acts w Running)) → Goes c (configuration s Return acts w Running) (state (segment_of s acts) q true bs w Running)
     return_from s [] bs u w q unit_is calls h room sane = absurd (no_caller s w.operands Return w sane)
@@ -389,9 +386,7 @@ module _ (c : Compiled) where
 
       still : (s : ℕ) (k : Work) (acts : List Activation) (g q : ℕ) (l : Bool) (bs : List OrderActivation) (v w : Words) (e : End) → is_running (record { output = w.output; end = e }) ≡ false → ((A c).step (configuration s k acts w e) ≡ configuration s k acts w e) × ((orders c).step (state g q l bs v e) ≡ state g q l bs v e)
       still s k acts g q l bs v w Running off = absurd (true≢false off)
-      still s k acts g q l bs v w Ended off = (refl, refl)
-      still s k acts g q l bs v w (Stopped kind h line) off = (refl, refl)
-      still s k acts g q l bs v w Stuck off = (refl, refl)
+      still s k acts g q l bs v w _ off = (refl, refl)
 
       rests : (x : Configuration) (t : OrderState) → Belong c x t → is_running ((A c).shown x) ≡ false → ((A c).step x ≡ x) × ((orders c).step t ≡ t)
       rests x t (going u unit_is r ready carried calls) off = absurd (true≢false off)
@@ -407,9 +402,7 @@ module _ (c : Compiled) where
 
       none-started : (g q : ℕ) (l : Bool) (bs : List OrderActivation) (v w : Words) (e : End) → is_running (record { output = w.output; end = e }) ≡ false → starts (target c) (state g q l bs v e) ≡ []
       none-started g q l bs v w Running off = absurd (true≢false off)
-      none-started g q l bs v w Ended off = refl
-      none-started g q l bs v w (Stopped kind h line) off = refl
-      none-started g q l bs v w Stuck off = refl
+      none-started g q l bs v w _ off = refl
 
       idle : (x : Configuration) (t : OrderState) → Belong c x t → is_running ((A c).shown x) ≡ false → (begins x ≡ []) × (starts (target c) t ≡ [])
       idle x t (going u unit_is r ready carried calls) off = absurd (true≢false off)

@@ -1,16 +1,13 @@
 -- The words of the first memory fit words.
-use Rattle.std.proofs.Common.{ℕ, zero, suc, ◌+◌, List, arith}
+use Rattle.std.proofs.Common.{ℕ, zero, suc, ◌+◌, List}
 use Rattle.std.specs.Prelude.{All}
-use Rattle.std.proofs.lemmas.Int.{ints}
 use Rattle.std.proofs.lemmas.List.Elements.{All-nil, All-cons}
 use Rattle.cw_word.specs.FixedPoint.{FitsWord}
 use Rattle.cw_word.specs.Word.{signed}
 use Rattle.cw_unit.specs.declared.unit.Unit.{Unit as SourceUnit}
 use Rattle.cw_unit.specs.declared.layout.Map.{Map}
 use Rattle.cw_unit.specs.InitialMemory.{filled_words, word_filled, words_from, initial_memory}
-
-signed-fits : (n : ℕ) → FitsWord (signed n)
-signed-fits n = omega (arith, ints)
+use Rattle.cw_order.proofs.FittingWords.{signed-fits}
 
 words-fit : (filled : List (ℕ × ℕ)) (a n : ℕ) → All FitsWord (words_from filled a n)
 words-fit filled a zero = All-nil FitsWord

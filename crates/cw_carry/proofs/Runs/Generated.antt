@@ -118,8 +118,7 @@ load_plain (Some x) os h = (tt, h)
 
 logic_plain : (op : LogicOp) → IsPlain (logic_order op)
 logic_plain logic.Mask = tt
-logic_plain logic.Union = tt
-logic_plain logic.Differ = tt
+logic_plain _ = tt
 
 bounds_plain : (b : Bool) (line : ℕ) (l u : ℤ) → ArePlain (bounds_orders b line l u)
 bounds_plain true line l u = (tt, tt)

@@ -31,7 +31,7 @@ use Rattle.cw_gen_expr.specs.Pieces.{Piece, plain, followed_by, sequence, with_e
 use Rattle.cw_gen_expr.specs.ReferenceExpressions.{Scope, at_line, item_order, number_order, store_orders, call_order, condition_piece, expression_piece, control_place, argument_words}
 use Rattle.cw_gen_expr.specs.ReferenceEntries.{scope_of, bound_by, bound_in, bound_order, bind_orders}
 use Rattle.cw_gen_expr.proofs.Layers.{total}
-use Rattle.cw_gen_unit.specs.ReferenceStatements.{begin_orders, after_statement_call, own_order, goal_order, owned_marks, switch_order, jump_piece, with_middle, keep_orders, number_orders, set_orders, bump_orders, turn_piece, while_values, step_values, element_piece, elements_piece, element_ways, ring_piece, only_step, loop_place, value_orders, past_orders, turn_orders, simple_orders, simple_beginning, first_turn, stepped_piece, elements_loop, begun_loop, jump_past, statement_piece}
+use Rattle.cw_gen_unit.specs.ReferenceStatements.{begin_orders, after_statement_call, goal_order, owned_marks, switch_order, jump_piece, with_middle, keep_orders, number_orders, set_orders, bump_orders, turn_piece, while_values, step_values, element_piece, elements_piece, element_ways, ring_piece, only_step, loop_place, value_orders, past_orders, turn_orders, simple_orders, simple_beginning, first_turn, stepped_piece, elements_loop, begun_loop, jump_past, statement_piece}
 use Rattle.cw_gen_unit.specs.declared.simple.Simple.{Simple}
 use Rattle.cw_gen_unit.specs.declared.simple.Simple.TheVariants as simple
 use Rattle.cw_gen_unit.specs.declared.simple.SimpleStep.{SimpleStep}
@@ -39,25 +39,15 @@ use Rattle.cw_gen_unit.specs.SimpleLoops.{simple_step}
 use Rattle.cw_unit.specs.Operation.{is_past}
 use Rattle.cw_word.specs.Word.{unsigned}
 use Rattle.cw_gen_unit.specs.ReferenceUnits.{answer_of, entry_orders, procedure_piece, procedures_piece, unit_piece}
-use Rattle.cw_carry.proofs.Runs.Leading.{Leading, leads_before, chosen as chosen_leads, value_leads, condition_leads, jump_leads, call_statement_leads, loop_leads}
-use Rattle.cw_carry.proofs.Statements.Labels.{depth, depth_layer, depth-is}
+use Rattle.cw_carry.proofs.Runs.Leading.{own_order-is, Leading, leads_before, chosen as chosen_leads, value_leads, condition_leads, jump_leads, call_statement_leads, loop_leads}
 use Rattle.cw_gen_unit.specs.Endings.{comes_to_end}
-use Rattle.cw_gen_unit.proofs.Layers.{statement_layer, statement-made, jump-holds, leave-holds}
+use Rattle.cw_gen_unit.proofs.Layers.{statement_layer, statement-made, statement_size, size_layer, statement-size, jump-holds, leave-holds}
 use Rattle.cw_carry.proofs.Runs.Generated.{IsPlain, ArePlain, ListProperty, Holds, lists, constant_first, both, ended, saves, chosen, item_plain, call_plain, value_holds, condition_holds, reference_holds, arguments_hold}
 
 -- ---- orders of statements
 
-own_plain : (who : Option ℕ) (x : Option Label) (m : ℕ) → IsPlain (own_order who x m)
-own_plain None x m = tt
-own_plain (Some q) None m = tt
-own_plain (Some q) (Some x) m = by_procedure x.proc
-  where
-    by_procedure : (o : Option ℕ) → IsPlain (elim o [ None ↦ order.GoMain m | Some r ↦ order.Jump m ])
-    by_procedure None = tt
-    by_procedure (Some r) = tt
-
 goal_plain : (u : SourceUnit) (who : Option ℕ) (g : Goal) → IsPlain (goal_order u who g)
-goal_plain u who (goal.Own l) = own_plain who (slice_get u.labels l) _
+goal_plain u who (goal.Own l) = own_order-is IsPlain who (slice_get u.labels l) _ tt tt
 goal_plain u who (goal.Common d) = tt
 
 switch_plain : (o : Option (List ℕ)) (n line : ℕ) → IsPlain (switch_order o n line)
@@ -77,9 +67,7 @@ bound_plain y k i = of_family (slice_get y.families (slice_index_or y.homes i (0
   where
     of_sort : (x : Sort) (f o : ℕ) → IsPlain (bound_by k x f o)
     of_sort (sort.Common d) f o = tt
-    of_sort sort.Own f o = tt
-    of_sort (sort.Absolute a) f o = tt
-    of_sort (sort.Frame b) f o = tt
+    of_sort _ f o = tt
 
     of_family : (x : Option Family) (f o : ℕ) → IsPlain (bound_in k x f o)
     of_family None f o = tt
@@ -250,13 +238,13 @@ module _ (s : Scope) (c : ListProperty s.layout) (who : Option ℕ) (answer : �
   begun line {p} h l = record { at = λ place next. c.begun line (p (place + 1) (next + 0)).orders (l.at (place + 1) (next + 0)) (h.at (place + 1) (next + 0)) }
 
   abbrev Below : ℕ → Type 0
-  Below n = (t : Stmt) → depth t < n → Holds c (statement_piece s who answer t)
+  Below n = (t : Stmt) → statement_size t < n → Holds c (statement_piece s who answer t)
 
-  list : (n : ℕ) → Below n → (ss : List Stmt) → total (map depth ss) < n → Holds c (sequence (map (statement_piece s who answer) ss))
+  list : (n : ℕ) → Below n → (ss : List Stmt) → total (map statement_size ss) < n → Holds c (sequence (map (statement_piece s who answer) ss))
   list n below [] lt = lists c [] tt
-  list n below (t ∷ ss) lt = both c (below t (let z : depth t < n = omega (arith, lt) in z)) (list n below ss (let z : total (map depth ss) < n = omega (arith, lt) in z))
+  list n below (t ∷ ss) lt = both c (below t (let z : statement_size t < n = omega (arith, lt) in z)) (list n below ss (let z : total (map statement_size ss) < n = omega (arith, lt) in z))
 
-  layer : (n : ℕ) → Below n → (x : Stmt-F Stmt) → depth_layer x ≤ n → Holds c (statement_layer s who answer x)
+  layer : (n : ℕ) → Below n → (x : Stmt-F Stmt) → size_layer x ≤ n → Holds c (statement_layer s who answer x)
   layer n below (statement.Put line r e) le =
       let h = at_line line s in
       begun line (both c (value_holds h c e (out-Ref r).f) (both c (saves c) (both c (reference_holds h c r) (lists c (store_orders (out-Ref r).field) (store_plain (out-Ref r).field)))))
@@ -275,22 +263,22 @@ module _ (s : Scope) (c : ListProperty s.layout) (who : Option ℕ) (answer : �
       (record { at = λ place next. leads_before _ _ ((value_leads (at_line line s) e answer).at place next) })
   layer n below (statement.If line d a b) le =
       begun line
-      (chosen c (condition_piece (at_line line s) d) (jump_past (comes_to_end a) b) (statement_piece s who answer a) (statement_piece s who answer b) (λ m. condition_holds (at_line line s) c d false m) (jump-holds ArePlain (λ end. (tt, tt)) tt (comes_to_end a) b) (below a (let z : depth a < n = omega (arith, le) in z)) (below b (let z : depth b < n = omega (arith, le) in z)))
+      (chosen c (condition_piece (at_line line s) d) (jump_past (comes_to_end a) b) (statement_piece s who answer a) (statement_piece s who answer b) (λ m. condition_holds (at_line line s) c d false m) (jump-holds ArePlain (λ end. (tt, tt)) tt (comes_to_end a) b) (below a (let z : statement_size a < n = omega (arith, le) in z)) (below b (let z : statement_size b < n = omega (arith, le) in z)))
       (chosen_leads (condition_piece (at_line line s) d) (jump_past (comes_to_end a) b) (statement_piece s who answer a) (statement_piece s who answer b) (λ m. condition_leads (at_line line s) d false m))
   layer n below (statement.For line item r es t) le =
       let h = at_line line s in
-      begun line (begun_holds h c item (simple_step s.layout item r es) r es (statement_piece s who answer t) (below t (let z : depth t < n = omega (arith, le) in z)))
+      begun line (begun_holds h c item (simple_step s.layout item r es) r es (statement_piece s who answer t) (below t (let z : statement_size t < n = omega (arith, le) in z)))
       (loop_leads h (simple_step s.layout item r es) item r es (statement_piece s who answer t))
-  layer n below (statement.Seq ss) le = list n below ss (let z : total (map depth ss) < n = omega (arith, le) in z)
+  layer n below (statement.Seq ss) le = list n below ss (let z : total (map statement_size ss) < n = omega (arith, le) in z)
   layer n below (statement.Mark ls t) le =
-      both c {p = with_labels ls} (record { at = λ place next. c.alone order.Mark tt }) (below t (let z : depth t < n = omega (arith, le) in z))
+      both c {p = with_labels ls} (record { at = λ place next. c.alone order.Mark tt }) (below t (let z : statement_size t < n = omega (arith, le) in z))
 
   all_below : (n : ℕ) → Below n
   all_below zero t lt = absurd (omega (arith, lt))
-  all_below (suc n) t lt = subst (Holds c) (sym (statement-made s who answer t)) (layer n (all_below n) (out-Stmt t) (let z : depth_layer (out-Stmt t) ≤ n = omega (arith, lt, depth-is t) in z))
+  all_below (suc n) t lt = subst (Holds c) (sym (statement-made s who answer t)) (layer n (all_below n) (out-Stmt t) (let z : size_layer (out-Stmt t) ≤ n = omega (arith, lt, statement-size t) in z))
 
   statement_holds : (t : Stmt) → Holds c (statement_piece s who answer t)
-  statement_holds t = all_below (suc (depth t)) t (let z : depth t < suc (depth t) = omega arith in z)
+  statement_holds t = all_below (suc (statement_size t)) t (let z : statement_size t < suc (statement_size t) = omega arith in z)
 
 -- ---- units
 

@@ -1,10 +1,9 @@
 -- The orders that put and bind items find them where a valid storage map says.
-use Rattle.std.proofs.Common.{◌≡◌, ℕ, zero, suc, ◌+◌, ◌-◌, ◌<◌, ◌≤◌, ℤ, pos, List, [], ◌∷◌, map, set, true, false, IsTrue, Option, Some, None, refl, sym, ap, ap₂, ◌∙◌, subst, arith, nat_le, leb-true}
+use Rattle.std.proofs.Common.{◌≡◌, ℕ, zero, suc, ◌+◌, ◌-◌, ◌<◌, ◌≤◌, ℤ, pos, List, [], ◌∷◌, set, true, false, IsTrue, Option, Some, None, refl, sym, ap, ap₂, ◌∙◌, subst, arith, nat_le, leb-true}
 use Rattle.std.proofs.lemmas.Bool.Decides.{nat_tests}
 use Rattle.std.specs.Prelude.{◌%◌, ◌==◌, not, ◌&&◌, slice_get, slice_index, slice_index_or, if◌then◌else◌}
 use Rattle.std.proofs.lemmas.Bool.{lt-ltb}
-use Rattle.std.proofs.lemmas.Int.{ints}
-use Rattle.std.proofs.lemmas.Option.{none-some, same_Some}
+use Rattle.std.proofs.lemmas.Option.{none-some}
 use Rattle.cw_word.specs.Word.{signed}
 use Rattle.cw_unit.specs.declared.unit.Unit.{Unit as SourceUnit}
 use Rattle.cw_unit.specs.declared.unit.Item.{Item}
@@ -17,7 +16,7 @@ use Rattle.cw_unit.specs.declared.layout.Sort.TheVariants as sort
 use Rattle.cw_unit.specs.Storage.{root_of, family_of, family_offset, positions_from, frame_size, frame_sizes_from, layout_of}
 use Rattle.cw_unit.specs.ValidStorage.{StoredItem, key_of, sort_in, owner_in, sort_of_family, as_stored, word_of, IsAbsolute, IsInFrame, frame_size_in, InPlace, ValidStorageMap}
 use Rattle.cw_unit.specs.Allocation.{Name, Private, storage_of}
-use Rattle.cw_unit.specs.Program.{Program, no_layout, is_frame_family, item_address}
+use Rattle.cw_unit.specs.Program.{Program, is_frame_family, item_address}
 use Rattle.cw_unit.specs.Words.{Operand, Word, Words, Changed, with_memory, put, through}
 use Rattle.cw_unit.specs.Configuration.{frame_size_of}
 use Rattle.cw_order.specs.declared.order.Order.TheVariants as order
@@ -34,22 +33,16 @@ use Rattle.cw_carry.proofs.Expressions.Effects.{effect}
 use Rattle.cw_carry.proofs.Expressions.Stepping.{Compiled, source, target}
 use Rattle.cw_carry.proofs.Statements.Following.{compiled}
 use Rattle.cw_carry.proofs.Runs.Spans.{Covers}
+use Rattle.cw_carry.proofs.Expressions.Calls.{layout_is}
+use Rattle.cw_carry.proofs.Statements.StepLoops.{low_word}
 
 -- ---- words
-
-signed-small : (n : ℕ) → n < 32768 → signed n ≡ pos n
-signed-small n h = omega (arith, ints, h)
 
 -- an address below the area is that of a word there
 word-there : (area k n : ℕ) → k ≡ n → n < area → word_of_area area k ≡ Some n
 word-there area k n e lt = ap (word_of_area area) e ∙ ap (λ b. if b then Some n else None) (lt-ltb n area lt)
 
 -- ---- layouts
-
-layout-at : (us : List SourceUnit) (g : ℕ) (u : SourceUnit) → slice_get us g ≡ Some u → slice_index_or (map layout_of us) g no_layout ≡ layout_of u
-layout-at [] g u h = absurd (none-some u h)
-layout-at (v ∷ us) zero u h = ap layout_of (same_Some v u h)
-layout-at (v ∷ us) (suc g) u h = layout-at us g u h
 
 position-from : (u : SourceUnit) (n : ℕ) (is : List Item) (k : ℕ) (i : Item) → slice_get is k ≡ Some i → slice_index_or (positions_from n u is) k (0, 0) ≡ (family_of u (n + k), family_offset u (n + k))
 position-from u n [] k i e = absurd (none-some i e)
@@ -104,9 +97,7 @@ family-elsewhere (Some x) h = by_sort x.sort h
   where
     by_sort : (s : Sort) → ¬ IsInFrame s → Rattle.cw_unit.specs.Program.is_frame_sort s ≡ false
     by_sort (sort.Frame d) h = absurd (h tt)
-    by_sort (sort.Common d) h = refl
-    by_sort sort.Own h = refl
-    by_sort (sort.Absolute a) h = refl
+    by_sort _ h = refl
 
 placed-in-frame : (x : Option Family) (d f o : ℕ) → sort_in x ≡ sort.Frame d → placed_in x f o ≡ order.FrameHome ((d + o) % 65536)
 placed-in-frame None d f o e = absurd (in-frame sort.Own d e)
@@ -158,7 +149,7 @@ module _ (us : List SourceUnit) (m : Map) (limits : Limits) (room : ℕ) where
   pub frame-size : (g p : ℕ) (u : SourceUnit) (q : Proc) → slice_get us g ≡ Some u → slice_get u.procs p ≡ Some q → frame_size_of (source c) g p ≡ frame_size_in us g (Some p)
   frame-size g p u q u-is q-is =
       let at : 0 + p ≡ p = omega arith in
-      ap (λ y. slice_index y.frames p) (layout-at us g u u-is) ∙ frame-from u 0 u.procs p q q-is ∙ ap (frame_size u) at
+      ap (λ y. slice_index y.frames p) (layout_is us g u u-is) ∙ frame-from u 0 u.procs p q q-is ∙ ap (frame_size u) at
       ∙ sym (ap (λ x. elim x [ None ↦ 0 | Some v ↦ frame_size v p ]) u-is)
 
   module _ (valid : ValidStorageMap us limits m) (in_words : limits.area ≤ 32768) where
@@ -192,7 +183,7 @@ module _ (us : List SourceUnit) (m : Map) (limits : Limits) (room : ℕ) where
 
       address : item_address (source c) g i base ≡ (if is_frame_family family then base else 0) + (family_start g f + o)
       address =
-          ap (λ y. let r = slice_index_or y.homes i (0, 0) in (if is_frame_family (slice_get y.families r.0) then base else 0) + (family_start g r.0 + r.1)) (layout-at us g u u-is)
+          ap (λ y. let r = slice_index_or y.homes i (0, 0) in (if is_frame_family (slice_get y.families r.0) then base else 0) + (family_start g r.0 + r.1)) (layout_is us g u u-is)
           ∙ ap (λ r. (if is_frame_family (slice_get (layout_of u).families r.0) then base else 0) + (family_start g r.0 + r.1)) at_map
 
       by_sort : Sorted (sort_of_family u f) → Placed g u who base i k
@@ -226,7 +217,7 @@ module _ (us : List SourceUnit) (m : Map) (limits : Limits) (room : ℕ) where
             let word : (a + (o + n) % 65536) % 65536 ≡ a + (o + n) = omega (arith, within, lt, in_words) in
             let small : a + (o + n) < 32768 = omega (arith, within, lt, in_words) in
             let same : a + (o + n) ≡ item_address (source c) g i base + n = omega (arith, address) in (
-              ap (λ x. effect (target c) g bs x w) (orders n) ∙ ap (λ x. Changed (put (signed x) w)) word ∙ ap (λ z. Changed (put z w)) (signed-small (a + (o + n)) small) ∙ ap (λ x. Changed (put (pos x) w)) same,
+              ap (λ x. effect (target c) g bs x w) (orders n) ∙ ap (λ x. Changed (put (signed x) w)) word ∙ ap (λ z. Changed (put z w)) (low_word (a + (o + n)) small) ∙ ap (λ x. Changed (put (pos x) w)) same,
               (let z : item_address (source c) g i base + n < limits.area = omega (arith, address, within, lt) in z),
             )
         of (in_frame p d o who-is orders binds address within) =
@@ -239,7 +230,7 @@ module _ (us : List SourceUnit) (m : Map) (limits : Limits) (room : ℕ) where
             let word : word_of_area limits.area (b.frame_base + (d + (o + n)) % 65536) ≡ Some (base + (d + (o + n))) = word-there limits.area (b.frame_base + (d + (o + n)) % 65536) (base + (d + (o + n))) at below in
             let small : base + (d + (o + n)) < 32768 = omega (arith, ends, within, lt, in_words) in
             let same : base + (d + (o + n)) ≡ item_address (source c) g i base + n = omega (arith, address) in (
-              ap₂ (λ xs x. effect (target c) g xs x w) here.2 (orders n) ∙ ap (λ x. unrefused (put_address x w)) word ∙ ap (λ z. Changed (put z w)) (signed-small (base + (d + (o + n))) small) ∙ ap (λ x. Changed (put (pos x) w)) same,
+              ap₂ (λ xs x. effect (target c) g xs x w) here.2 (orders n) ∙ ap (λ x. unrefused (put_address x w)) word ∙ ap (λ z. Changed (put z w)) (low_word (base + (d + (o + n))) small) ∙ ap (λ x. Changed (put (pos x) w)) same,
               (let z : item_address (source c) g i base + n < limits.area = omega (arith, address, ends, within, lt) in z),
             )
 
@@ -257,7 +248,7 @@ module _ (us : List SourceUnit) (m : Map) (limits : Limits) (room : ℕ) where
             let word : (a + (o + n) % 65536) % 65536 ≡ a + (o + n) = omega (arith, inside, in_words) in
             let small : a + (o + n) < 32768 = omega (arith, inside, in_words) in
             let same : a + (o + n) ≡ item_address (source c) g i base + n = omega (arith, address) in (
-              ap (λ x. effect (target c) g bs x w) (orders n) ∙ ap (λ x. Changed (put (signed x) w)) word ∙ ap (λ z. Changed (put z w)) (signed-small (a + (o + n)) small) ∙ ap (λ x. Changed (put (pos x) w)) same,
+              ap (λ x. effect (target c) g bs x w) (orders n) ∙ ap (λ x. Changed (put (signed x) w)) word ∙ ap (λ z. Changed (put z w)) (low_word (a + (o + n)) small) ∙ ap (λ x. Changed (put (pos x) w)) same,
               (let z : item_address (source c) g i base + n < limits.area = omega (arith, same, inside) in z),
             )
         of (in_frame p d o who-is orders binds address within) =

@@ -97,6 +97,16 @@ named : (y : Layout) (i : ℕ) (w : Option ℕ) {p : Piece} → Leading p → Le
 named y i (Some n) h = item y i n []
 named y i None h = h
 
+-- the order for a label of the unit's own is one of two
+pub own_order-is : (P : Order → Type 0) (who : Option ℕ) (x : Option Label) (m : ℕ) → P (order.Jump m) → P (order.GoMain m) → P (own_order who x m)
+own_order-is P None x m jump main = jump
+own_order-is P (Some q) None m jump main = jump
+own_order-is P (Some q) (Some x) m jump main = by_procedure x.proc
+  where
+    by_procedure : (o : Option ℕ) → P (elim o [ None ↦ order.GoMain m | Some r ↦ order.Jump m ])
+    by_procedure None = main
+    by_procedure (Some r) = jump
+
 module _ (s : Scope) where
   call_leads : (t : Target) → BeginsStatement (call_order s t)
   call_leads (target.Own q) = tt
@@ -184,17 +194,8 @@ module _ (s : Scope) where
   call_statement_leads t [] os = behind (leading (call_order s t) os (call_leads s t))
   call_statement_leads t (a ∷ args) os = record { at = λ place next. leads_before _ _ (leads_before _ _ ((argument_leads a).at place next)) }
 
-  own_leads : (who : Option ℕ) (x : Option Label) (m : ℕ) → BeginsStatement (own_order who x m)
-  own_leads None x m = tt
-  own_leads (Some q) None m = tt
-  own_leads (Some q) (Some x) m = by_procedure x.proc
-    where
-      by_procedure : (o : Option ℕ) → BeginsStatement (elim o [ None ↦ order.GoMain m | Some r ↦ order.Jump m ])
-      by_procedure None = tt
-      by_procedure (Some r) = tt
-
   goal_leads : (who : Option ℕ) (g : Goal) → BeginsStatement (goal_order s.unit who g)
-  goal_leads who (goal.Own l) = own_leads who (slice_get s.unit.labels l) (label_mark s.unit l)
+  goal_leads who (goal.Own l) = own_order-is BeginsStatement who (slice_get s.unit.labels l) (label_mark s.unit l) tt tt
   goal_leads who (goal.Common d) = tt
 
   pub jump_leads : (who : Option ℕ) (d : Dest) → Leading (jump_piece s who d)

@@ -39,7 +39,7 @@ use Rattle.cw_gen_expr.specs.NamedItems.{has_words}
 use Rattle.cw_safety.specs.Kinds.{weigh, kind_of_param}
 use Rattle.cw_safety.specs.WellFormed.{WellFormed}
 use Rattle.cw_safety.specs.Depth.{operands_held, owner_of}
-use Rattle.cw_safety.specs.Coherent.{stack_words, words_held, IsOwned, Names as SourceNames, Coherent, IsCoherent}
+use Rattle.cw_safety.specs.Coherent.{stack_words, words_held, Names as SourceNames, Coherent, IsCoherent}
 use Rattle.cw_safety.specs.Coherent as coherent
 use Rattle.cw_safety.proofs.Calling.{unit_of-procedure}
 use Rattle.cw_safety.proofs.Truth.{no}
@@ -132,10 +132,7 @@ module _ (us : List SourceUnit) (m : Map) (limits : Limits) (room : ℕ) (suits 
 
   names : (s : ℕ) (acts : List Activation) (d : Dest) (h label owner : ℕ) → Names (c us m limits room) s acts d h label owner → SourceNames p s acts d h label owner
   names s acts (dest.Goal g) h label owner n = n
-  names s acts (dest.Special k) h label owner n = n
-  names s acts (dest.Switch k e) h label owner n = n
-  names s acts (dest.CommonSwitch d e) h label owner n = n
-  names s acts (dest.SpecialSwitch k e) h label owner n = n
+  names s acts _ h label owner n = n
 
   jump-sound : (s line : ℕ) (k : Work) (acts : List Activation) (w : Words) (d : Dest) → k ≡ Jump d line → Coherent p s k acts w → JumpSound (c us m limits room) s acts w d
   jump-sound s line k acts w d k-is known = record {
@@ -184,9 +181,7 @@ module _ (us : List SourceUnit) (m : Map) (limits : Limits) (room : ℕ) (suits 
 
   sound-at : (x : Configuration) → IsCoherent p x → words_held p x + 72 ≤ control_need us limits.depth → FramesApart p (activations_of x) → length (words_of x).memory ≡ limits.area → IsSane (step p x) → SoundAt (c us m limits room) x
   sound-at (configuration s k acts w Running) known words apart whole not_stuck = sound s k acts w known words apart whole not_stuck
-  sound-at (configuration s k acts w Ended) known words apart whole not_stuck = tt
-  sound-at (configuration s k acts w (Stopped kind g line)) known words apart whole not_stuck = tt
-  sound-at (configuration s k acts w Stuck) known words apart whole not_stuck = tt
+  sound-at _ known words apart whole not_stuck = tt
 
   module _ (input : List ℕ) (not_stuck : (n : ℕ) → (observed p input n).end ≢ Stuck) (known : (n : ℕ) → IsCoherent p (configuration_after p input n)) (words : (n : ℕ) → words_held p (configuration_after p input n) + 72 ≤ control_need us limits.depth) (apart : (n : ℕ) → FramesApart p (activations_of (configuration_after p input n))) (whole : (n : ℕ) → length (words_of (configuration_after p input n)).memory ≡ limits.area) where
     all-sound : (n : ℕ) → SoundAt (c us m limits room) (steps p n (initial_configuration p input))

@@ -161,9 +161,7 @@ module _ (us : List SourceUnit) (m : Map) (limits : Limits) (room : ℕ) (suits 
 
     by_sort : (s : Sort) (f e o : ℕ) → (¬ IsInFrame s → e ≤ limits.area - start f) → Covers Inside (placed_by s f (o + 0)) (span_by s e o)
     by_sort (sort.Frame b) f e o h = refl
-    by_sort (sort.Common d) f e o h = home-inside f e o (h (λ v. v))
-    by_sort sort.Own f e o h = home-inside f e o (h (λ v. v))
-    by_sort (sort.Absolute a) f e o h = home-inside f e o (h (λ v. v))
+    by_sort _ f e o h = home-inside f e o (h (λ v. v))
 
     by_family : (x : Option Family) (f o : ℕ) → slice_get (layout_of u).families f ≡ x → Covers Inside (placed_in x f (o + 0)) (span_in x o)
     by_family None f o h = λ k lt. absurd (omega (arith, lt))

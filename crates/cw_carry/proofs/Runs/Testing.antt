@@ -1,5 +1,5 @@
 -- Units that pass the test are built.
-use Rattle.std.proofs.Common.{◌≡◌, ℕ, zero, suc, ◌+◌, ◌≤◌, List, [], ◌∷◌, length, Bool, IsTrue, ◌&&◌, Some, None, nat_le, subst, arith, slice_get, leb-true}
+use Rattle.std.proofs.Common.{◌≡◌, ℕ, zero, suc, ◌+◌, ◌≤◌, List, [], ◌∷◌, length, Bool, IsTrue, ◌&&◌, Some, None, nat_le, refl, subst, arith, slice_get, leb-true}
 use Rattle.std.proofs.lemmas.Option.{none-some, same_Some}
 use Rattle.cw_unit.specs.declared.unit.Unit.{Unit as SourceUnit}
 use Rattle.cw_unit.specs.declared.unit.Proc.{Proc}
@@ -9,7 +9,7 @@ use Rattle.cw_gen_expr.specs.NamedItems.{ItemFits, ItemsFit, has_words}
 use Rattle.cw_gen_unit.specs.BuiltStatements.{is_statement}
 use Rattle.cw_gen_unit.specs.BuiltUnits.{AllBuilt, item_fits, items_fit, is_procedure, are_procedures, are_built}
 use Rattle.cw_gen_unit.specs.ReferenceUnits.{answer_of}
-use Rattle.cw_safety.proofs.Truth.{both}
+use Rattle.cw_safety.proofs.Truth.{both, each_numbered}
 
 item-fits : (f : ℕ → Bool) (q : Param) → IsTrue (item_fits f q) → ItemFits (λ i. IsTrue (f i)) q
 item-fits f (param.Label k) h = tt
@@ -22,13 +22,7 @@ items-fit f [] h = tt
 items-fit f (q ∷ qs) h = let parts = both (item_fits f q) (items_fit f qs) h in (item-fits f q parts.0, items-fit f qs parts.1)
 
 procedure-built : (u : SourceUnit) (n k : ℕ) (qs : List Proc) (q : Proc) → IsTrue (are_procedures u n qs) → slice_get qs k ≡ Some q → IsTrue (is_procedure u (n + k) q)
-procedure-built u n k [] q h e = absurd (none-some q e)
-procedure-built u n zero (x ∷ qs) q h e =
-    let at : n ≡ n + 0 = omega arith in
-    subst (λ m. IsTrue (is_procedure u m q)) at (subst (λ y. IsTrue (is_procedure u n y)) (same_Some x q e) (both (is_procedure u n x) (are_procedures u (suc n) qs) h).0)
-procedure-built u n (suc k) (x ∷ qs) q h e =
-    let at : suc n + k ≡ n + suc k = omega arith in
-    subst (λ m. IsTrue (is_procedure u m q)) at (procedure-built u (suc n) k qs q (both (is_procedure u n x) (are_procedures u (suc n) qs) h).1 e)
+procedure-built u n k qs q = each_numbered (is_procedure u) (are_procedures u) (λ m x xs. refl) n k qs q
 
 abbrev IsBuilt : SourceUnit → Type 0
 IsBuilt u = IsTrue (is_statement u (has_words u None) None 0 u.body 64) × IsTrue (are_procedures u 0 u.procs)

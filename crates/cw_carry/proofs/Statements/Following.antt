@@ -35,7 +35,7 @@ use Rattle.cw_carry.proofs.Expressions.Stepping.{Compiled, source, target, order
 use Rattle.cw_carry.proofs.Expressions.Calls.{ProcedureAt}
 use Rattle.cw_carry.proofs.Expressions.Jumps.{LabelsReach}
 use Rattle.cw_carry.proofs.Expressions.Whole.{SoundAt, tracked}
-use Rattle.cw_carry.proofs.Statements.Shapes.{statement_size}
+use Rattle.cw_gen_unit.proofs.Layers.{statement_size}
 use Rattle.cw_carry.proofs.Statements.Sites.{sites}
 use Rattle.cw_gen_unit.specs.ReferenceUnits.{answer_of}
 use Rattle.cw_carry.proofs.Statements.Rules.{rules}

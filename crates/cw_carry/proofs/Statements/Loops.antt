@@ -1,5 +1,5 @@
 -- The orders follow the source through the elements of a FOR.
-use Rattle.std.proofs.Common.{◌≡◌, inl, ℕ, zero, suc, ◌+◌, ◌-◌, ◌*◌, ◌%◌, ◌<◌, ◌≤◌, ℤ, pos, negsuc, List, [], ◌∷◌, ◌++◌, length, set, Bool, true, false, Option, Some, None, refl, sym, ap, ◌∙◌, subst, arith}
+use Rattle.std.proofs.Common.{◌≡◌, inl, ℕ, zero, suc, ◌+◌, ◌-◌, ◌*◌, ◌%◌, ◌<◌, ◌≤◌, ℤ, pos, List, [], ◌∷◌, ◌++◌, length, set, Bool, true, false, Option, Some, None, refl, sym, ap, ◌∙◌, subst, arith}
 use Rattle.std.specs.Prelude.{slice_get, IsTrue, ◌&&◌}
 use Rattle.std.proofs.lemmas.Bool.{lt-ltb}
 use Rattle.std.proofs.lemmas.Option.{none-some, same_Some, slice_get_within}
@@ -29,13 +29,14 @@ use Rattle.cw_order.specs.Starting.{started_by}
 use Rattle.cw_gen_expr.specs.Pieces.{Piece, plain, followed_by, with_end}
 use Rattle.cw_gen_expr.specs.ReferenceExpressions.{Scope, at_line, item_order, expression_piece, condition_piece}
 use Rattle.cw_gen_expr.specs.BuiltExpressions.{is_expression, is_condition, most_levels}
+use Rattle.cw_safety.proofs.Truth.{both}
 use Rattle.cw_carry.proofs.Expressions.Standing.{Stands, Made, both_made, one_made, end_made}
 use Rattle.cw_carry.proofs.Expressions.Effects.{then_do, through_all, is_silent, total_weight, Ran}
 use Rattle.cw_carry.proofs.Expressions.Carried.{Leads, here, past, over as leap, Via, wider, who_of}
 use Rattle.cw_carry.proofs.Expressions.Operations.{keeps, bumps, behind_word, variable_put}
 use Rattle.cw_carry.proofs.Expressions.Stepping.{Quiet, Compiled, source, target, B, work_size, Seen, order_here, mark_here, lands, silent, stops}
 use Rattle.cw_carry.proofs.Expressions.Addresses.{item_and}
-use Rattle.cw_carry.proofs.Expressions.Moments.{both, item_silent, item_light, item_loads, item_tells, IsLight, silent_and, Moment, here_in, layout, scope, has_words, code, marks, At, Leads_to, at_close, Steps, config, next, run, Facts, at_once, done_by, one_order, ran_on}
+use Rattle.cw_carry.proofs.Expressions.Moments.{item_silent, item_light, item_loads, item_tells, IsLight, silent_and, Moment, here_in, layout, scope, has_words, code, marks, At, Leads_to, at_close, Steps, config, next, run, Facts, at_once, done_by, one_order, ran_on}
 use Rattle.cw_gen_unit.specs.ReferenceStatements.{keep_orders, number_orders, set_orders, bump_orders, element_piece, way_mark}
 use Rattle.cw_gen_unit.specs.BuiltStatements.{is_element, are_elements}
 use Rattle.cw_carry.proofs.Statements.Sites.{LoopSite, ElementSite, TurnSite, BumpSite, OnSite, sites}
@@ -453,8 +454,7 @@ module _ (c : Compiled) (at_sites : (g : ℕ) (u : Rattle.cw_unit.specs.declared
 
   same_way : (ways : List ℕ) (z : ℤ) → mark_of_number ways z ≡ mark_of_number ways (pos (number_of z))
   same_way ways (pos zero) = refl
-  same_way ways (pos (suc m)) = refl
-  same_way ways (negsuc m) = refl
+  same_way ways _ = refl
 
   -- ---- behind the body
 

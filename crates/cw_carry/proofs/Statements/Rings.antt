@@ -18,17 +18,17 @@ use Rattle.cw_gen_expr.specs.Pieces.{Piece, plain, followed_by, with_end}
 use Rattle.cw_gen_expr.specs.ReferenceExpressions.{at_line, Scope, item_order, reference_of}
 use Rattle.cw_gen_expr.specs.BuiltExpressions.{built_reference}
 use Rattle.cw_gen_expr.proofs.NoLabels.{value_unlabelled, condition_unlabelled, reference_unlabelled}
+use Rattle.cw_safety.proofs.Truth.{both}
 use Rattle.cw_carry.proofs.Expressions.Standing.{Stands, ends_at, Made, both_made, end_made}
-use Rattle.cw_carry.proofs.Expressions.Moments.{both}
 use Rattle.cw_gen_expr.specs.ReferenceEntries.{scope_of}
 use Rattle.cw_gen_unit.specs.ReferenceStatements.{set_orders, element_piece, elements_piece, element_ways, way_mark, with_middle, ring_piece, keep_orders, only_step, loop_place, simple_beginning, first_turn, stepped_piece, elements_loop, begun_loop, statement_piece}
 use Rattle.cw_gen_unit.specs.declared.simple.SimpleStep.{SimpleStep}
 use Rattle.cw_gen_unit.specs.SimpleLoops.{simple_step}
 use Rattle.cw_gen_unit.specs.BuiltStatements.{is_statement, is_element, are_elements}
-use Rattle.cw_carry.proofs.Statements.Sites.{StatementSite, LoopSite, ElementSite, OnSite, SteppedSite, FirstSite, NextSite, BeginningSite}
+use Rattle.cw_carry.proofs.Statements.Sites.{StatementSite, BodySite, LoopSite, ElementSite, OnSite, SteppedSite, FirstSite, NextSite, BeginningSite}
 use Rattle.cw_gen_unit.specs.ReferenceUnits.{answer_of}
 
-nothing : {a b : List (ℕ × ℕ)} → a ≡ [] → b ≡ [] → a ++ b ≡ []
+pub nothing : {a b : List (ℕ × ℕ)} → a ≡ [] → b ≡ [] → a ++ b ≡ []
 nothing x y = ap₂ (λ l m. l ++ m) x y
 
 -- no label stands among the elements of a FOR
@@ -137,63 +137,52 @@ module _ (orders_for : SourceUnit → Orders) (u : SourceUnit) (who : Option ℕ
   abbrev marks : List ℕ
   marks = (orders_for u).marks
 
-  abbrev scope : Scope
-  scope = scope_of u who
+  -- the body between its marks, of which the numbers are given, and what stands behind it
+  abbrev body_site : (x : Loop) (n : ℕ) (behind : ℕ → List Order) → IsTrue (has_words x.item 4) → (body end : ℕ) → (head : (k : ℕ) × (slice_get code k ≡ Some order.Mark) × (slice_get marks body ≡ Some k))
+      → (out : (k : ℕ) × (slice_get code k ≡ Some order.Mark) × (k + 1 ≡ n) × (slice_get marks end ≡ Some k)) → (on : ℕ) → StatementSite orders_for u who has_words (head.0 + 1) x.body 64 on
+      → Stands code on (behind body) out.0 → BodySite orders_for u who has_words x n behind
+  body_site x n behind words body end head out on body_at goes_on =
+      record { words = words; body = body; end = end; head = head.0; head_is = head.2; head_marks = head.1; on = on; body_at = body_at; out = out.0; goes_on = goes_on; end_is = out.3; out_marks = out.1; next_is = out.2 }
 
-  abbrev answer : ℕ
-  answer = answer_of u who
-
-  pub ring_whole : (line item : ℕ) (r : Ref) (es : List Felem) (b : Stmt) (q n free last : ℕ) → IsTrue (has_words item 4) → length es < 32767 → IsTrue (are_elements u has_words who answer (out-Ref r).f es) → IsTrue (is_statement u has_words who answer b 64) → Made code marks (ring_piece (at_line line scope) item (out-Ref r).f es (statement_piece scope who answer b) q free) q n free last → (site : LoopSite orders_for u who has_words (loop_of line item r es b) n) × (q ≡ site.place 1) × ((ring_piece (at_line line scope) item (out-Ref r).f es (statement_piece scope who answer b) q free).labels ≡ (statement_piece scope who answer b (site.head + 1) site.body_at.0).labels)
+  pub ring_whole : (line item : ℕ) (r : Ref) (es : List Felem) (b : Stmt) (q n free last : ℕ) → IsTrue (has_words item 4) → length es < 32767 → IsTrue (are_elements u has_words who (answer_of u who) (out-Ref r).f es) → IsTrue (is_statement u has_words who (answer_of u who) b 64) → Made code marks (ring_piece (at_line line (scope_of u who)) item (out-Ref r).f es (statement_piece (scope_of u who) who (answer_of u who) b) q free) q n free last → (site : LoopSite orders_for u who has_words (loop_of line item r es b) n) × (q ≡ site.place 1) × ((ring_piece (at_line line (scope_of u who)) item (out-Ref r).f es (statement_piece (scope_of u who) who (answer_of u who) b) q free).labels ≡ (statement_piece (scope_of u who) who (answer_of u who) b (site.head + 1) site.body_at.0).labels)
   ring_whole line item r es b q n free last words few built body_built made =
       let f = (out-Ref r).f in
-      let stmt = statement_piece scope who answer b in
+      let stmt = statement_piece (scope_of u who) who (answer_of u who) b in
       let start = free + 1 in
       let set = free + 1 + 1 in
-      let ways = element_ways (at_line line scope) item f set start 1 es q (set + 1) in
-      let tail = λ (end start set : ℕ). followed_by (elements_piece (at_line line scope) item f set start 1 es) (plain (order.Jump end ∷ [])) in
-      let first = λ (end start : ℕ). followed_by (with_end (tail end start)) (plain (set_orders scope.layout line item)) in
-      let second = λ (start : ℕ). followed_by stmt (plain (item_order scope.layout item 3 ∷ order.Load ∷ order.LoopWay ways ∷ [])) in
+      let ways = element_ways (at_line line (scope_of u who)) item f set start 1 es q (set + 1) in
+      let tail = λ (end start set : ℕ). followed_by (elements_piece (at_line line (scope_of u who)) item f set start 1 es) (plain (order.Jump end ∷ [])) in
+      let first = λ (end start : ℕ). followed_by (with_end (tail end start)) (plain (set_orders (scope_of u who).layout line item)) in
+      let behind = λ (start : ℕ). item_order (scope_of u who).layout item 3 ∷ order.Load ∷ order.LoopWay ways ∷ [] in
+      let second = λ (start : ℕ). followed_by stmt (plain (behind start)) in
       let s1 = end_made code marks (λ end. with_middle (first end) second) q n free last made in
       let s2 = both_made code marks (with_end (first free)) (second start) q s1.0 start last s1.1 in
       let s3 = end_made code marks (first free) q s2.0 start s2.1 s2.2 in
-      let s4 = both_made code marks (with_end (tail free start)) (plain (set_orders scope.layout line item)) q s3.0 set s2.1 s3.1 in
+      let s4 = both_made code marks (with_end (tail free start)) (plain (set_orders (scope_of u who).layout line item)) q s3.0 set s2.1 s3.1 in
       let s5 = end_made code marks (tail free start) q s4.0 set s4.1 s4.2 in
-      let s6 = both_made code marks (elements_piece (at_line line scope) item f set start 1 es) (plain (order.Jump free ∷ [])) q s5.0 (set + 1) s4.1 s5.1 in
-      let s7 = both_made code marks stmt (plain (item_order scope.layout item 3 ∷ order.Load ∷ order.LoopWay ways ∷ [])) s2.0 s1.0 s2.1 last s2.3 in
+      let s6 = both_made code marks (elements_piece (at_line line (scope_of u who)) item f set start 1 es) (plain (order.Jump free ∷ [])) q s5.0 (set + 1) s4.1 s5.1 in
+      let s7 = both_made code marks stmt (plain (behind start)) s2.0 s1.0 s2.1 last s2.3 in
       let es_made = s6.2 in (
         record {
           ways = ways;
-          at_body = record {
-            words = words;
-            body = start;
-            end = free;
-            head = s3.0;
-            head_is = s3.4;
-            head_marks = s3.2;
-            on = s7.0;
-            body_at = (s2.1, s7.1, body_built, subst (λ x. Made code marks (stmt x s2.1) x s7.0 s2.1 s7.1) (sym s3.3) s7.2);
-            out = s1.0;
-            goes_on = s7.3.0;
-            end_is = s1.4;
-            out_marks = s1.2;
-            next_is = s1.3;
-          };
+          at_body = body_site (loop_of line item r es b) n behind words start free (s3.0, s3.2, s3.4) (s1.0, s1.2, s1.3, s1.4) s7.0
+              (s2.1, s7.1, body_built, subst (λ x. Made code marks (stmt x s2.1) x s7.0 s2.1 s7.1) (sym s3.3) s7.2) s7.3.0;
           few = few;
           built = built;
           set = set;
           tail = s5.0;
           tail_is = s5.4;
           tail_marks = s5.2;
-          sets = subst (λ x. Stands code x (set_orders scope.layout line item) s3.0) (sym s5.3) s4.3.0;
-          place = place code marks (at_line line scope) who answer item f set start es q s6.0 (set + 1) s6.1 es_made;
-          free = free_of code marks (at_line line scope) who answer item f set start es q s6.0 (set + 1) s6.1 es_made;
-          each = each_one code marks (at_line line scope) who answer item f set start es q s6.0 (set + 1) s6.1 es_made;
-          way = way_one code marks (at_line line scope) who answer item f set start es q s6.0 (set + 1) s6.1 es_made;
-          no_way = no_way_one code marks (at_line line scope) who answer item f set start es q s6.0 (set + 1) s6.1 es_made;
-          last = ap (slice_get code) (last_one code marks (at_line line scope) who answer item f set start es q s6.0 (set + 1) s6.1 es_made) ∙ s6.3.0.0;
+          sets = subst (λ x. Stands code x (set_orders (scope_of u who).layout line item) s3.0) (sym s5.3) s4.3.0;
+          place = place code marks (at_line line (scope_of u who)) who (answer_of u who) item f set start es q s6.0 (set + 1) s6.1 es_made;
+          free = free_of code marks (at_line line (scope_of u who)) who (answer_of u who) item f set start es q s6.0 (set + 1) s6.1 es_made;
+          each = each_one code marks (at_line line (scope_of u who)) who (answer_of u who) item f set start es q s6.0 (set + 1) s6.1 es_made;
+          way = way_one code marks (at_line line (scope_of u who)) who (answer_of u who) item f set start es q s6.0 (set + 1) s6.1 es_made;
+          no_way = no_way_one code marks (at_line line (scope_of u who)) who (answer_of u who) item f set start es q s6.0 (set + 1) s6.1 es_made;
+          last = ap (slice_get code) (last_one code marks (at_line line (scope_of u who)) who (answer_of u who) item f set start es q s6.0 (set + 1) s6.1 es_made) ∙ s6.3.0.0;
         },
         refl,
-        s2.4 ∙ ap₂ (λ a b. a ++ b) (nothing (nothing (elements_unlabelled (at_line line scope) who answer item f set start 1 es _ _) refl) refl) (append-nil (stmt s2.0 s2.1).labels) ∙ ap (λ x. (stmt x s2.1).labels) (sym s3.3),
+        s2.4 ∙ ap₂ (λ a b. a ++ b) (nothing (nothing (elements_unlabelled (at_line line (scope_of u who)) who (answer_of u who) item f set start 1 es _ _) refl) refl) (append-nil (stmt s2.0 s2.1).labels) ∙ ap (λ x. (stmt x s2.1).labels) (sym s3.3),
       )
 
   -- ---- a FOR of one STEP element
@@ -221,57 +210,43 @@ module _ (orders_for : SourceUnit → Orders) (u : SourceUnit) (who : Option ℕ
     pub on : ℕ
     pub body_at : StatementSite orders_for u who has_words (head + 1) x.body 64 on
     pub goes_on : OnSite orders_for u who has_words on x next ⊎ NextSite orders_for u who has_words on x next
-    pub labels_are : labels ≡ (statement_piece scope who answer x.body (head + 1) body_at.0).labels
+    pub labels_are : labels ≡ (statement_piece (scope_of u who) who (answer_of u who) x.body (head + 1) body_at.0).labels
 
   -- the address of the control variable, which is kept, and the elements
   abbrev pub ByAddress : Ref → Loop → (q free next : ℕ) → Type 0
   ByAddress r x q free next =
-      (y : ℕ) × (m : ℕ) × (z : ℕ) × Made code marks ((reference_of (at_line x.line scope) r).address q free) q y free m × Stands code y (keep_orders scope.layout x.item 0) z × (ElementSite orders_for u who has_words z 1 x next ⊎ FirstSite orders_for u who has_words z 1 x next)
+      (y : ℕ) × (m : ℕ) × (z : ℕ) × Made code marks ((reference_of (at_line x.line (scope_of u who)) r).address q free) q y free m × Stands code y (keep_orders (scope_of u who).layout x.item 0) z × (ElementSite orders_for u who has_words z 1 x next ⊎ FirstSite orders_for u who has_words z 1 x next)
 
-  module _ (line item : ℕ) (r : Ref) (es : List Felem) (b : Stmt) (n : ℕ) (words : IsTrue (has_words item 4)) (few : length es < 32767) (built : IsTrue (are_elements u has_words who answer (out-Ref r).f es)) (body_built : IsTrue (is_statement u has_words who answer b 64)) where
+  module _ (line item : ℕ) (r : Ref) (es : List Felem) (b : Stmt) (n : ℕ) (words : IsTrue (has_words item 4)) (few : length es < 32767) (built : IsTrue (are_elements u has_words who (answer_of u who) (out-Ref r).f es)) (body_built : IsTrue (is_statement u has_words who (answer_of u who) b 64)) where
     abbrev x : Loop
     x = loop_of line item r es b
 
     abbrev here_scope : Scope
-    here_scope = at_line line scope
+    here_scope = at_line line (scope_of u who)
 
     abbrev stmt : Piece
-    stmt = statement_piece scope who answer b
+    stmt = statement_piece (scope_of u who) who (answer_of u who) b
 
     stepped_whole : (beginning : ℕ → Piece) (e : Expr × Expr × Expr) (q free last : ℕ) → only_step es ≡ Some e → ((end q' free' : ℕ) → (beginning end q' free').labels ≡ []) → Made code marks (stepped_piece here_scope item beginning stmt q free) q n free last
         → (site : SteppedSite orders_for u who has_words x n) × (e ≡ (site.first, site.step, site.limit)) × (y : ℕ) × (z : ℕ) × Made code marks (beginning site.end q y) q site.head y z × BodyStands x n (stepped_piece here_scope item beginning stmt q free).labels
     stepped_whole beginning e q free last only none made =
         let start = free + 1 in
-        let on = λ (mark : ℕ). order.NextStep (loop_place scope.layout item) line mark ∷ [] in
+        let on = λ (mark : ℕ). order.NextStep (loop_place (scope_of u who).layout item) line mark ∷ [] in
         let second = λ (mark : ℕ). followed_by stmt (plain (on mark)) in
         let s1 = end_made code marks (λ end. with_middle (λ mark. beginning end) second) q n free last made in
         let s2 = both_made code marks (with_end (λ mark. beginning free)) (second start) q s1.0 start last s1.1 in
         let s3 = end_made code marks (λ mark. beginning free) q s2.0 start s2.1 s2.2 in
         let s4 = both_made code marks stmt (plain (on start)) s2.0 s1.0 s2.1 last s2.3 in
         let one = only_is es e only in
-        let all = subst (λ l. IsTrue (are_elements u has_words who answer (out-Ref r).f l)) one built in
+        let all = subst (λ l. IsTrue (are_elements u has_words who (answer_of u who) (out-Ref r).f l)) one built in
         let body_at : StatementSite orders_for u who has_words (s3.0 + 1) b 64 s4.0 = (s2.1, s4.1, body_built, subst (λ z. Made code marks (stmt z s2.1) z s4.0 s2.1 s4.1) (sym s3.3) s4.2) in
         let site : SteppedSite orders_for u who has_words x n = record {
-          at_body = record {
-            words = words;
-            body = start;
-            end = free;
-            head = s3.0;
-            head_is = s3.4;
-            head_marks = s3.2;
-            on = s4.0;
-            body_at = body_at;
-            out = s1.0;
-            goes_on = s4.3.0;
-            end_is = s1.4;
-            out_marks = s1.2;
-            next_is = s1.3;
-          };
+          at_body = body_site x n on words start free (s3.0, s3.2, s3.4) (s1.0, s1.2, s1.3, s1.4) s4.0 body_at s4.3.0;
           first = e.0;
           step = e.1;
           limit = e.2;
           elements = one;
-          built = (both (is_element u has_words who answer (out-Ref r).f (element.Step e.0 e.1 e.2)) true all).0;
+          built = (both (is_element u has_words who (answer_of u who) (out-Ref r).f (element.Step e.0 e.1 e.2)) true all).0;
         } in (
           site,
           refl,
@@ -300,11 +275,11 @@ module _ (orders_for : SourceUnit → Orders) (u : SourceUnit) (who : Option ℕ
         let site = whole.0 in
         (inr (site, refl, whole.2, whole.3, subst (λ d. Made code marks (first_turn here_scope item f d.0 d.1 d.2 site.end q whole.2) q site.head whole.2 whole.3) whole.1 whole.4), whole.5)
 
-    begun_whole : (o : Option SimpleStep) (q free last : ℕ) → simple_step scope.layout item r es ≡ o → IsTrue (built_reference u has_words r).good → Made code marks (begun_loop here_scope o item r es stmt q free) q n free last
+    begun_whole : (o : Option SimpleStep) (q free last : ℕ) → simple_step (scope_of u who).layout item r es ≡ o → IsTrue (built_reference u has_words r).good → Made code marks (begun_loop here_scope o item r es stmt q free) q n free last
         → (BeginningSite orders_for u who has_words q r x n ⊎ ByAddress r x q free n) × BodyStands x n (begun_loop here_scope o item r es stmt q free).labels
     begun_whole None q free last is good made =
         let f = (out-Ref r).f in
-        let keep = keep_orders scope.layout item 0 in
+        let keep = keep_orders (scope_of u who).layout item 0 in
         let elements = elements_loop here_scope (only_step es) item f es stmt in
         let address = both_made code marks (reference_of here_scope r).address (followed_by (plain keep) elements) q n free last made in
         let kept = both_made code marks (plain keep) elements address.0 n address.1 last address.3 in
@@ -320,10 +295,10 @@ module _ (orders_for : SourceUnit → Orders) (u : SourceUnit) (who : Option ℕ
           },
         )
     begun_whole (Some y) q free last is good made =
-        let e = simple_only scope.layout item r es y is in
-        let whole = stepped_whole (λ end. plain (simple_beginning scope.layout item y end)) e.0 q free last e.1 (λ end q' free'. refl) made in
+        let e = simple_only (scope_of u who).layout item r es y is in
+        let whole = stepped_whole (λ end. plain (simple_beginning (scope_of u who).layout item y end)) e.0 q free last e.1 (λ end q' free'. refl) made in
         (inl (whole.0, y, good, refl, is, whole.4.0), whole.5)
 
-    pub loop_whole : (q free last : ℕ) → IsTrue (built_reference u has_words r).good → Made code marks (begun_loop here_scope (simple_step scope.layout item r es) item r es stmt q free) q n free last
-        → (BeginningSite orders_for u who has_words q r x n ⊎ ByAddress r x q free n) × BodyStands x n (begun_loop here_scope (simple_step scope.layout item r es) item r es stmt q free).labels
-    loop_whole q free last good made = begun_whole (simple_step scope.layout item r es) q free last refl good made
+    pub loop_whole : (q free last : ℕ) → IsTrue (built_reference u has_words r).good → Made code marks (begun_loop here_scope (simple_step (scope_of u who).layout item r es) item r es stmt q free) q n free last
+        → (BeginningSite orders_for u who has_words q r x n ⊎ ByAddress r x q free n) × BodyStands x n (begun_loop here_scope (simple_step (scope_of u who).layout item r es) item r es stmt q free).labels
+    loop_whole q free last good made = begun_whole (simple_step (scope_of u who).layout item r es) q free last refl good made

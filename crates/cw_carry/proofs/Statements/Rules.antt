@@ -10,7 +10,7 @@ use Rattle.cw_carry.proofs.Expressions.Moments.{Moment, here_in, has_words}
 use Rattle.cw_carry.proofs.Expressions.Calls.{ProcedureAt}
 use Rattle.cw_carry.proofs.Expressions.Jumps.{LabelsReach}
 use Rattle.cw_carry.proofs.Expressions.Whole.{Rules}
-use Rattle.cw_carry.proofs.Statements.Shapes.{statement_size}
+use Rattle.cw_gen_unit.proofs.Layers.{statement_size}
 use Rattle.cw_carry.proofs.Statements.Sites.{sites}
 use Rattle.cw_carry.proofs.Statements.Statements.{statement_follows}
 use Rattle.cw_carry.proofs.Statements.Rings.{loop_whole}

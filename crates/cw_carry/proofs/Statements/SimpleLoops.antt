@@ -8,7 +8,7 @@ use Rattle.std.proofs.lemmas.Bool.Decides.{nat_tests}
 use Rattle.std.proofs.lemmas.Int.{ints}
 use Rattle.std.proofs.lemmas.Option.{none-some, same_Some}
 use Rattle.std.proofs.lemmas.List.{get_or-set_same, get_or-set_other}
-use Rattle.std.proofs.lemmas.List.Elements.{All-head, All-tail, All-set}
+use Rattle.std.proofs.lemmas.List.Elements.{All-set}
 use Rattle.cw_track.proofs.Paths.{Path, stay, join}
 use Rattle.cw_track.proofs.Watching.{only_step, step_then}
 use Rattle.cw_word.specs.FixedPoint.{FitsWord}
@@ -40,6 +40,7 @@ use Rattle.cw_order.specs.OrderChanges.{to_mark_if, comparison}
 use Rattle.cw_order.specs.OrderState.{OrderActivation, OrderState, at as state, stack_words}
 use Rattle.cw_order.specs.OrderCosts.{weight_of}
 use Rattle.cw_order.specs.OrderMachine.{branch, go_at}
+use Rattle.cw_order.proofs.FittingWords.{word_at-fits, tested-fits}
 use Rattle.cw_gen_expr.specs.KnownValues.{of_known, known_negative}
 use Rattle.cw_gen_expr.specs.ReferenceExpressions.{Scope, at_line, item_order, number_order, value_of}
 use Rattle.cw_gen_expr.specs.BuiltExpressions.{most_levels, is_expression, built_reference}
@@ -49,14 +50,15 @@ use Rattle.cw_gen_unit.specs.declared.simple.Simple.TheVariants as simple
 use Rattle.cw_gen_unit.specs.declared.simple.SimpleStep.{SimpleStep}
 use Rattle.cw_gen_unit.specs.SimpleLoops.{are_apart, direct_item, variable_if, whole_item, item_read, unsigned_number, number_layer, known_number, as_item, item_layer, number_or, simple_of, simple_parts, simple_step}
 use Rattle.cw_gen_unit.specs.ReferenceStatements.{keep_orders, number_orders, value_orders, limit_orders, past_orders, turn_orders, simple_orders}
+use Rattle.cw_safety.proofs.Truth.{both}
 use Rattle.cw_carry.proofs.Expressions.Standing.{Stands, parted}
 use Rattle.cw_carry.proofs.Expressions.Effects.{is_silent, all_silent, total_weight, through_all, loaded_through, OnLine, Ran}
 use Rattle.cw_carry.proofs.Expressions.Carried.{over as leap, Via, who_of}
 use Rattle.cw_carry.proofs.Expressions.Operations.{tested, rescaled-same, keeps, behind_word, behind_item}
 use Rattle.cw_carry.proofs.Expressions.Stepping.{Compiled, source, target, B, Seen, mark_here, leaps}
-use Rattle.cw_carry.proofs.Expressions.Moments.{both, item_silent, item_light, item_loads, item_tells, silent_and, Moment, here_in, layout, scope, has_words, code, marks, At, Leads_to, Leap, Comes, config, next, run, Facts, one_order, ran_on}
+use Rattle.cw_carry.proofs.Expressions.Moments.{item_silent, item_light, item_loads, item_tells, silent_and, Moment, here_in, layout, scope, has_words, code, marks, At, Leads_to, Leap, Comes, config, next, run, Facts, one_order, ran_on}
 use Rattle.cw_carry.proofs.Expressions.Addresses.{built_spot, addresses}
-use Rattle.cw_carry.proofs.Expressions.Values.{constant-is, untested, built_of, evaluates}
+use Rattle.cw_carry.proofs.Expressions.Values.{constant-is, built_of, evaluates}
 use Rattle.cw_carry.proofs.Expressions.Results.{of_one}
 use Rattle.cw_carry.proofs.Expressions.Knowing.{then_come, done, evaluated, fits_known}
 use Rattle.cw_carry.proofs.Statements.Sites.{SteppedSite, BeginningSite, sites}
@@ -122,11 +124,6 @@ simple_is y item r a b d x h =
 
 -- ---- words of memory
 
-word_fits : (memory : List ℤ) (i : ℕ) → All FitsWord memory → FitsWord (word_at memory i)
-word_fits [] i all = let z : FitsWord (pos 0) = omega (arith, ints) in z
-word_fits (z ∷ zs) zero all = All-head FitsWord z zs all
-word_fits (z ∷ zs) (suc i) all = word_fits zs i (All-tail FitsWord z zs all)
-
 pub set_there : (memory : List ℤ) (i : ℕ) (z : ℤ) → i < length memory → word_at (set memory i z) i ≡ z
 set_there memory i z lt = get_or-set_same memory i z (pos 0) lt
 
@@ -160,7 +157,7 @@ module _ (c : Compiled) (t : Moment c) where
 
   value_fits : (x : Simple) (memory : List ℤ) → IsGiven x → All FitsWord memory → FitsWord (value_in x memory)
   value_fits (simple.Number z) memory given all = given
-  value_fits (simple.Item i) memory given all = word_fits memory (addr i) all
+  value_fits (simple.Item i) memory given all = word_at-fits memory (addr i) all
 
   module _ (line : ℕ) where
     abbrev sc : Scope
@@ -191,7 +188,7 @@ module _ (c : Compiled) (t : Moment c) where
 
     number_fits : (e : Expr) (f : ℕ) (z : ℤ) → known_number e f ≡ Some z → IsTrue (is_expression t.unit (has_words c t) e f most_levels) → FitsWord z
     number_fits e f z h b =
-        untested z (fits_known c t line (out-Expr e) f most_levels z (sym (ap (λ v. v.at f most_levels) (value-built t.unit (has_words c t) e)) ∙ (built_parts e f b).1) (layer_known (out-Expr e) f z h))
+        tested-fits z (fits_known c t line (out-Expr e) f most_levels z (sym (ap (λ v. v.at f most_levels) (value-built t.unit (has_words c t) e)) ∙ (built_parts e f b).1) (layer_known (out-Expr e) f z h))
 
     number_comes : (e : Expr) (f : ℕ) (k : Work) (w : Words) (z : ℤ) → known_number e f ≡ Some z → IsTrue (is_expression t.unit (has_words c t) e f most_levels)
         → Comes c t (Eval e f line k) k w (put z w)
@@ -235,7 +232,7 @@ module _ (c : Compiled) (t : Moment c) where
         of_item i named =
             let names = names_item r f i named in
             let words = item_words r i names.direct b in
-            (words, λ k w all. item_comes e r f i k w is names words (word_fits w.memory (addr i) all))
+            (words, λ k w all. item_comes e r f i k w is names words (word_at-fits w.memory (addr i) all))
 
         by_item : (o : Option ℕ) → item_read r f ≡ o → as_item o ≡ Some s → Simply e f s
         by_item None named h' = absurd (none-some s h')

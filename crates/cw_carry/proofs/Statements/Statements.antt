@@ -32,17 +32,18 @@ use Rattle.cw_gen_expr.specs.Pieces.{Piece, plain, followed_by, sequence, with_l
 use Rattle.cw_gen_expr.specs.ReferenceExpressions.{at_line, saved, argument_words, store_orders, call_order, expression_piece, condition_piece, argument_piece, reference_of}
 use Rattle.cw_gen_expr.specs.BuiltExpressions.{most_levels, within, is_expression, is_condition, built_reference}
 use Rattle.cw_gen_expr.proofs.Layers.{total}
+use Rattle.cw_safety.proofs.Truth.{both}
 use Rattle.cw_carry.proofs.Expressions.Standing.{Stands, Made, both_made, saved_made, one_made, parted_made}
 use Rattle.cw_carry.proofs.Expressions.Carried.{Leads, here, past, Via, wider, after_call, takes_number, who_of, going, beginning}
 use Rattle.cw_carry.proofs.Expressions.Stepping.{Compiled, source, target, Belong, quietly, work_size, order_here, silent}
-use Rattle.cw_carry.proofs.Expressions.Moments.{both, a_level, Moment, here_in, layout, scope, has_words, code, marks, At, Leads_to, at_close, past_save, StepsNoting, config, next}
+use Rattle.cw_carry.proofs.Expressions.Moments.{a_level, Moment, here_in, layout, scope, has_words, code, marks, At, Leads_to, at_close, past_save, StepsNoting, config, next}
 use Rattle.cw_carry.proofs.Expressions.Values.{given_at}
 use Rattle.cw_gen_unit.specs.ReferenceStatements.{begin_orders, after_statement_call, jump_order, jump_piece, begun_loop, parted_piece, jump_past, statement_piece}
 use Rattle.cw_gen_unit.specs.Endings.{list_ends, ends_behind, comes_to_end}
-use Rattle.cw_gen_unit.proofs.Layers.{statement_layer, statement-made, with_ends, ending_layer, ending-is}
+use Rattle.cw_gen_unit.proofs.Layers.{statement_layer, statement-made, statement_size, size_layer, statement-size, with_ends, ending_layer, ending-is}
 use Rattle.cw_gen_unit.specs.SimpleLoops.{simple_step}
 use Rattle.cw_gen_unit.specs.BuiltStatements.{is_jump, all_within, is_statement, are_elements}
-use Rattle.cw_carry.proofs.Statements.Shapes.{built_layer, statement-built, statement_size, statement_size_layer, statement-size}
+use Rattle.cw_carry.proofs.Statements.Shapes.{built_layer, statement-built}
 use Rattle.cw_carry.proofs.Statements.Sites.{StatementSite, ElementSite, FirstSite, BeginningSite, sites}
 use Rattle.cw_carry.proofs.Statements.Rings.{ByAddress}
 use Rattle.cw_carry.proofs.Statements.Branches.{past_second, ends_here}
@@ -283,12 +284,12 @@ module _ (c : Compiled) (at_sites : (g : ℕ) (u : SourceUnit) (who : Option ℕ
     runs s (statement.Seq ss) k q n free last levels j w is b made le after =
         passes s (statement.Seq ss) k q w is refl
         (wide j q (run_all ss k) (let v : j ≤ 64 = omega (arith, le) in v) (row_at ss true k q n free last levels j refl b made le after))
-        (let less : work_size c (run_all ss k) < c.statement_size s + work_size c k = omega (arith, row_size ss k, ap (λ f. f s) sizes, statement-size s ∙ ap statement_size_layer is) in less)
+        (let less : work_size c (run_all ss k) < c.statement_size s + work_size c k = omega (arith, row_size ss k, ap (λ f. f s) sizes, statement-size s ∙ ap size_layer is) in less)
     runs s (statement.Mark ls u) k q n free last levels j w is b made le after =
         let parts = both_made (code c t) (marks c t) (with_labels ls) (statement_piece (scope c t) who answer u) q n free last made in
         passes s (statement.Mark ls u) k q w is refl
         (parts.0, false, past parts.2.0.0 (here parts.2.0.1 refl), (n, levels, j, site_is parts.0 u levels n (parts.1, last, b, parts.3), le, refl, after))
-        (let less : c.statement_size u + work_size c k < c.statement_size s + work_size c k = omega (arith, ap (λ f. f s) sizes, ap (λ f. f u) sizes, statement-size s ∙ ap statement_size_layer is) in less)
+        (let less : c.statement_size u + work_size c k < c.statement_size s + work_size c k = omega (arith, ap (λ f. f s) sizes, ap (λ f. f u) sizes, statement-size s ∙ ap size_layer is) in less)
 
     pub statement_follows : (s : Stmt) (k : Work) (q n levels j : ℕ) (w : Words) → Site q s levels n → j + levels ≤ 64 → (IsTrue (comes_to_end s) → After j n k) → StepsNoting c t (Run s k) q false w
     statement_follows s k q n levels j w (free, last, b, made) le after =

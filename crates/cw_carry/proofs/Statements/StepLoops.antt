@@ -1,7 +1,7 @@
 -- The orders follow the source through a FOR of one STEP element: its values and its first turn by the general way, and the one order behind
 -- its body, with which the source makes up to four steps.
 use Rattle.std.proofs.Common.{◌≡◌, inl, inr, ⊎_elim, ℕ, zero, suc, ◌+◌, ◌-◌, ◌*◌, ◌%◌, ◌<◌, ◌≤◌, ℤ, pos, negsuc, List, [], ◌∷◌, Bool, true, false, Option, Some, None, refl, sym, ap, ap₂, ◌∙◌, subst, arith}
-use Rattle.std.specs.Prelude.{nat_eq, nat_lt, slice_get, slice_index_or, IsTrue, if◌then◌else◌}
+use Rattle.std.specs.Prelude.{nat_eq, nat_lt, slice_get, slice_index_or, if◌then◌else◌}
 use Rattle.std.proofs.lemmas.Bool.{true≢false, lt-ltb, ltb-true, cases_lt}
 use Rattle.std.proofs.lemmas.Bool.Decides.{nat_tests}
 use Rattle.std.proofs.lemmas.Int.{ints}
@@ -46,7 +46,7 @@ use Rattle.cw_gen_unit.specs.ReferenceUnits.{answer_of}
 
 -- ---- the place of a loop's words
 
-low_word : (n : ℕ) → n < 32768 → signed n ≡ pos n
+pub low_word : (n : ℕ) → n < 32768 → signed n ≡ pos n
 low_word n lt = omega (arith, ints, lt)
 
 high_word : (n m : ℕ) → 32768 ≤ n → n < 65536 → signed n ≡ pos m → ⊥

@@ -45,7 +45,7 @@ use Rattle.cw_read_back.specs.Expressions.Unplaced.{nowhere, unplaced_name, unpl
 use Rattle.cw_read_back.proofs.Expressions.Leaves.{string_back, literal_back}
 use Rattle.cw_read_back.proofs.Expressions.Reading.{Reads, Back, Each, IsSome, word_is, symbol_is, ◌&◌, left, right, mapped, opened, opened_word, second, first, respelled, nothing, absent_read, present_read, no_more_read, more_read, between_read, joined_read}
 use Rattle.cw_read_back.proofs.Expressions.Simple.{number_tokens, plain_sign, plain_factor, plain_compare, literal_read, string_read}
-use Rattle.cw_read_back.proofs.Expressions.Stays.{primary_stays, prim_stays, mask_stays, union_stays, differ_stays, term_stays, sum_stays}
+use Rattle.cw_read_back.proofs.Expressions.Stays.{bracket_differ_kept, bracket_mask_kept, bracket_prim_kept, bracket_primary_kept, bracket_term_kept, bracket_union_kept, differ_kept, mask_kept, prim_kept, sum_kept, term_kept, union_kept, stays, sum_stays}
 use Rattle.cw_read_back.proofs.Expressions.ExpressionLayers.{same_expr, same_primary, same_ref, mask_parts, union_parts, differ_parts, term_parts, choice-tokens, sum_expr-tokens, number-tokens, octal-tokens, literal-tokens, string-tokens, location-tokens, forced-tokens, bracket-tokens, referred-tokens, call-tokens, named-tokens, one_index-tokens, two_indexes-tokens, bare-tokens, cand-tokens, cand-bare, cond-tokens, cond-bare, differ-tokens, differ-bare, mask-tokens, mask-bare, union-tokens, union-bare, cmp-tokens, cmp-bare, prim-tokens, prim-bare, sum-tokens, sum-bare, term-tokens, term-bare}
 
 abbrev Expr : ℕ → RawExpr → Type 0
@@ -189,7 +189,7 @@ call_primary {n = n} f x xs h k =
 
 prim_same : (bits ds : List RawBits) (x d : RawPrimary) → map unplaced_bits ds ≡ map unplaced_bits bits → unplaced_primary d ≡ unplaced_primary x → (bracket_primary x >>- as_prim) ≡ None → unplaced_prim (prim_of ds d) ≡ unplaced_prim (roll-RawPrim (record { bits = bits; primary = x }))
 prim_same bits ds x d e k l =
-    ap (λ o. unplaced_prim (prim_or o ds d)) (primary_stays x d k l) ∙ prim-bare ds d ∙ ap₂ (λ u v. roll-RawPrim (record { bits = u; primary = v })) e k ∙ sym (prim-bare bits x)
+    ap (λ o. unplaced_prim (prim_or o ds d)) (stays _ _ bracket_primary as_prim bracket_primary_kept prim_kept x d k l) ∙ prim-bare ds d ∙ ap₂ (λ u v. roll-RawPrim (record { bits = u; primary = v })) e k ∙ sym (prim-bare bits x)
 
 pub prim_read : {n : ℕ} (bs : List RawBits) (x : RawPrimary) → Each (Back n a_bits bits bits_tokens unplaced_bits) bs → Primary n x → (bracket_primary x >>- as_prim) ≡ None → Back n a_prim prim prim_tokens unplaced_prim (roll-RawPrim (record { bits = bs; primary = x }))
 unfolding prim
@@ -246,15 +246,15 @@ worded_operation s t tokens bare shown all w tree parts join e shown_is bare_is 
 
 pub mask_read : {n : ℕ} (x : RawPrim) (rest : List (Position × RawPrim)) → Back n a_prim prim prim_tokens unplaced_prim x → (bracket_prim x >>- as_mask) ≡ None → Words n a_prim prim prim_tokens unplaced_prim rest → Back n a_mask mask mask_tokens unplaced_mask (mask_tree (extended (x ∷ [], []) rest))
 unfolding mask
-mask_read x rest h b k = worded_operation a_prim a_mask prim_tokens unplaced_prim mask_tokens unplaced_mask words.Mask mask_tree mask_parts (λ z. bracket_prim z >>- as_mask) refl mask-tokens mask-bare x rest h (λ d e. prim_stays x d e b) k
+mask_read x rest h b k = worded_operation a_prim a_mask prim_tokens unplaced_prim mask_tokens unplaced_mask words.Mask mask_tree mask_parts (λ z. bracket_prim z >>- as_mask) refl mask-tokens mask-bare x rest h (λ d e. stays _ _ bracket_prim as_mask bracket_prim_kept mask_kept x d e b) k
 
 pub union_read : {n : ℕ} (x : RawMask) (rest : List (Position × RawMask)) → Back n a_mask mask mask_tokens unplaced_mask x → (bracket_mask x >>- as_union) ≡ None → Words n a_mask mask mask_tokens unplaced_mask rest → Back n a_union union union_tokens unplaced_union (union_tree (extended (x ∷ [], []) rest))
 unfolding union
-union_read x rest h b k = worded_operation a_mask a_union mask_tokens unplaced_mask union_tokens unplaced_union words.Union union_tree union_parts (λ z. bracket_mask z >>- as_union) refl union-tokens union-bare x rest h (λ d e. mask_stays x d e b) k
+union_read x rest h b k = worded_operation a_mask a_union mask_tokens unplaced_mask union_tokens unplaced_union words.Union union_tree union_parts (λ z. bracket_mask z >>- as_union) refl union-tokens union-bare x rest h (λ d e. stays _ _ bracket_mask as_union bracket_mask_kept union_kept x d e b) k
 
 pub differ_read : {n : ℕ} (x : RawUnion) (rest : List (Position × RawUnion)) → Back n a_union union union_tokens unplaced_union x → (bracket_union x >>- as_differ) ≡ None → Words n a_union union union_tokens unplaced_union rest → Back n a_differ differ differ_tokens unplaced_differ (differ_tree (extended (x ∷ [], []) rest))
 unfolding differ
-differ_read x rest h b k = worded_operation a_union a_differ union_tokens unplaced_union differ_tokens unplaced_differ words.Differ differ_tree differ_parts (λ z. bracket_union z >>- as_differ) refl differ-tokens differ-bare x rest h (λ d e. union_stays x d e b) k
+differ_read x rest h b k = worded_operation a_union a_differ union_tokens unplaced_union differ_tokens unplaced_differ words.Differ differ_tree differ_parts (λ z. bracket_union z >>- as_differ) refl differ-tokens differ-bare x rest h (λ d e. stays _ _ bracket_union as_differ bracket_union_kept differ_kept x d e b) k
 
 -- the operands of a condition, whose first is never joined
 abbrev cand_parts : RawCand → Operands RawCmp Position
@@ -277,7 +277,7 @@ pub term_read : {n : ℕ} (x : RawDiffer) (rest : List (RawFactorSign × RawDiff
     → Back n a_term term term_tokens unplaced_term (term_tree (extended (x ∷ [], []) rest))
 unfolding term
 term_read {n = n} x rest h b k =
-    operation_read a_differ a_factor_sign a_term differ_tokens unplaced_differ unplaced_factor term_tokens unplaced_term term_tree term-bare term_parts (λ z. bracket_differ z >>- as_term) x rest h (λ d e. differ_stays x d e b)
+    operation_read a_differ a_factor_sign a_term differ_tokens unplaced_differ unplaced_factor term_tokens unplaced_term term_tree term-bare term_parts (λ z. bracket_differ z >>- as_term) x rest h (λ d e. stays _ _ bracket_differ as_term bracket_differ_kept term_kept x d e b)
     (operated_read differ_tokens unplaced_differ (λ s. multiply_symbol s.op) unplaced_factor (Back n a_factor_sign factor_sign plain_factor unplaced_factor) (λ z r. r) rest k) (term-tokens (x ∷ map (λ z. z.1) rest) (map (λ z. z.0) rest))
 
 abbrev sum_with : Option RawSign → List RawTerm → List RawSign → RawSum
@@ -303,7 +303,7 @@ terms_read {n = n} rest k = operated_read term_tokens unplaced_term (λ s. add_s
 plain_started : (x d : RawTerm) (c : Option RawSign) (rest zs : List (RawSign × RawTerm)) → c ≡ None → unplaced_term d ≡ unplaced_term x → (bracket_term x >>- as_sum) ≡ None → AreSame a_term a_sign unplaced_term unplaced_sign zs rest
     → unplaced_sum (sum_tree (more_terms (sum_start c d) zs)) ≡ unplaced_sum (sum_tree (more_terms (None, (x ∷ [], [])) rest))
 plain_started x d c rest zs q e b h =
-    ap (λ o. unplaced_sum (sum_tree (more_terms (sum_start o d) zs))) q ∙ ap (λ o. unplaced_sum (sum_tree (more_terms (terms_of o d) zs))) (term_stays x d e b) ∙ sum_same None None x d rest zs refl e h
+    ap (λ o. unplaced_sum (sum_tree (more_terms (sum_start o d) zs))) q ∙ ap (λ o. unplaced_sum (sum_tree (more_terms (terms_of o d) zs))) (stays _ _ bracket_term as_sum bracket_term_kept sum_kept x d e b) ∙ sum_same None None x d rest zs refl e h
 
 pub plain_sum_read : {n : ℕ} (x : RawTerm) (rest : List (RawSign × RawTerm)) → Back n a_term term term_tokens unplaced_term x → (bracket_term x >>- as_sum) ≡ None → Signs n rest → Back n a_sum sum sum_tokens unplaced_sum (sum_tree (more_terms (None, (x ∷ [], [])) rest))
 unfolding sum

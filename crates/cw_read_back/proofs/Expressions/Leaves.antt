@@ -103,6 +103,26 @@ pointed_back d f hd ld hf lf =
 fitting : (n : Number) → IsNumber n → n.digits < 10 ^ 12
 fitting n h = omega (arith, h.digits_fit, pow-le-pow_right {n = 10} (omega arith) h.few_places)
 
+-- the digits behind the point
+record HasFraction (n : Number) : Type 0 where
+  some : 0 < n.places
+  digits : list_all is_ascii_digit (fraction n.places n.digits) ≡ true
+  size : length (fraction n.places n.digits) ≡ n.places
+  value : digits_value 10 (fraction n.places n.digits) ≡ n.digits
+
+has_fraction : (n : Number) → IsNumber n → (n.places == 0) ≡ false → HasFraction n
+has_fraction n h e =
+    let some : 0 < n.places = grind (arith, nat_tests, e) in
+    let v : n.digits < 2 ^ 64 = omega (arith, fitting n h) in
+    let short : length (decimal n.digits) ≤ n.places = length-decimal-le n.places n.digits some h.digits_fit v in
+    let k : ℕ = n.places - length (decimal n.digits) in
+    record {
+      some = some;
+      digits = zeros_digits k (decimal n.digits) (decimal_digits n.digits v);
+      size = omega (arith, short, length-append (replicate k 48) (decimal n.digits), length-replicate {A = ℕ} k 48);
+      value = zeros_value k (decimal n.digits) ∙ (decimal_is_IsNumeral n.digits v).1;
+    }
+
 abbrev whole_and : ℕ → ℕ → ℕ → Number
 whole_and w d p = record { whole = w; digits = d; places = p }
 
@@ -117,14 +137,10 @@ without_point n h e =
 with_point : (n : Number) → IsNumber n → (n.places == 0) ≡ false → number_of (decimal n.whole ++ 46 ∷ fraction n.places n.digits) ≡ n
 with_point n h e =
     let w : n.whole < 2 ^ 64 = omega (arith, h.whole_fits) in
-    let some : 0 < n.places = grind (arith, nat_tests, e) in
-    let v : n.digits < 2 ^ 64 = omega (arith, fitting n h) in
-    let short : length (decimal n.digits) ≤ n.places = length-decimal-le n.places n.digits some h.digits_fit v in
-    let k : ℕ = n.places - length (decimal n.digits) in
-    let size : length (fraction n.places n.digits) ≡ n.places = omega (arith, short, length-append (replicate k 48) (decimal n.digits), length-replicate {A = ℕ} k 48) in
-    let value : digits_value 10 (fraction n.places n.digits) ≡ n.digits = zeros_value k (decimal n.digits) ∙ (decimal_is_IsNumeral n.digits v).1 in
-    pointed_back (decimal n.whole) (fraction n.places n.digits) (decimal_digits n.whole w) (length-decimal-le 12 n.whole (omega arith) h.whole_fits w) (zeros_digits k (decimal n.digits) (decimal_digits n.digits v)) (omega (arith, size, h.few_places))
-    ∙ ap (λ z. whole_and z (digits_value 10 (fraction n.places n.digits)) (length (fraction n.places n.digits))) (decimal_is_IsNumeral n.whole w).1 ∙ ap₂ (whole_and n.whole) value size
+    let f = has_fraction n h e in
+    let size = f.size in
+    pointed_back (decimal n.whole) (fraction n.places n.digits) (decimal_digits n.whole w) (length-decimal-le 12 n.whole (omega arith) h.whole_fits w) f.digits (omega (arith, size, h.few_places))
+    ∙ ap (λ z. whole_and z (digits_value 10 (fraction n.places n.digits)) (length (fraction n.places n.digits))) (decimal_is_IsNumeral n.whole w).1 ∙ ap₂ (whole_and n.whole) f.value f.size
 
 pub number_back : (n : Number) → IsNumber n → number_of (number_text n) ≡ n
 number_back n h =
@@ -182,12 +198,10 @@ plain_spelled n h =
 point_spelled : (n : Number) → IsNumber n → (n.places == 0) ≡ false → IsSpelled (record { kind = kinds.Number; text = decimal n.whole ++ 46 ∷ fraction n.places n.digits })
 point_spelled n h e =
     let w : n.whole < 2 ^ 64 = omega (arith, h.whole_fits) in
-    let some : 0 < n.places = grind (arith, nat_tests, e) in
-    let v : n.digits < 2 ^ 64 = omega (arith, fitting n h) in
-    let short : length (decimal n.digits) ≤ n.places = length-decimal-le n.places n.digits some h.digits_fit v in
-    let k : ℕ = n.places - length (decimal n.digits) in
-    let size : length (fraction n.places n.digits) ≡ n.places = omega (arith, short, length-append (replicate k 48) (decimal n.digits), length-replicate {A = ℕ} k 48) in
-    pointed_spelled (decimal n.whole) (fraction n.places n.digits) (decimal_digits n.whole w) (length-decimal-le 12 n.whole (omega arith) h.whole_fits w) (zeros_digits k (decimal n.digits) (decimal_digits n.digits v)) (omega (arith, size, some)) (omega (arith, size, h.few_places))
+    let f = has_fraction n h e in
+    let size = f.size in
+    let some = f.some in
+    pointed_spelled (decimal n.whole) (fraction n.places n.digits) (decimal_digits n.whole w) (length-decimal-le 12 n.whole (omega arith) h.whole_fits w) f.digits (omega (arith, size, some)) (omega (arith, size, h.few_places))
 
 pub number_spelled : (n : Number) → IsNumber n → IsSpelled (number n)
 number_spelled n h =

@@ -44,7 +44,7 @@ none_kept f g o k x d e h = at (o d) (sym (k d) ∙ ap o e ∙ k x ∙ ap (optio
 abbrev summed : ExprLayer → Option RawSum
 summed y = elim y [ layer.Choice at c a b ↦ None | layer.Sum s ↦ Some s ]
 
-sum_kept : Keeps unplaced_expr unplaced_sum as_sum
+pub sum_kept : Keeps unplaced_expr unplaced_sum as_sum
 sum_kept e =
     ap (λ z. as_sum (unplaced_expr z)) (sym (roll-out-RawExpr e)) ∙ ap as_sum (expr_unplaced (out-RawExpr e))
     ∙ elim (out-RawExpr e) as (λ (y : ExprLayer). as_sum (expr_bare y) ≡ option_map unplaced_sum (summed y)) [
@@ -85,24 +85,24 @@ sole_mask_kept = operand_kept unplaced_union unplaced_mask (λ p. nowhere) union
 sole_prim_kept : Keeps unplaced_mask unplaced_prim (λ t. sole (out-RawMask t).operands)
 sole_prim_kept = operand_kept unplaced_mask unplaced_prim (λ p. nowhere) mask_tree mask_parts roll-out-RawMask (λ o. ap (λ (z : MaskLayer). (z.operands, z.operators)) (out-roll-RawMask (record { operands = o.0; operators = o.1 }))) mask-bare
 
-term_kept : Keeps unplaced_expr unplaced_term as_term
+pub term_kept : Keeps unplaced_expr unplaced_term as_term
 term_kept = then_kept _ _ _ as_sum sole_term sum_kept sole_term_kept
 
-differ_kept : Keeps unplaced_expr unplaced_differ as_differ
+pub differ_kept : Keeps unplaced_expr unplaced_differ as_differ
 differ_kept = then_kept _ _ _ as_term (λ t. sole (out-RawTerm t).operands) term_kept sole_differ_kept
 
-union_kept : Keeps unplaced_expr unplaced_union as_union
+pub union_kept : Keeps unplaced_expr unplaced_union as_union
 union_kept = then_kept _ _ _ as_differ (λ t. sole (out-RawDiffer t).operands) differ_kept sole_union_kept
 
-mask_kept : Keeps unplaced_expr unplaced_mask as_mask
+pub mask_kept : Keeps unplaced_expr unplaced_mask as_mask
 mask_kept = then_kept _ _ _ as_union (λ t. sole (out-RawUnion t).operands) union_kept sole_mask_kept
 
-prim_kept : Keeps unplaced_expr unplaced_prim as_prim
+pub prim_kept : Keeps unplaced_expr unplaced_prim as_prim
 prim_kept = then_kept _ _ _ as_mask (λ t. sole (out-RawMask t).operands) mask_kept sole_prim_kept
 
 -- ---- what stands in a bracket
 
-bracket_primary_kept : Keeps unplaced_primary unplaced_expr bracket_primary
+pub bracket_primary_kept : Keeps unplaced_primary unplaced_expr bracket_primary
 bracket_primary_kept p =
     ap (λ z. bracket_primary (unplaced_primary z)) (sym (roll-out-RawPrimary p)) ∙ ap bracket_primary (primary_unplaced (out-RawPrimary p))
     ∙ elim (out-RawPrimary p) as (λ (y : PrimaryLayer). bracket_primary (primary_bare y) ≡ option_map unplaced_expr (held y)) [
@@ -124,23 +124,23 @@ bits_kept : (bits : List RawBits) (p : RawPrimary) → elim (map unplaced_bits b
 bits_kept [] p = bracket_primary_kept p
 bits_kept (b ∷ bs) p = refl
 
-bracket_prim_kept : Keeps unplaced_prim unplaced_expr bracket_prim
+pub bracket_prim_kept : Keeps unplaced_prim unplaced_expr bracket_prim
 bracket_prim_kept p =
     let y : PrimLayer = out-RawPrim p in
     ap (λ z. bracket_prim (unplaced_prim z)) (sym (roll-out-RawPrim p)) ∙ ap bracket_prim (prim-bare y.bits y.primary)
     ∙ ap without_bits (out-roll-RawPrim (record { bits = map unplaced_bits y.bits; primary = unplaced_primary y.primary }))
     ∙ bits_kept y.bits y.primary
 
-bracket_mask_kept : Keeps unplaced_mask unplaced_expr bracket_mask
+pub bracket_mask_kept : Keeps unplaced_mask unplaced_expr bracket_mask
 bracket_mask_kept = then_kept _ _ _ (λ m. sole (out-RawMask m).operands) bracket_prim sole_prim_kept bracket_prim_kept
 
-bracket_union_kept : Keeps unplaced_union unplaced_expr bracket_union
+pub bracket_union_kept : Keeps unplaced_union unplaced_expr bracket_union
 bracket_union_kept = then_kept _ _ _ (λ m. sole (out-RawUnion m).operands) bracket_mask sole_mask_kept bracket_mask_kept
 
-bracket_differ_kept : Keeps unplaced_differ unplaced_expr bracket_differ
+pub bracket_differ_kept : Keeps unplaced_differ unplaced_expr bracket_differ
 bracket_differ_kept = then_kept _ _ _ (λ m. sole (out-RawDiffer m).operands) bracket_union sole_union_kept bracket_union_kept
 
-bracket_term_kept : Keeps unplaced_term unplaced_expr bracket_term
+pub bracket_term_kept : Keeps unplaced_term unplaced_expr bracket_term
 bracket_term_kept = then_kept _ _ _ (λ m. sole (out-RawTerm m).operands) bracket_differ sole_differ_kept bracket_differ_kept
 
 bracket_sum_kept : Keeps unplaced_sum unplaced_expr bracket_sum
@@ -148,23 +148,8 @@ bracket_sum_kept = then_kept _ _ _ sole_term bracket_term sole_term_kept bracket
 
 -- ---- nothing is joined
 
-pub primary_stays : (x d : RawPrimary) → unplaced_primary d ≡ unplaced_primary x → (bracket_primary x >>- as_prim) ≡ None → (bracket_primary d >>- as_prim) ≡ None
-primary_stays = none_kept _ _ (λ z. bracket_primary z >>- as_prim) (then_kept _ _ _ bracket_primary as_prim bracket_primary_kept prim_kept)
-
-pub prim_stays : (x d : RawPrim) → unplaced_prim d ≡ unplaced_prim x → (bracket_prim x >>- as_mask) ≡ None → (bracket_prim d >>- as_mask) ≡ None
-prim_stays = none_kept _ _ (λ z. bracket_prim z >>- as_mask) (then_kept _ _ _ bracket_prim as_mask bracket_prim_kept mask_kept)
-
-pub mask_stays : (x d : RawMask) → unplaced_mask d ≡ unplaced_mask x → (bracket_mask x >>- as_union) ≡ None → (bracket_mask d >>- as_union) ≡ None
-mask_stays = none_kept _ _ (λ z. bracket_mask z >>- as_union) (then_kept _ _ _ bracket_mask as_union bracket_mask_kept union_kept)
-
-pub union_stays : (x d : RawUnion) → unplaced_union d ≡ unplaced_union x → (bracket_union x >>- as_differ) ≡ None → (bracket_union d >>- as_differ) ≡ None
-union_stays = none_kept _ _ (λ z. bracket_union z >>- as_differ) (then_kept _ _ _ bracket_union as_differ bracket_union_kept differ_kept)
-
-pub differ_stays : (x d : RawDiffer) → unplaced_differ d ≡ unplaced_differ x → (bracket_differ x >>- as_term) ≡ None → (bracket_differ d >>- as_term) ≡ None
-differ_stays = none_kept _ _ (λ z. bracket_differ z >>- as_term) (then_kept _ _ _ bracket_differ as_term bracket_differ_kept term_kept)
-
-pub term_stays : (x d : RawTerm) → unplaced_term d ≡ unplaced_term x → (bracket_term x >>- as_sum) ≡ None → (bracket_term d >>- as_sum) ≡ None
-term_stays = none_kept _ _ (λ z. bracket_term z >>- as_sum) (then_kept _ _ _ bracket_term as_sum bracket_term_kept sum_kept)
+pub stays : {A C : Type 0} (f : A → A) (h : C → C) (o : A → Option RawExpr) (p : RawExpr → Option C) → Keeps f unplaced_expr o → Keeps unplaced_expr h p → (x d : A) → f d ≡ f x → (o x >>- p) ≡ None → (o d >>- p) ≡ None
+stays f h o p k l = none_kept f h (λ z. o z >>- p) (then_kept f unplaced_expr h o p k l)
 
 pub sum_stays : (x d : RawSum) → unplaced_sum d ≡ unplaced_sum x → bracket_sum x ≡ None → bracket_sum d ≡ None
 sum_stays = none_kept _ _ bracket_sum bracket_sum_kept

@@ -42,18 +42,9 @@ plain (again a) = true
 
 rule_plain : {s : Sort} (r : Rule s) → plain (rule r) ≡ true
 unfolding rule octal int sint number_type size bits reference constant worded enclosed named primary prim mask union differ term sum cmp cand condition expr preset_value place further_places presets assigned preset range bounds group elem table elems_behind table_body data_table singles arrays item_data base overlay ptag worded_ips ips ips_list procedure_ps ps spec_behind spec citem typed_aitem behind_address aitem comm simple_behind unnamed simple stmt felem procedure_param param proc_behind worded_decl decl
-rule_plain bracketed = refl
-rule_plain subscript = refl
-rule_plain indexed = refl
-rule_plain called = refl
-rule_plain located = refl
-rule_plain conditional = refl
-rule_plain (if_rest p) = refl
-rule_plain (else_rest p) = refl
-rule_plain (for_rest p) = refl
 rule_plain (block_rest true) = refl
 rule_plain (block_rest false) = refl
-rule_plain proc_body = refl
+rule_plain _ = refl
 
 again_plain : {s : Sort} (a : Again s) → plain (again_rule a) ≡ true
 unfolding again_rule octal int sint number_type size bits reference constant worded enclosed named primary prim mask union differ term sum cmp cand condition expr preset_value place further_places presets assigned preset elem elems_behind simple_behind unnamed simple stmt

@@ -29,7 +29,7 @@ use Rattle.cw_tokens.specs.LeastTokens.{separated}
 use Rattle.cw_tokens.specs.TreeTokens.{total}
 use Rattle.cw_read_back.proofs.Shorter.Lengths.{between_grows, extended_most}
 use Rattle.cw_read_back.proofs.Shorter.Held.{mask_most, union_most, differ_most, term_most, sum_most, expr_of_falls, prim_of_falls}
-use Rattle.cw_tokens.proofs.Counting.{b_one, b_none, b_then, b_left, b_right, b_end, b_more, b_map, b_opens, pairs_count, name_counts, number_counts, sign_counts, factor_counts, comparator_counts, operator_counts}
+use Rattle.cw_tokens.proofs.Counting.{b_one, b_none, b_then, b_left, b_right, b_end, b_more, b_map, b_opens, pairs_count, operation_counts, name_counts, number_counts, sign_counts, factor_counts, comparator_counts, operator_counts}
 use Rattle.cw_read_back.proofs.Shorter.Built.{second_length, Built, Counts}
 
 -- ---- names, numbers, types and signs
@@ -153,19 +153,19 @@ prim_counts x u (b_map (b_then {v = v} {x = bits} {y = p} d e)) = omega (arith, 
 
 mask_counts : Counts a_mask mask (λ x. length (mask_tokens x))
 unfolding mask
-mask_counts x u (b_map (b_then {u = v} {x = y} {y = more} d e)) = omega (arith, mask_most y more, prim_counts y v d, pairs_count (λ z. length (prim_tokens z)) operator_counts prim_counts e)
+mask_counts x u d = operation_counts (λ z. length (prim_tokens z)) (λ z. length (mask_tokens z)) mask_most prim_counts operator_counts x u d
 
 union_counts : Counts a_union union (λ x. length (union_tokens x))
 unfolding union
-union_counts x u (b_map (b_then {u = v} {x = y} {y = more} d e)) = omega (arith, union_most y more, mask_counts y v d, pairs_count (λ z. length (mask_tokens z)) operator_counts mask_counts e)
+union_counts x u d = operation_counts (λ z. length (mask_tokens z)) (λ z. length (union_tokens z)) union_most mask_counts operator_counts x u d
 
 differ_counts : Counts a_differ differ (λ x. length (differ_tokens x))
 unfolding differ
-differ_counts x u (b_map (b_then {u = v} {x = y} {y = more} d e)) = omega (arith, differ_most y more, union_counts y v d, pairs_count (λ z. length (union_tokens z)) operator_counts union_counts e)
+differ_counts x u d = operation_counts (λ z. length (union_tokens z)) (λ z. length (differ_tokens z)) differ_most union_counts operator_counts x u d
 
 term_counts : Counts a_term term (λ x. length (term_tokens x))
 unfolding term
-term_counts x u (b_map (b_then {u = v} {x = y} {y = more} d e)) = omega (arith, term_most y more, differ_counts y v d, pairs_count (λ z. length (differ_tokens z)) factor_counts differ_counts e)
+term_counts x u d = operation_counts (λ z. length (differ_tokens z)) (λ z. length (term_tokens z)) term_most differ_counts factor_counts x u d
 
 sum_counts : Counts a_sum sum (λ x. length (sum_tokens x))
 unfolding sum
@@ -195,11 +195,11 @@ cond_most = worded_most cand_tokens cond_tokens words.Or cond_tree cond-tokens
 
 cand_counts : Counts a_cand cand (λ x. length (cand_tokens x))
 unfolding cand
-cand_counts x u (b_map (b_then {u = v} {x = y} {y = more} d e)) = omega (arith, cand_most y more, cmp_counts y v d, pairs_count (λ z. length (cmp_tokens z)) operator_counts cmp_counts e)
+cand_counts x u d = operation_counts (λ z. length (cmp_tokens z)) (λ z. length (cand_tokens z)) cand_most cmp_counts operator_counts x u d
 
 pub condition_counts : Counts a_cond condition (λ x. length (cond_tokens x))
 unfolding condition
-condition_counts x u (b_map (b_then {u = v} {x = y} {y = more} d e)) = omega (arith, cond_most y more, cand_counts y v d, pairs_count (λ z. length (cand_tokens z)) operator_counts cand_counts e)
+condition_counts x u d = operation_counts (λ z. length (cand_tokens z)) (λ z. length (cond_tokens z)) cond_most cand_counts operator_counts x u d
 
 choice_length : (at : Position) (c : RawCond) (a b : RawExpr) → length (expr_tokens (expr_tree.Choice at c a b)) ≡ 3 + (length (cond_tokens c) + (length (expr_tokens a) + length (expr_tokens b)))
 choice_length at c a b =

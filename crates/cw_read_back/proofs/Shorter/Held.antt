@@ -18,7 +18,7 @@ use Rattle.cw_tree.specs.declared.expression.RawPrim.{RawPrim, out-RawPrim}
 use Rattle.cw_tree.specs.declared.expression.RawSum.{RawSum, out-RawSum}
 use Rattle.cw_tree.specs.declared.expression.RawTerm.{RawTerm, out-RawTerm}
 use Rattle.cw_tree.specs.declared.expression.RawUnion.{RawUnion, out-RawUnion}
-use Rattle.cw_grammar.specs.Trees.{sole, ◌>>-◌, Operands, extended, first_of, as_sum, sole_term, as_term, as_differ, as_union, as_mask, as_prim, bracket_primary, bracket_prim, bracket_mask, bracket_union, bracket_differ, bracket_term, bracket_sum, mask_start, union_start, differ_start, term_start, mask_tree, union_tree, differ_tree, term_tree, Terms, sum_tree, terms_of, sum_start, more_terms, expr_or, expr_of, prim_or, prim_of}
+use Rattle.cw_grammar.specs.Trees.{◌>>-◌, sole, Operands, extended, first_of, as_sum, sole_term, as_term, as_differ, as_union, as_mask, as_prim, bracket_primary, bracket_prim, bracket_mask, bracket_union, bracket_differ, bracket_term, bracket_sum, mask_start, union_start, differ_start, term_start, mask_tree, union_tree, differ_tree, term_tree, Terms, sum_tree, terms_of, sum_start, more_terms, expr_or, expr_of, prim_or, prim_of}
 use Rattle.cw_show.specs.Spelling.{Spelling, word}
 use Rattle.cw_show.specs.Canonical.{Tokens, add_symbol, multiply_symbol, sign_tokens, between, operation, joined, bracketed}
 use Rattle.cw_show.specs.ExpressionTokens.{bits_tokens, expr_tokens, primary_tokens, differ_tokens, mask_tokens, prim_tokens, sum_tokens, term_tokens, union_tokens}
@@ -27,8 +27,9 @@ use Rattle.cw_show.proofs.ExpressionLayers.{differ-layer, mask-layer, term-layer
 use Rattle.cw_read_back.proofs.Expressions.ExpressionLayers.{mask_parts, union_parts, differ_parts, term_parts, sum_expr-tokens, bracket-tokens, differ-tokens, mask-tokens, prim-tokens, sum-tokens, term-tokens, union-tokens}
 use Rattle.cw_tokens.specs.LeastTokens.{separated}
 use Rattle.cw_tokens.specs.TreeTokens.{total}
+use Rattle.cw_tokens.proofs.Narrowed.{Kept, prim_keeps, mask_keeps, union_keeps, differ_keeps, term_keeps, sum_keeps, expr_keeps}
 use Rattle.cw_derived.proofs.Held.{not_none, same_some}
-use Rattle.cw_read_back.proofs.Shorter.Lengths.{joined_length, between_grows, operation_grows, extended_most, first_most, Falls, then_falls, sole_between, sole_operation}
+use Rattle.cw_read_back.proofs.Shorter.Lengths.{joined_length, between_grows, operation_grows, extended_most, first_most, Falls, sole_between, sole_operation}
 
 -- ---- trees by their operands
 
@@ -72,32 +73,17 @@ unsigned_falls (Some s) os xs t e = absurd (not_none e)
 sole_term_falls : Falls sum_tokens term_tokens sole_term
 sole_term_falls s t e = omega (arith, unsigned_falls (out-RawSum s).sign (map (λ s. add_symbol s.op) (out-RawSum s).operators) (out-RawSum s).operands t e, sum_layer s)
 
-as_term_falls : Falls expr_tokens term_tokens as_term
-as_term_falls e t q = then_falls (length (expr_tokens e)) sum_tokens term_tokens (as_sum e) sole_term t (as_sum_falls e) sole_term_falls q
-
 sole_differ_falls : Falls term_tokens differ_tokens (λ x. sole (out-RawTerm x).operands)
 sole_differ_falls x y e = omega (arith, sole_operation differ_tokens (map (λ s. multiply_symbol s.op) (out-RawTerm x).operators) (out-RawTerm x).operands y e, ap length (term-layer x))
-
-as_differ_falls : Falls expr_tokens differ_tokens as_differ
-as_differ_falls e t q = then_falls (length (expr_tokens e)) term_tokens differ_tokens (as_term e) (λ x. sole (out-RawTerm x).operands) t (as_term_falls e) sole_differ_falls q
 
 sole_union_falls : Falls differ_tokens union_tokens (λ x. sole (out-RawDiffer x).operands)
 sole_union_falls x y e = omega (arith, sole_between union_tokens (word words.Differ) (out-RawDiffer x).operands y e, ap length (differ-layer x))
 
-as_union_falls : Falls expr_tokens union_tokens as_union
-as_union_falls e t q = then_falls (length (expr_tokens e)) differ_tokens union_tokens (as_differ e) (λ x. sole (out-RawDiffer x).operands) t (as_differ_falls e) sole_union_falls q
-
 sole_mask_falls : Falls union_tokens mask_tokens (λ x. sole (out-RawUnion x).operands)
 sole_mask_falls x y e = omega (arith, sole_between mask_tokens (word words.Union) (out-RawUnion x).operands y e, ap length (union-layer x))
 
-as_mask_falls : Falls expr_tokens mask_tokens as_mask
-as_mask_falls e t q = then_falls (length (expr_tokens e)) union_tokens mask_tokens (as_union e) (λ x. sole (out-RawUnion x).operands) t (as_union_falls e) sole_mask_falls q
-
 sole_prim_falls : Falls mask_tokens prim_tokens (λ x. sole (out-RawMask x).operands)
 sole_prim_falls x y e = omega (arith, sole_between prim_tokens (word words.Mask) (out-RawMask x).operands y e, ap length (mask-layer x))
-
-as_prim_falls : Falls expr_tokens prim_tokens as_prim
-as_prim_falls e t q = then_falls (length (expr_tokens e)) mask_tokens prim_tokens (as_mask e) (λ x. sole (out-RawMask x).operands) t (as_mask_falls e) sole_prim_falls q
 
 -- ---- what a bracket alone holds
 
@@ -123,58 +109,57 @@ bare_held (b ∷ bits) x e q = absurd (not_none q)
 prim_held : Falls prim_tokens expr_tokens bracket_prim
 prim_held x e q = omega (arith, bare_held (out-RawPrim x).bits (out-RawPrim x).primary e q, prim_layer x)
 
-mask_held : Falls mask_tokens expr_tokens bracket_mask
-mask_held x e q = then_falls (length (mask_tokens x)) prim_tokens expr_tokens (sole (out-RawMask x).operands) bracket_prim e (sole_prim_falls x) prim_held q
-
-union_held : Falls union_tokens expr_tokens bracket_union
-union_held x e q = then_falls (length (union_tokens x)) mask_tokens expr_tokens (sole (out-RawUnion x).operands) bracket_mask e (sole_mask_falls x) mask_held q
-
-differ_held : Falls differ_tokens expr_tokens bracket_differ
-differ_held x e q = then_falls (length (differ_tokens x)) union_tokens expr_tokens (sole (out-RawDiffer x).operands) bracket_union e (sole_union_falls x) union_held q
-
-term_held : Falls term_tokens expr_tokens bracket_term
-term_held x e q = then_falls (length (term_tokens x)) differ_tokens expr_tokens (sole (out-RawTerm x).operands) bracket_differ e (sole_differ_falls x) differ_held q
-
-sum_held : Falls sum_tokens expr_tokens bracket_sum
-sum_held s e q = then_falls (length (sum_tokens s)) term_tokens expr_tokens (sole_term s) bracket_term e (sole_term_falls s) term_held q
+falls : Kept (λ (a b : ℕ). a ≤ b) (λ x. length (expr_tokens x)) (λ x. length (sum_tokens x)) (λ x. length (term_tokens x)) (λ x. length (differ_tokens x)) (λ x. length (union_tokens x)) (λ x. length (mask_tokens x)) (λ x. length (prim_tokens x)) (λ x. length (primary_tokens x))
+falls = record {
+  itself = λ v. omega arith;
+  through = λ a b c p q. omega (arith, p, q);
+  sums = as_sum_falls;
+  terms = sole_term_falls;
+  differs = sole_differ_falls;
+  unions = sole_union_falls;
+  masks = sole_mask_falls;
+  prims = sole_prim_falls;
+  held = prim_held;
+  primary_held = primary_held;
+}
 
 -- ---- operands: the first, and more behind their operators
 
 -- A tree of a rule whose first operand is joined where its bracket holds a tree of the same rule.
-joined_most : {A B C : Type 0} (inner : A → Tokens) (outer : C → Tokens) (written : Operands A B → Tokens) (parts : C → Operands A B) (tree : Operands A B → C) (bracket : A → Option RawExpr) (narrow : RawExpr → Option C)
-    → Falls inner expr_tokens bracket → Falls expr_tokens outer narrow → ((c : C) → outer c ≡ written (parts c)) → ((xs : List A) (os : List B) → outer (tree (xs, os)) ≡ written (xs, os))
+joined_most : {A B C : Type 0} (inner : A → Tokens) (outer : C → Tokens) (written : Operands A B → Tokens) (parts : C → Operands A B) (tree : Operands A B → C) (bracket : A → Option C)
+    → Falls inner outer bracket → ((c : C) → outer c ≡ written (parts c)) → ((xs : List A) (os : List B) → outer (tree (xs, os)) ≡ written (xs, os))
     → ((x : A) → written (x ∷ [], []) ≡ inner x ++ []) → ((ops : Operands A B) (b : B) (y : A) → length (written (ops.0 ++ y ∷ [], ops.1 ++ b ∷ [])) ≤ length (written ops) + suc (length (inner y)))
-    → (x : A) (more : List (B × A)) → length (outer (tree (extended (first_of parts (bracket x >>- narrow) x) more))) ≤ length (inner x) + separated (map (λ z. length (inner z.1)) more)
-joined_most {A = A} {B = B} inner outer written parts tree bracket narrow held narrowed taken makes alone grows x more =
+    → (x : A) (more : List (B × A)) → length (outer (tree (extended (first_of parts (bracket x) x) more))) ≤ length (inner x) + separated (map (λ z. length (inner z.1)) more)
+joined_most {A = A} {B = B} inner outer written parts tree bracket falling taken makes alone grows x more =
     let size : Operands A B → ℕ = λ o. length (written o) in
-    let start : Operands A B = first_of parts (bracket x >>- narrow) x in
+    let start : Operands A B = first_of parts (bracket x) x in
     let ops : Operands A B = extended start more in
     let one : size (x ∷ [], []) ≡ length (inner x ++ []) = ap length (alone x) in
     let all : length (outer (tree ops)) ≡ size ops = ap length (makes ops.0 ops.1) in
     let grown : size ops ≤ size start + separated (map (λ z. length (inner z.1)) more) = extended_most size (λ y. length (inner y)) grows start more in
     let begun : size start ≤ length (inner x) =
-    first_most size (λ y. length (inner y)) parts (bracket x >>- narrow) x (omega (arith, one, length-append (inner x) []))
-    (λ c e. omega (arith, ap length (taken c), then_falls (length (inner x)) expr_tokens outer (bracket x) narrow c (held x) narrowed e)) in
+    first_most size (λ y. length (inner y)) parts (bracket x) x (omega (arith, one, length-append (inner x) []))
+    (λ c e. omega (arith, ap length (taken c), falling x c e)) in
     omega (arith, all, grown, begun)
 
 -- one with a word between its operands
-worded_most : {A C : Type 0} (inner : A → Tokens) (outer : C → Tokens) (w : Word) (parts : C → Operands A Position) (tree : Operands A Position → C) (bracket : A → Option RawExpr) (narrow : RawExpr → Option C)
-    → Falls inner expr_tokens bracket → Falls expr_tokens outer narrow → ((c : C) → outer c ≡ between (word w) (map inner (parts c).0)) → ((xs : List A) (os : List Position) → outer (tree (xs, os)) ≡ between (word w) (map inner xs))
-    → (x : A) (more : List (Position × A)) → length (outer (tree (extended (first_of parts (bracket x >>- narrow) x) more))) ≤ length (inner x) + separated (map (λ z. length (inner z.1)) more)
-worded_most inner outer w parts tree bracket narrow held narrowed taken makes =
-    joined_most inner outer (λ o. between (word w) (map inner o.0)) parts tree bracket narrow held narrowed taken makes (λ x. refl) (λ o b y. between_grows (word w) inner o.0 y)
+worded_most : {A C : Type 0} (inner : A → Tokens) (outer : C → Tokens) (w : Word) (parts : C → Operands A Position) (tree : Operands A Position → C) (bracket : A → Option C)
+    → Falls inner outer bracket → ((c : C) → outer c ≡ between (word w) (map inner (parts c).0)) → ((xs : List A) (os : List Position) → outer (tree (xs, os)) ≡ between (word w) (map inner xs))
+    → (x : A) (more : List (Position × A)) → length (outer (tree (extended (first_of parts (bracket x) x) more))) ≤ length (inner x) + separated (map (λ z. length (inner z.1)) more)
+worded_most inner outer w parts tree bracket falling taken makes =
+    joined_most inner outer (λ o. between (word w) (map inner o.0)) parts tree bracket falling taken makes (λ x. refl) (λ o b y. between_grows (word w) inner o.0 y)
 
 pub mask_most : (x : RawPrim) (more : List (Position × RawPrim)) → length (mask_tokens (mask_tree (extended (mask_start x) more))) ≤ length (prim_tokens x) + separated (map (λ z. length (prim_tokens z.1)) more)
-mask_most = worded_most prim_tokens mask_tokens words.Mask mask_parts mask_tree bracket_prim as_mask prim_held as_mask_falls mask-layer mask-tokens
+mask_most = worded_most prim_tokens mask_tokens words.Mask mask_parts mask_tree (λ x. bracket_prim x >>- as_mask) (mask_keeps falls) mask-layer mask-tokens
 
 pub union_most : (x : RawMask) (more : List (Position × RawMask)) → length (union_tokens (union_tree (extended (union_start x) more))) ≤ length (mask_tokens x) + separated (map (λ z. length (mask_tokens z.1)) more)
-union_most = worded_most mask_tokens union_tokens words.Union union_parts union_tree bracket_mask as_union mask_held as_union_falls union-layer union-tokens
+union_most = worded_most mask_tokens union_tokens words.Union union_parts union_tree (λ x. bracket_mask x >>- as_union) (union_keeps falls) union-layer union-tokens
 
 pub differ_most : (x : RawUnion) (more : List (Position × RawUnion)) → length (differ_tokens (differ_tree (extended (differ_start x) more))) ≤ length (union_tokens x) + separated (map (λ z. length (union_tokens z.1)) more)
-differ_most = worded_most union_tokens differ_tokens words.Differ differ_parts differ_tree bracket_union as_differ union_held as_differ_falls differ-layer differ-tokens
+differ_most = worded_most union_tokens differ_tokens words.Differ differ_parts differ_tree (λ x. bracket_union x >>- as_differ) (differ_keeps falls) differ-layer differ-tokens
 
 pub term_most : (x : RawDiffer) (more : List (RawFactorSign × RawDiffer)) → length (term_tokens (term_tree (extended (term_start x) more))) ≤ length (differ_tokens x) + separated (map (λ z. length (differ_tokens z.1)) more)
-term_most = joined_most differ_tokens term_tokens (λ (o : Operands RawDiffer RawFactorSign). operation (map (λ (s : RawFactorSign). multiply_symbol s.op) o.1) (map differ_tokens o.0)) term_parts term_tree bracket_differ as_term differ_held as_term_falls term-layer term-tokens
+term_most = joined_most differ_tokens term_tokens (λ (o : Operands RawDiffer RawFactorSign). operation (map (λ (s : RawFactorSign). multiply_symbol s.op) o.1) (map differ_tokens o.0)) term_parts term_tree (λ x. bracket_differ x >>- as_term) (term_keeps falls) term-layer term-tokens
     (λ x. refl) (λ o b y. operation_grows (λ (s : RawFactorSign). multiply_symbol s.op) differ_tokens o.1 o.0 b y)
 
 -- ---- sums
@@ -191,7 +176,7 @@ terms_fall (Some s) t k = omega (arith, sum_layer s, k s refl)
 
 sum_begun : (o : Option RawSign) (t : RawTerm) → terms_length (sum_start o t) ≤ length (sign_tokens o) + length (term_tokens t)
 sum_begun None t =
-    let h = terms_fall (bracket_term t >>- as_sum) t (λ s e. then_falls (length (term_tokens t)) expr_tokens sum_tokens (bracket_term t) as_sum s (term_held t) as_sum_falls e) in
+    let h = terms_fall (bracket_term t >>- as_sum) t (sum_keeps falls t) in
     omega (arith, h)
 sum_begun (Some s) t = omega (arith, length-append (term_tokens t) [])
 
@@ -211,7 +196,7 @@ expr_or_falls None s k = let a = ap length (sum_expr-tokens s) in omega (arith, 
 expr_or_falls (Some e) s k = k e refl
 
 pub expr_of_falls : (s : RawSum) → length (expr_tokens (expr_of s)) ≤ length (sum_tokens s)
-expr_of_falls s = expr_or_falls (bracket_sum s) s (sum_held s)
+expr_of_falls s = expr_or_falls (bracket_sum s) s (expr_keeps falls s)
 
 bits_joined : (xs ys : List RawBits) → total (map (λ b. length (bits_tokens b)) (xs ++ ys)) ≡ total (map (λ b. length (bits_tokens b)) xs) + total (map (λ b. length (bits_tokens b)) ys)
 bits_joined [] ys = omega arith
@@ -222,4 +207,4 @@ prim_or_falls None bits x k = omega (arith, prim_made bits x)
 prim_or_falls (Some q) bits x k = omega (arith, prim_made (bits ++ (out-RawPrim q).bits) (out-RawPrim q).primary, bits_joined bits (out-RawPrim q).bits, prim_layer q, k q refl)
 
 pub prim_of_falls : (bits : List RawBits) (x : RawPrimary) → length (prim_tokens (prim_of bits x)) ≤ total (map (λ b. length (bits_tokens b)) bits) + length (primary_tokens x)
-prim_of_falls bits x = prim_or_falls (bracket_primary x >>- as_prim) bits x (λ q e. then_falls (length (primary_tokens x)) expr_tokens prim_tokens (bracket_primary x) as_prim q (primary_held x) as_prim_falls e)
+prim_of_falls bits x = prim_or_falls (bracket_primary x >>- as_prim) bits x (prim_keeps falls x)

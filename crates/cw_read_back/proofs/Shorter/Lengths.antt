@@ -98,10 +98,6 @@ first_most size of parts (Some c) x h k = k c refl
 abbrev pub Falls : {A B : Type 0} → (A → Tokens) → (B → Tokens) → (A → Option B) → Type 0
 Falls {A = A} {B = B} f g step = (x : A) (y : B) → step x ≡ Some y → length (g y) ≤ length (f x)
 
-pub then_falls : {B C : Type 0} (n : ℕ) (g : B → Tokens) (h : C → Tokens) (o : Option B) (next : B → Option C) (z : C) → ((y : B) → o ≡ Some y → length (g y) ≤ n) → Falls g h next → (o >>- next) ≡ Some z → length (h z) ≤ n
-then_falls n g h None next z k l e = absurd (not_none e)
-then_falls n g h (Some y) next z k l e = omega (arith, l y z e, k y refl)
-
 pub sole_between : {A : Type 0} (f : A → Tokens) (t : Spelling) (xs : List A) (x : A) → sole xs ≡ Some x → length (f x) ≤ length (between t (map f xs))
 sole_between f t [] x e = absurd (not_none e)
 sole_between f t (y ∷ []) x e = let same = ap (λ z. length (f z)) (same_some e) in omega (arith, same, length-append (f y) [])

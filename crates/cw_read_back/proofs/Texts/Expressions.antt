@@ -26,7 +26,8 @@ use Rattle.cw_read_back.proofs.Texts.Spelled.{Spelled, the_word, the_symbol, the
 use Rattle.cw_read_back.proofs.Texts.Plain.{octal_spelled, type_spelled}
 use Rattle.cw_read_back.proofs.Texts.Tokens.{IsProperItem, name_spelled, string_spelled, literal_spelled}
 use Rattle.cw_read_back.proofs.Texts.Operands.{mask_made, union_made, differ_made, term_made, sum_made, expr_made, prim_made, cand_made, cond_made, cmp_made}
-use Rattle.cw_read_back.proofs.Texts.Good.{OfOption, OfEither, Keeps, given_good}
+use Rattle.cw_tokens.proofs.Kept.{OfOption, OfEither}
+use Rattle.cw_read_back.proofs.Texts.Good.{Keeps, given_good}
 
 abbrev pub NameGood : RawName → Type 0
 NameGood f = Spelled (name_tokens f)
@@ -121,25 +122,14 @@ prim_keeps : Keeps prim
 unfolding prim
 prim_keeps = ((tt, primary_keeps), λ x h. prim_made x.0 x.1 (given_good primary x.1 h.1))
 
-mask_keeps : Keeps mask
-unfolding mask
-mask_keeps = ((prim_keeps, (tt, prim_keeps)), λ x h. mask_made x.0 x.1 (given_good prim x.0 h.0) h.1)
-
-union_keeps : Keeps union
-unfolding union
-union_keeps = ((mask_keeps, (tt, mask_keeps)), λ x h. union_made x.0 x.1 (given_good mask x.0 h.0) h.1)
-
-differ_keeps : Keeps differ
-unfolding differ
-differ_keeps = ((union_keeps, (tt, union_keeps)), λ x h. differ_made x.0 x.1 (given_good union x.0 h.0) h.1)
-
-term_keeps : Keeps term
-unfolding term
-term_keeps = ((differ_keeps, (tt, differ_keeps)), λ x h. term_made x.0 x.1 (given_good differ x.0 h.0) h.1)
-
 sum_keeps : Keeps sum
-unfolding sum
-sum_keeps = ((tt, (term_keeps, (tt, term_keeps))), λ x h. sum_made x.0 x.1.0 x.1.1 (given_good term x.1.0 h.1.0) h.1.1)
+unfolding mask union differ term sum
+sum_keeps =
+    let mask_keeps : Keeps mask = ((prim_keeps, (tt, prim_keeps)), λ x h. mask_made x.0 x.1 (given_good prim x.0 h.0) h.1) in
+    let union_keeps : Keeps union = ((mask_keeps, (tt, mask_keeps)), λ x h. union_made x.0 x.1 (given_good mask x.0 h.0) h.1) in
+    let differ_keeps : Keeps differ = ((union_keeps, (tt, union_keeps)), λ x h. differ_made x.0 x.1 (given_good union x.0 h.0) h.1) in
+    let term_keeps : Keeps term = ((differ_keeps, (tt, differ_keeps)), λ x h. term_made x.0 x.1 (given_good differ x.0 h.0) h.1) in
+    ((tt, (term_keeps, (tt, term_keeps))), λ x h. sum_made x.0 x.1.0 x.1.1 (given_good term x.1.0 h.1.0) h.1.1)
 
 cmp_keeps : Keeps cmp
 unfolding cmp

@@ -2,7 +2,7 @@
 -- again. Where a sort has none of them nothing need be known.
 use Rattle.std.proofs.Common.{◌≡◌, ℕ, Bool, true, false, ◌&&◌, List, [], ◌∷◌, ◌++◌, Option, Some, None, refl}
 use Rattle.cw_grammar.specs.Tokens.{Item, same}
-use Rattle.cw_grammar.specs.Grammar.{Either, left, right, Sort, a_token, a_pair, a_list, an_option, an_either, a_position, a_name, a_number, an_octal, a_literal, an_int, a_sint, a_size, a_type, a_sign, a_factor_sign, a_compare_sign, a_bits, an_expr, a_cond, a_cand, a_cmp, a_sum, a_term, a_differ, a_union, a_mask, a_prim, a_primary, a_ref, a_range, a_bounds, a_group, an_elem, a_place, a_presets, a_table, a_data, a_base, a_stmt, a_form, a_simple, a_felem, a_block, a_decl, a_ptag, a_proc, a_param, an_ips, a_ps, a_spec, a_citem, an_aitem, a_comm, a_raw, a_from, Value, Rule, Again, Grammar, one, none, ◌·◌, ◌∣◌, many, ◌⇒◌, opens, again}
+use Rattle.cw_grammar.specs.Grammar.{Sort, a_token, a_pair, a_list, an_option, an_either, a_position, a_name, a_number, an_octal, a_literal, an_int, a_sint, a_size, a_type, a_sign, a_factor_sign, a_compare_sign, a_bits, an_expr, a_cond, a_cand, a_cmp, a_sum, a_term, a_differ, a_union, a_mask, a_prim, a_primary, a_ref, a_range, a_bounds, a_group, an_elem, a_place, a_presets, a_table, a_data, a_base, a_stmt, a_form, a_simple, a_felem, a_block, a_decl, a_ptag, a_proc, a_param, an_ips, a_ps, a_spec, a_citem, an_aitem, a_comm, a_raw, a_from, Value, Rule, Again, Grammar, one, none, ◌·◌, ◌∣◌, many, ◌⇒◌, opens, again}
 use Rattle.cw_grammar.specs.Table.{rule, again_rule}
 use Rattle.cw_grammar.specs.Derives.{Derives, is_one, is_none, is_then, is_left, is_right, is_end, is_more, is_map, is_opens, is_again}
 use Rattle.cw_show.specs.Canonical.{literal}
@@ -12,6 +12,7 @@ use Rattle.cw_show.specs.SegmentTokens.{spec_tokens, citem_tokens, aitem_tokens,
 use Rattle.cw_show.specs.StatementTokens.{param_tokens, felem_tokens, decl_tokens, form_tokens, simple_tokens, block_tokens, stmt_tokens, canonical_tokens}
 use Rattle.cw_tree.specs.declared.items.RawElem.{RawElem}
 use Rattle.cw_tree.specs.declared.items.RawTable.{RawTable}
+use Rattle.cw_tokens.proofs.Kept.{OfOption, OfEither, Unless, option_known, either_known, first_kept, second_kept, left_kept, right_kept, item_kept, value_kept, map_kept, at_kept}
 use Rattle.cw_read_back.proofs.Expressions.Reading.{Each}
 use Rattle.cw_read_back.proofs.Texts.Spelled.{Spelled}
 use Rattle.cw_read_back.proofs.Texts.Tokens.{IsProperItem}
@@ -42,19 +43,6 @@ plain a_proc = true
 plain an_ips = true
 plain a_ps = true
 plain _ = false
-
-abbrev pub OfOption : {A : Type 0} → (A → Type 0) → Option A → Type 0
-OfOption P None = Unit {0}
-OfOption P (Some x) = P x
-
-abbrev pub OfEither : {A B : Type 0} → (A → Type 0) → (B → Type 0) → Either A B → Type 0
-OfEither P Q (left x) = P x
-OfEither P Q (right y) = Q y
-
--- what a rule must keep, but for a plain sort
-abbrev pub Unless : Bool → Type 0 → Type 0
-Unless true T = Unit {0}
-Unless false T = T
 
 abbrev pub ElemGood : RawElem → Type 0
 ElemGood x = Spelled (elem_tokens x)
@@ -137,14 +125,6 @@ each_known : {A : Type 0} (P : A → Type 0) → ((x : A) → P x) → (xs : Lis
 each_known P h [] = tt
 each_known P h (x ∷ xs) = (h x, each_known P h xs)
 
-option_known : {A : Type 0} (P : A → Type 0) → ((x : A) → P x) → (o : Option A) → OfOption P o
-option_known P h None = tt
-option_known P h (Some x) = h x
-
-either_known : {A B : Type 0} (P : A → Type 0) (Q : B → Type 0) → ((x : A) → P x) → ((y : B) → Q y) → (o : Either A B) → OfEither P Q o
-either_known P Q h k (left x) = h x
-either_known P Q h k (right y) = k y
-
 known : (s : Sort) → plain s ≡ true → (x : Value s) → Good s x
 known (a_pair s t) h x = (known s (first_true (plain s) (plain t) h) x.0, known t (second_true (plain s) (plain t) h) x.1)
 known (a_list s) h xs = each_known (λ y. Good s y) (λ y. known s h y) xs
@@ -178,35 +158,6 @@ given_good g x h = h
 
 -- ---- what a rule keeps
 
-first_kept : (a b : Bool) (S T : Type 0) → Unless (a && b) (Unless a S × Unless b T) → Unless a S
-first_kept true b S T h = tt
-first_kept false b S T h = h.0
-
-second_kept : (a b : Bool) (S T : Type 0) → Unless (a && b) (Unless a S × Unless b T) → Unless b T
-second_kept true true S T h = tt
-second_kept true false S T h = h.1
-second_kept false b S T h = h.1
-
-left_kept : (a : Bool) (S T : Type 0) → Unless a (Unless a S × Unless a T) → Unless a S
-left_kept true S T h = tt
-left_kept false S T h = h.0
-
-right_kept : (a : Bool) (S T : Type 0) → Unless a (Unless a S × Unless a T) → Unless a T
-right_kept true S T h = tt
-right_kept false S T h = h.1
-
-item_kept : (a : Bool) (S : Type 0) → Unless a (Unless a S) → Unless a S
-item_kept true S h = tt
-item_kept false S h = h
-
-value_kept : (a : Bool) (S : Type 0) → (a ≡ true → S) → Unless a S → S
-value_kept true S f h = f refl
-value_kept false S f h = h
-
-map_kept : (a b : Bool) (S T U : Type 0) → (b ≡ true → U) → (Unless a S → T) → Unless b (Unless a S × (T → U)) → U
-map_kept a true S T U f g h = f refl
-map_kept a false S T U f g h = h.1 (g h.0)
-
 first_items : (u v : List Item) → Each IsProperItem (u ++ v) → Each IsProperItem u
 first_items [] v h = tt
 first_items (t ∷ u) v h = (h.0, first_items u v h.1)
@@ -225,11 +176,9 @@ module _ (rules : (s : Sort) (r : Rule s) → Keeps (rule r)) (agains : (s : Sor
   given (is_right {s = s} {g = g} {h = h} {x = x} d) b k = given_good h x (given d b (right_kept (plain s) (Kept g) (Kept h) k))
   given is_end b k = tt
   given (is_more {s = s} {g = g} {u = u} {v = v} {x = x} d e) b k = (given_good g x (given d (first_items u v b) (item_kept (plain s) (Kept g) k)), given e (last_items u v b) k)
-  given (is_map {s = s} {t = t} {f = f} {g = g} {x = x} d) b k = map_kept (plain s) (plain t) (Kept g) (Given g x) (Good t (f x)) (λ e. known t e (f x)) (λ i. given d b i) (mapped (plain t) k)
-    where
-      mapped : (a : Bool) → Unless a (Unless (plain s) (Kept g) × ((y : Value s) → Given g y → Good t (f y))) → Unless a (Unless (plain s) (Kept g) × (Given g x → Good t (f x)))
-      mapped true i = tt
-      mapped false i = (i.0, i.1 x)
+  given (is_map {s = s} {t = t} {f = f} {g = g} {x = x} d) b k =
+      map_kept (plain s) (plain t) (Kept g) (Given g x) (Good t (f x)) (λ e. known t e (f x)) (λ i. given d b i)
+      (at_kept (plain t) (Unless (plain s) (Kept g)) (Given g) (λ y. Good t (f y)) (Good t (f x)) x (λ i. i) k)
   given (is_opens {r = r} {x = x} e d) b k = (tt, given_good (rule r) x (given d b.1 (rules _ r)))
   given (is_again {a = a} {x = x} d) b k = given_good (again_rule a) x (given d b (agains _ a))
 

@@ -28,7 +28,8 @@ use Rattle.cw_read_back.proofs.Texts.Spelled.{each_append, Spelled, nothing, the
 use Rattle.cw_read_back.proofs.Texts.Plain.{sign_spelled, octal_spelled, int_spelled, sint_spelled, size_spelled, type_spelled, bounds_spelled, shape_spelled, two_ints_spelled, address_spelled, answer_spelled, tag_spelled, ps_listed}
 use Rattle.cw_read_back.proofs.Texts.Tokens.{literal_spelled}
 use Rattle.cw_read_back.proofs.Texts.Expressions.{NameGood, name_keeps, names_keep}
-use Rattle.cw_read_back.proofs.Texts.Good.{OfOption, ElemGood, TableGood, Given, Keeps, given_good}
+use Rattle.cw_tokens.proofs.Kept.{OfOption}
+use Rattle.cw_read_back.proofs.Texts.Good.{ElemGood, TableGood, Given, Keeps, given_good}
 
 -- ---- trees
 

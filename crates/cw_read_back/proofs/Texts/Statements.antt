@@ -42,7 +42,8 @@ use Rattle.cw_read_back.proofs.Expressions.Reading.{Each}
 use Rattle.cw_read_back.proofs.Trees.StatementLayers.{data_decl-tokens, overlay_decl-tokens, switch_decl-tokens, proc_decl-tokens, simple_form-tokens, if_alone-tokens, if_else-tokens, for_form-tokens, empty-tokens, assign-tokens, assign_bits-tokens, goto-tokens, goto_switch-tokens, call-tokens, answer-tokens, block_form-tokens, block-tokens, proc-tokens, stmt-tokens}
 use Rattle.cw_read_back.proofs.Texts.Spelled.{Spelled, nothing, the_word, the_symbol, ◌&◌, front_of, rest_of, in_squares, list_between, list_in_brackets, list_joined, list_ended}
 use Rattle.cw_read_back.proofs.Texts.Plain.{type_spelled, one_bits_spelled, answer_spelled, tag_spelled, ips_listed}
-use Rattle.cw_read_back.proofs.Texts.Good.{OfOption, Keeps, given_good}
+use Rattle.cw_tokens.proofs.Kept.{OfOption}
+use Rattle.cw_read_back.proofs.Texts.Good.{Keeps, given_good}
 use Rattle.cw_read_back.proofs.Texts.Expressions.{NameGood, ExprGood, name_good, index_good, bare_good, name_keeps, names_keep, reference_keeps, condition_keeps, expr_keeps}
 use Rattle.cw_read_back.proofs.Texts.Items.{names_good, table_good, presets_keep, table_keeps, elems_keep, data_table_keeps, singles_keep, arrays_keep, overlay_keeps, overlaid, comm_keeps}
 

@@ -21,6 +21,7 @@ use Rattle.cw_lex.proofs.Lists.{cut}
 use Rattle.cw_grammar.specs.Tokens.{Item, symbol_code, word_code, same, is_identifier, identifier, name_of, unquoted, characters, first_or_zero, literal_byte}
 use Rattle.cw_show.specs.Canonical.{name, literal, doubled, string}
 use Rattle.cw_spelled.specs.Proper.{IsProperAs}
+use Rattle.cw_tokens.proofs.Codes.{symbol_after, word_after}
 use Rattle.cw_read_back.proofs.Texts.Spelled.{Spelled, alone}
 
 -- The token is spelled as its kind asks.
@@ -28,14 +29,6 @@ abbrev pub IsProperItem : Item → Type 0
 IsProperItem t = IsProperAs t.kind t.text
 
 -- ---- kinds
-
-symbol_after : (s : Symbol) → 3 < symbol_code s
-symbol_after symbols.Semicolon = omega arith
-symbol_after _ = omega arith
-
-word_after : (w : Word) → 3 < word_code w
-word_after words.Absolute = omega arith
-word_after _ = omega arith
 
 not_so : (n k : ℕ) → 3 < n → k < 4 → (n == k) ≡ true → ⊥
 not_so n k h l e = grind (arith, nat_tests, h, l, e)

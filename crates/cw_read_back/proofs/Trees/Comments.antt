@@ -95,31 +95,17 @@ again_same false b = refl
 -- ---- what a grammar may end with, and where it may stand
 
 abbrev rule_tail : {s : Sort} → Rule s → Bool
-rule_tail bracketed = false
-rule_tail subscript = false
-rule_tail indexed = false
-rule_tail called = false
-rule_tail located = false
-rule_tail conditional = false
 rule_tail (if_rest p) = true
 rule_tail (else_rest p) = true
 rule_tail (for_rest p) = true
 rule_tail (block_rest p) = true
 rule_tail proc_body = true
+rule_tail _ = false
 
 -- whether a semicolon may stand before what is inside a level
 abbrev rule_front : {s : Sort} → Rule s → Bool
-rule_front bracketed = false
-rule_front subscript = false
-rule_front indexed = false
-rule_front called = false
-rule_front located = false
-rule_front conditional = false
-rule_front (if_rest p) = false
-rule_front (else_rest p) = false
-rule_front (for_rest p) = false
-rule_front (block_rest p) = false
 rule_front proc_body = true
+rule_front _ = false
 
 abbrev again_front : {s : Sort} → Again s → Bool
 again_front (labelled p) = true
@@ -164,18 +150,9 @@ again_below false false h k = k
 
 rule_fits : {s : Sort} (r : Rule s) → fits (rule r) (rule_front r) ≡ true
 unfolding rule again_rule octal int sint number_type size bits reference constant worded enclosed named primary prim mask union differ term sum cmp cand condition expr preset_value place further_places presets assigned preset range bounds group elem table elems_behind table_body data_table singles arrays item_data base overlay ptag worded_ips ips ips_list procedure_ps ps spec_behind spec citem typed_aitem behind_address aitem comm simple_behind unnamed simple stmt felem procedure_param param proc_behind worded_decl decl
-rule_fits bracketed = refl
-rule_fits subscript = refl
-rule_fits indexed = refl
-rule_fits called = refl
-rule_fits located = refl
-rule_fits conditional = refl
-rule_fits (if_rest p) = refl
-rule_fits (else_rest p) = refl
-rule_fits (for_rest p) = refl
 rule_fits (block_rest true) = refl
 rule_fits (block_rest false) = refl
-rule_fits proc_body = refl
+rule_fits _ = refl
 
 rule_ends : {s : Sort} (r : Rule s) → Below (after (rule r) (rule_front r)) (rule_tail r)
 unfolding rule again_rule octal int sint number_type size bits reference constant worded enclosed named primary prim mask union differ term sum cmp cand condition expr

@@ -3,12 +3,9 @@ ghost use Rattle.std.specs.Prelude.{ℕ, ◌≤◌, List, length};
 ghost use Rattle.cw_lex.specs.Lexical.{Lexeme};
 ghost use Rattle.cw_macro.specs.Expansion.{Expands};
 ghost use Rattle.cw_tree.specs.declared.segment.Raw.{Raw};
-ghost use Rattle.cw_grammar.specs.Tokens.{numbered};
-ghost use Rattle.cw_grammar.specs.Grammar.{a_raw};
-ghost use Rattle.cw_grammar.specs.Statements.{text};
-ghost use Rattle.cw_grammar.specs.Derives.{Derives};
+ghost use Rattle.cw_tokens.specs.Texts.{IsTreeOf};
 
 /// The tokens of a text expand to themselves.
 pub fn expands_to_itself()
-    ensures { (n : ℕ) (ts : List Lexeme) (x : Raw) → length ts ≤ 65535 → Derives n a_raw text (numbered 1 ts) x → Expands ts ts }
+    ensures { (n : ℕ) (ts : List Lexeme) (x : Raw) → length ts ≤ 65535 → IsTreeOf n ts x → Expands ts ts }
 {}

@@ -4,10 +4,7 @@ ghost use Rattle.cw_lex.specs.Lexical.{Lexeme};
 ghost use Rattle.cw_macro.specs.Expansion.{Expands};
 ghost use Rattle.cw_spelled.specs.Proper.{IsProperToken};
 ghost use Rattle.cw_tree.specs.declared.segment.Raw.{Raw};
-ghost use Rattle.cw_grammar.specs.Tokens.{numbered};
-ghost use Rattle.cw_grammar.specs.Grammar.{a_raw};
-ghost use Rattle.cw_grammar.specs.Statements.{text};
-ghost use Rattle.cw_grammar.specs.Derives.{Derives};
+ghost use Rattle.cw_tokens.specs.Texts.{IsTreeOf};
 ghost use Rattle.cw_show.specs.StatementTokens.{canonical_tokens};
 ghost use Rattle.cw_read_back.specs.Expressions.Leaves.{HasSpelledLeaves};
 ghost use Rattle.cw_read_back.specs.Trees.ReadBack.{IsReadBack};
@@ -21,7 +18,7 @@ use cw_spelled::laws::spelled;
 /// Names, strings and literals of a tree whose tokens are spelled right can be written again.
 pub fn leaves_spelled()
     ensures { (n : ℕ) (ts : List Lexeme) (raw : Raw) → All IsProperToken ts
-        → Derives n a_raw text (numbered 1 ts) raw → HasSpelledLeaves (canonical_tokens raw) }
+        → IsTreeOf n ts raw → HasSpelledLeaves (canonical_tokens raw) }
 {}
 
 /// The canonical text of a text's tree has that tree again, but for its positions, and its tokens expand to themselves.

@@ -2,11 +2,10 @@
 ghost use Rattle.std.specs.Prelude.{◌≡◌, ℕ, Bool, false, List, [], map};
 ghost use Rattle.cw_lex.specs.Lexical.{Lexeme};
 ghost use Rattle.cw_tree.specs.declared.segment.Raw.{Raw};
-ghost use Rattle.cw_grammar.specs.Tokens.{numbered};
-ghost use Rattle.cw_grammar.specs.Grammar.{a_bounds, a_table, a_data, a_base, a_ptag, an_ips, a_ps, a_spec, a_citem, an_aitem};
+ghost use Rattle.cw_tokens.specs.Texts.{IsTreeOf};
+ghost use Rattle.cw_grammar.specs.Grammar.{a_bounds, a_table, a_data, a_base, an_ips, a_ps, a_spec, a_citem, an_aitem};
 ghost use Rattle.cw_grammar.specs.Grammar.{a_comm, a_felem, a_param, a_decl, a_stmt, a_raw, again, labelled};
-ghost use Rattle.cw_grammar.specs.Statements.{in_square, bounds, table, item_data, base, ips, ps, spec, citem, aitem, comm, felem, param, decl, text};
-ghost use Rattle.cw_grammar.specs.Derives.{Derives};
+ghost use Rattle.cw_grammar.specs.Statements.{in_square, bounds, table, item_data, base, ips, ps, spec, citem, aitem, comm, felem, param, decl};
 ghost use Rattle.cw_derived.specs.NormalForm.{IsNormal};
 ghost use Rattle.cw_show.specs.ItemTokens.{bounds_tokens, table_with, data_tokens, base_tokens};
 ghost use Rattle.cw_show.specs.SegmentTokens.{ips_tokens, ps_tokens, spec_tokens, citem_tokens, aitem_tokens, comm_tokens};
@@ -44,7 +43,7 @@ pub fn statements()
 /// The tokens of a text that are spelled as the canonical ones of a tree derive it again, but for positions.
 pub fn text()
     ensures { (n : ℕ) (x : Raw) (marks : List ℕ) → IsNormal n false a_raw x marks → (ts : List Lexeme)
-        → map spelling ts ≡ canonical_tokens x → (d : Raw) × Derives n a_raw text (numbered 1 ts) d
+        → map spelling ts ≡ canonical_tokens x → (d : Raw) × IsTreeOf n ts d
         × (unplaced d ≡ unplaced x) }
 {}
 

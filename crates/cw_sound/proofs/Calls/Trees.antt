@@ -4,5 +4,4 @@ pub mod Rules
 pub mod Conditions
 pub mod Arguments
 pub mod Primaries
-pub mod Layers
 pub mod Trees

@@ -34,7 +34,7 @@ use Rattle.cw_safety.specs.WellFormed.{takes_arguments, parameter_takes, control
 use Rattle.cw_gen_expr.specs.NamedItems.{has_words}
 use Rattle.cw_gen_expr.specs.BuiltExpressions.{all_built, answers, is_argument}
 use Rattle.cw_built.specs.Built.{alone, at_work}
-use Rattle.cw_sound.specs.Uses.Stands.{kind_of_plain, taken_by_plain, kind_specified, IsParameter, Takes, IsProcedure, IsReader, IsWriter, StandsAs}
+use Rattle.cw_sound.specs.Uses.Stands.{kind_of_plain, taken_by_plain, kind_specified, IsParameter, Takes, IsProcedure, Called, IsReader, IsWriter, StandsAs}
 use Rattle.cw_sound.proofs.Expressions.Truth.{no, both}
 use Rattle.cw_sound.proofs.Expressions.Judging.{NoFault}
 use Rattle.cw_sound.proofs.Expressions.Parts.{Result}
@@ -131,35 +131,19 @@ module _ (named : Named) (numbers : Numbers) (u : SourceUnit) (who : Option ℕ)
     pub call : IsTrue (is_call (alone u) 0 (at_work who) wanted (target named numbers n) (Some (map kind_specified params)))
     pub scale : answer_scale u (target named numbers n) ≡ fraction_of_kind (kind_of named n)
 
+  called_as : {Is : List RawPs → Option Numbered → Type 0} (wanted : Bool) (n : RawName) (t : Option RawType) → Called named numbers u who n t Is
+      → ((params : List RawPs) (number : Option Numbered) → Is params number → IsTrue (is_call (alone u) 0 (at_work who) wanted (target_of (kind_of named n) number) (Some (map kind_specified params))))
+      → answer_scale u (target named numbers n) ≡ fraction_of_kind (kind_of named n) → Callable wanted n
+  called_as wanted n t x call scale = record { answer = t; params = x.params; signature = x.signature; call = call x.params (number_of named numbers n) x.is; scale = scale }
+
   pub may_be_called : (wanted : Bool) (k : NameKind) (n : RawName) → kind_of named n ≡ Some k → StandsAs named numbers u who k n → IsTrue (is_callable wanted k) → Callable wanted n
-  may_be_called wanted (kind.Proc t) n is x h = record {
-    answer = t;
-    params = x.params;
-    signature = x.signature;
-    call = procedure_called wanted (kind_of named n) x.params (number_of named numbers n) x.is;
-    scale = x.scale ∙ sym (ap fraction_of_kind is);
-  }
-  may_be_called wanted (kind.ProcParam t) n is x h = record {
-    answer = t;
-    params = x.params;
-    signature = x.signature;
-    call = parameter_called wanted (kind_of named n) x.params (number_of named numbers n) x.is;
-    scale = x.scale ∙ sym (ap fraction_of_kind is);
-  }
-  may_be_called wanted kind.ReadByte n is x h = record {
-    answer = x.0;
-    params = x.1.params;
-    signature = x.1.signature;
-    call = reader_called wanted (kind_of named n) x.1.params (number_of named numbers n) x.1.is;
-    scale = ap (λ (m : Option Numbered). answer_scale u (target_of (kind_of named n) m)) x.1.is.1 ∙ sym (ap fraction_of_kind is);
-  }
-  may_be_called wanted kind.WriteByte n is x h = record {
-    answer = x.0;
-    params = x.1.params;
-    signature = x.1.signature;
-    call = writer_called wanted (kind_of named n) x.1.params (number_of named numbers n) h x.1.is;
-    scale = ap (λ (m : Option Numbered). answer_scale u (target_of (kind_of named n) m)) x.1.is.1 ∙ sym (ap fraction_of_kind is);
-  }
+  may_be_called wanted (kind.Proc t) n is x h = called_as wanted n t x (procedure_called wanted (kind_of named n)) (x.scale ∙ sym (ap fraction_of_kind is))
+  may_be_called wanted (kind.ProcParam t) n is x h = called_as wanted n t x (parameter_called wanted (kind_of named n)) (x.scale ∙ sym (ap fraction_of_kind is))
+  may_be_called wanted kind.ReadByte n is x h =
+      called_as wanted n x.0 x.1 (reader_called wanted (kind_of named n)) (ap (λ (m : Option Numbered). answer_scale u (target_of (kind_of named n) m)) x.1.is.1 ∙ sym (ap fraction_of_kind is))
+  may_be_called wanted kind.WriteByte n is x h =
+      called_as wanted n x.0 x.1 (λ params number. writer_called wanted (kind_of named n) params number h)
+      (ap (λ (m : Option Numbered). answer_scale u (target_of (kind_of named n) m)) x.1.is.1 ∙ sym (ap fraction_of_kind is))
   may_be_called wanted _ n is x h = no h
 
   -- ---- calls

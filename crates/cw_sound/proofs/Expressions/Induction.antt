@@ -24,7 +24,10 @@ use Rattle.cw_unit.specs.declared.unit.Cond.{Cond}
 use Rattle.cw_sound.specs.Expressions.Levels as levels
 use Rattle.cw_sound.specs.Expressions.Regular as regular
 use Rattle.cw_sound.proofs.Expressions.Truth.{parts, le_of}
-use Rattle.cw_sound.proofs.Expressions.Layers.{IsExpressionRight, IsExpressionLayerRight, expression_rolls, IsPrimaryRight, IsPrimaryLayerRight, primary_rolls, IsReferenceRight, IsReferenceLayerRight, reference_rolls, IsConjunctionRight, IsConjunctionLayerRight, conjunction_rolls, IsComparisonRight, IsComparisonLayerRight, comparison_rolls, IsConditionRight, IsConditionLayerRight, condition_rolls, IsDifferRight, IsDifferLayerRight, differ_rolls, IsMaskRight, IsMaskLayerRight, mask_rolls, IsPrimRight, IsPrimLayerRight, prim_rolls, IsSumRight, IsSumLayerRight, sum_rolls, IsTermRight, IsTermLayerRight, term_rolls, IsUnionRight, IsUnionLayerRight, union_rolls}
+use Rattle.cw_sound.proofs.Expressions.Layers as layers
+use Rattle.cw_sound.proofs.Expressions.Layers.{Values, expr_layer_values, primary_layer_values, ref_layer_values, cand_layer_values, cmp_layer_values, cond_layer_values, differ_layer_values, mask_layer_values, prim_layer_values, sum_layer_values, term_layer_values, union_layer_values, expr_values, ref_values, cond_values}
+use Rattle.cw_sound.proofs.Expressions.Folds.{levels_pass, regular_pass}
+use Rattle.cw_tree.proofs.Expressions.{of_primary, of_conjunction, of_comparison, of_differ, of_mask, of_prim, of_sum, of_term, of_union}
 use Rattle.cw_tree.specs.declared.leaf.RawSign.{RawSign}
 use Rattle.cw_tree.specs.declared.leaf.RawFactorSign.{RawFactorSign}
 use Rattle.cw_tree.specs.declared.expression.RawBits.{RawBits}
@@ -110,23 +113,13 @@ module _ (named : Named) (numbers : Numbers) (Value : Judged → Made → Uses �
       let halves = parts (g t.0) (regular.all (map g (map (λ y. y.0) ts))) h in
       more (t.1 halves.0) (each M Known T j m x l g ts halves.1)
 
-  abbrev known : Known
-  known = record {
-    Expr = IsExpressionRight named numbers Value Test Place;
-    Primary = IsPrimaryRight named numbers Value Test Place;
-    Ref = IsReferenceRight named numbers Value Test Place;
-    Cand = IsConjunctionRight named numbers Value Test Place;
-    Cmp = IsComparisonRight named numbers Value Test Place;
-    Cond = IsConditionRight named numbers Value Test Place;
-    Differ = IsDifferRight named numbers Value Test Place;
-    Mask = IsMaskRight named numbers Value Test Place;
-    Prim = IsPrimRight named numbers Value Test Place;
-    Sum = IsSumRight named numbers Value Test Place;
-    Term = IsTermRight named numbers Value Test Place;
-    Union = IsUnionRight named numbers Value Test Place;
-  }
+  abbrev IfRegular : {M : Type 0} → (Judged → M → Uses → ℕ → Type 0) → Values M → Type 0
+  IfRegular P v = IsTrue v.regular → P v.judged v.made v.uses v.levels
 
-  expression_rule : (y : ExprParts known) → IsExpressionLayerRight named numbers Value Test Place (expr_layer known y)
+  abbrev known : Known
+  known = layers.known named numbers (IfRegular Value) (IfRegular Test) (IfRegular Place)
+
+  expression_rule : (y : ExprParts known) → IfRegular Value (expr_layer_values named numbers (expr_layer known y))
   expression_rule (layer.Choice at c a b) h =
       let halves = parts (regular.is_regular_condition c.0) ((regular.is_regular a.0) && (regular.is_regular b.0)) h in
       let sides = parts (regular.is_regular a.0) (regular.is_regular b.0) halves.1 in
@@ -134,7 +127,7 @@ module _ (named : Named) (numbers : Numbers) (Value : Judged → Made → Uses �
       (levels.condition_levels c.0) (levels.then_levels a.0) (levels.then_levels b.0) (c.1 halves.0) (a.1 sides.0) (b.1 sides.1)
   expression_rule (layer.Sum s) h = s.1 h
 
-  primary_rule : (y : PrimaryParts known) → IsPrimaryLayerRight named numbers Value Test Place (primary_layer known y)
+  primary_rule : (y : PrimaryParts known) → IfRegular Value (primary_layer_values named numbers (primary_layer known y))
   primary_rule (layer.Number n) h = rules.number_right n
   primary_rule (layer.Octal n) h = rules.octal_right n
   primary_rule (layer.Literal c) h = rules.literal_right c h
@@ -145,7 +138,7 @@ module _ (named : Named) (numbers : Numbers) (Value : Judged → Made → Uses �
   primary_rule (layer.Ref r) h = rules.value_of_place (judged.reference named r.0) (made.reference_made named numbers r.0) (uses.reference_uses r.0) (levels.reference_levels r.0) (r.1 h)
   primary_rule (layer.Call n xs) h = rules.call_right n (each Made Value RawExpr (judged.expression named) (made.expression_made named numbers) uses.expression_uses levels.then_levels regular.is_regular xs h)
 
-  reference_rule : (y : RefParts known) → IsReferenceLayerRight named numbers Value Test Place (ref_layer known y)
+  reference_rule : (y : RefParts known) → IfRegular Place (ref_layer_values named numbers (ref_layer known y))
   reference_rule (layer.Name n) h = rules.name_right n
   reference_rule (layer.One n e) h = rules.one_right n (judged.expression named e.0) (made.expression_made named numbers e.0) (uses.expression_uses e.0) (levels.then_levels e.0) (e.1 h)
   reference_rule (layer.Two n e g) h =
@@ -153,64 +146,52 @@ module _ (named : Named) (numbers : Numbers) (Value : Judged → Made → Uses �
       rules.two_right n (judged.expression named e.0) (judged.expression named g.0) (made.expression_made named numbers e.0) (made.expression_made named numbers g.0) (uses.expression_uses e.0) (uses.expression_uses g.0) (levels.then_levels e.0) (levels.then_levels g.0) (e.1 halves.0) (g.1 halves.1)
   reference_rule (layer.Bare at e) h = rules.bare_right at (judged.expression named e.0) (made.expression_made named numbers e.0) (uses.expression_uses e.0) (levels.then_levels e.0) (e.1 h)
 
-  conjunction_rule : (y : CandParts known) → IsConjunctionLayerRight named numbers Value Test Place (cand_layer known y)
-  conjunction_rule y h = rules.conjunction_right y.operators (each Cond Test RawCmp (judged.comparison named) (made.comparison_made named numbers) uses.comparison_uses levels.comparison_levels regular.is_regular_comparison y.operands h)
+  conjunction_rule : (y : CandParts known) → IfRegular Test (cand_layer_values named numbers (cand_layer known y))
+  conjunction_rule y h = rules.conjunction_right y.operators (each Cond Test RawCmp (judged.comparison named) (made.comparison_made named numbers) uses.comparison_uses (of_comparison levels_pass) (of_comparison regular_pass) y.operands h)
 
-  comparison_rule : (y : CmpParts known) → IsComparisonLayerRight named numbers Value Test Place (cmp_layer known y)
+  comparison_rule : (y : CmpParts known) → IfRegular Test (cmp_layer_values named numbers (cmp_layer known y))
   comparison_rule y h =
-      let halves = parts (regular.is_regular_sum y.left.0) (regular.is_regular_sum y.right.0) h in
-      rules.comparison_right y.operator (judged.sum named y.left.0) (judged.sum named y.right.0) (made.sum_made named numbers y.left.0) (made.sum_made named numbers y.right.0) (uses.sum_uses y.left.0) (uses.sum_uses y.right.0) (levels.sum_levels y.left.0) (levels.sum_levels y.right.0) (y.left.1 halves.0) (y.right.1 halves.1)
+      let halves = parts (of_sum regular_pass y.left.0) (of_sum regular_pass y.right.0) h in
+      rules.comparison_right y.operator (judged.sum named y.left.0) (judged.sum named y.right.0) (made.sum_made named numbers y.left.0) (made.sum_made named numbers y.right.0) (uses.sum_uses y.left.0) (uses.sum_uses y.right.0) (of_sum levels_pass y.left.0) (of_sum levels_pass y.right.0) (y.left.1 halves.0) (y.right.1 halves.1)
 
-  condition_rule : (y : CondParts known) → IsConditionLayerRight named numbers Value Test Place (cond_layer known y)
-  condition_rule y h = rules.condition_right y.operators (each Cond Test RawCand (judged.conjunction named) (made.conjunction_made named numbers) uses.conjunction_uses levels.conjunction_levels regular.is_regular_conjunction y.operands h)
+  condition_rule : (y : CondParts known) → IfRegular Test (cond_layer_values named numbers (cond_layer known y))
+  condition_rule y h = rules.condition_right y.operators (each Cond Test RawCand (judged.conjunction named) (made.conjunction_made named numbers) uses.conjunction_uses (of_conjunction levels_pass) (of_conjunction regular_pass) y.operands h)
 
-  differ_rule : (y : DifferParts known) → IsDifferLayerRight named numbers Value Test Place (differ_layer known y)
-  differ_rule y h = rules.logic_right logic_op.Differ (each Made Value RawUnion (judged.union named) (made.union_made named numbers) uses.union_uses levels.union_levels regular.is_regular_union y.operands h)
+  differ_rule : (y : DifferParts known) → IfRegular Value (differ_layer_values named numbers (differ_layer known y))
+  differ_rule y h = rules.logic_right logic_op.Differ (each Made Value RawUnion (judged.union named) (made.union_made named numbers) uses.union_uses (of_union levels_pass) (of_union regular_pass) y.operands h)
 
-  mask_rule : (y : MaskParts known) → IsMaskLayerRight named numbers Value Test Place (mask_layer known y)
-  mask_rule y h = rules.logic_right logic_op.Mask (each Made Value RawPrim (judged.prim named) (made.prim_made named numbers) uses.prim_uses levels.prim_levels regular.is_regular_prim y.operands h)
+  mask_rule : (y : MaskParts known) → IfRegular Value (mask_layer_values named numbers (mask_layer known y))
+  mask_rule y h = rules.logic_right logic_op.Mask (each Made Value RawPrim (judged.prim named) (made.prim_made named numbers) uses.prim_uses (of_prim levels_pass) (of_prim regular_pass) y.operands h)
 
-  prim_rule : (y : PrimParts known) → IsPrimLayerRight named numbers Value Test Place (prim_layer known y)
-  prim_rule y h = rules.prim_right y.bits (judged.primary named y.primary.0) (made.primary_made named numbers y.primary.0) (uses.primary_uses y.primary.0) (levels.primary_levels y.primary.0) (y.primary.1 h)
+  prim_rule : (y : PrimParts known) → IfRegular Value (prim_layer_values named numbers (prim_layer known y))
+  prim_rule y h = rules.prim_right y.bits (judged.primary named y.primary.0) (made.primary_made named numbers y.primary.0) (uses.primary_uses y.primary.0) (of_primary levels_pass y.primary.0) (y.primary.1 h)
 
-  sum_rule : (y : SumParts known) → IsSumLayerRight named numbers Value Test Place (sum_layer known y)
+  sum_rule : (y : SumParts known) → IfRegular Value (sum_layer_values named numbers (sum_layer known y))
   sum_rule y h =
       let zs : List RawTerm = map (λ z. z.0) y.operands in
-      let halves = parts (nat_le (length (map regular.is_regular_term zs)) (suc (length y.operators))) (regular.all (map regular.is_regular_term zs)) h in
-      rules.sum_right y.sign y.operators (same_lengths regular.is_regular_term (made.term_made named numbers) zs (suc (length y.operators)) halves.0) (each Made Value RawTerm (judged.term named) (made.term_made named numbers) uses.term_uses levels.term_levels regular.is_regular_term y.operands halves.1)
+      let halves = parts (nat_le (length (map (of_term regular_pass) zs)) (suc (length y.operators))) (regular.all (map (of_term regular_pass) zs)) h in
+      rules.sum_right y.sign y.operators (same_lengths (of_term regular_pass) (made.term_made named numbers) zs (suc (length y.operators)) halves.0) (each Made Value RawTerm (judged.term named) (made.term_made named numbers) uses.term_uses (of_term levels_pass) (of_term regular_pass) y.operands halves.1)
 
-  term_rule : (y : TermParts known) → IsTermLayerRight named numbers Value Test Place (term_layer known y)
+  term_rule : (y : TermParts known) → IfRegular Value (term_layer_values named numbers (term_layer known y))
   term_rule y h =
       let zs : List RawDiffer = map (λ z. z.0) y.operands in
-      let halves = parts (nat_le (length (map regular.is_regular_differ zs)) (suc (length y.operators))) (regular.all (map regular.is_regular_differ zs)) h in
-      rules.term_right y.operators (same_lengths regular.is_regular_differ (made.differ_made named numbers) zs (suc (length y.operators)) halves.0) (each Made Value RawDiffer (judged.differ named) (made.differ_made named numbers) uses.differ_uses levels.differ_levels regular.is_regular_differ y.operands halves.1)
+      let halves = parts (nat_le (length (map (of_differ regular_pass) zs)) (suc (length y.operators))) (regular.all (map (of_differ regular_pass) zs)) h in
+      rules.term_right y.operators (same_lengths (of_differ regular_pass) (made.differ_made named numbers) zs (suc (length y.operators)) halves.0) (each Made Value RawDiffer (judged.differ named) (made.differ_made named numbers) uses.differ_uses (of_differ levels_pass) (of_differ regular_pass) y.operands halves.1)
 
-  union_rule : (y : UnionParts known) → IsUnionLayerRight named numbers Value Test Place (union_layer known y)
-  union_rule y h = rules.logic_right logic_op.Union (each Made Value RawMask (judged.mask named) (made.mask_made named numbers) uses.mask_uses levels.mask_levels regular.is_regular_mask y.operands h)
+  union_rule : (y : UnionParts known) → IfRegular Value (union_layer_values named numbers (union_layer known y))
+  union_rule y h = rules.logic_right logic_op.Union (each Made Value RawMask (judged.mask named) (made.mask_made named numbers) uses.mask_uses (of_mask levels_pass) (of_mask regular_pass) y.operands h)
 
   layer_rules : Rules known
-  layer_rules = record {
-    expr = λ y. expression_rolls named numbers Value Test Place (expr_layer known y) (expression_rule y);
-    primary = λ y. primary_rolls named numbers Value Test Place (primary_layer known y) (primary_rule y);
-    ref = λ y. reference_rolls named numbers Value Test Place (ref_layer known y) (reference_rule y);
-    cand = λ y. conjunction_rolls named numbers Value Test Place (cand_layer known y) (conjunction_rule y);
-    cmp = λ y. comparison_rolls named numbers Value Test Place (cmp_layer known y) (comparison_rule y);
-    cond = λ y. condition_rolls named numbers Value Test Place (cond_layer known y) (condition_rule y);
-    differ = λ y. differ_rolls named numbers Value Test Place (differ_layer known y) (differ_rule y);
-    mask = λ y. mask_rolls named numbers Value Test Place (mask_layer known y) (mask_rule y);
-    prim = λ y. prim_rolls named numbers Value Test Place (prim_layer known y) (prim_rule y);
-    sum = λ y. sum_rolls named numbers Value Test Place (sum_layer known y) (sum_rule y);
-    term = λ y. term_rolls named numbers Value Test Place (term_layer known y) (term_rule y);
-    union = λ y. union_rolls named numbers Value Test Place (union_layer known y) (union_rule y);
-  }
+  layer_rules =
+      layers.known_rules named numbers (IfRegular Value) (IfRegular Test) (IfRegular Place) expression_rule primary_rule reference_rule conjunction_rule comparison_rule condition_rule differ_rule mask_rule prim_rule sum_rule term_rule union_rule
 
-  pub expression_is_right : (x : RawExpr) → IsExpressionRight named numbers Value Test Place x
+  pub expression_is_right : (x : RawExpr) → IfRegular Value (expr_values named numbers x)
   expression_is_right = each_expr known layer_rules
 
-  pub reference_is_right : (x : RawRef) → IsReferenceRight named numbers Value Test Place x
+  pub reference_is_right : (x : RawRef) → IfRegular Place (ref_values named numbers x)
   reference_is_right = each_ref known layer_rules
 
-  pub condition_is_right : (x : RawCond) → IsConditionRight named numbers Value Test Place x
+  pub condition_is_right : (x : RawCond) → IfRegular Test (cond_values named numbers x)
   condition_is_right = each_cond known layer_rules
 
   pub each_right : (es : List RawExpr) → IsTrue (regular.all (map regular.is_regular es))

@@ -1,382 +1,180 @@
--- What is known of each tree of an expression by its first layer: its judgement, the tree that is made of it, its uses of names, its levels,
--- and whether it is regular.
-use Rattle.std.proofs.Common.{◌≡◌, ℕ, Bool, IsTrue, sym, subst}
-use Rattle.cw_tree.specs.declared.expression.RawExpr.{RawExpr, RawExpr-F, roll-RawExpr, map-RawExpr, fold-roll-RawExpr}
-use Rattle.cw_tree.specs.declared.expression.RawPrimary.{RawPrimary, roll-RawPrimary, map-RawPrimary, fold-roll-RawPrimary}
-use Rattle.cw_tree.specs.declared.expression.RawRef.{RawRef, roll-RawRef, map-RawRef, fold-roll-RawRef}
-use Rattle.cw_tree.specs.declared.expression.RawCand.{RawCand, roll-RawCand, map-RawCand, fold-roll-RawCand}
-use Rattle.cw_tree.specs.declared.expression.RawCmp.{RawCmp, roll-RawCmp, map-RawCmp, fold-roll-RawCmp}
-use Rattle.cw_tree.specs.declared.expression.RawCond.{RawCond, roll-RawCond, map-RawCond, fold-roll-RawCond}
-use Rattle.cw_tree.specs.declared.expression.RawDiffer.{RawDiffer, roll-RawDiffer, map-RawDiffer, fold-roll-RawDiffer}
-use Rattle.cw_tree.specs.declared.expression.RawMask.{RawMask, roll-RawMask, map-RawMask, fold-roll-RawMask}
-use Rattle.cw_tree.specs.declared.expression.RawPrim.{RawPrim, roll-RawPrim, map-RawPrim, fold-roll-RawPrim}
-use Rattle.cw_tree.specs.declared.expression.RawSum.{RawSum, roll-RawSum, map-RawSum, fold-roll-RawSum}
-use Rattle.cw_tree.specs.declared.expression.RawTerm.{RawTerm, roll-RawTerm, map-RawTerm, fold-roll-RawTerm}
-use Rattle.cw_tree.specs.declared.expression.RawUnion.{RawUnion, roll-RawUnion, map-RawUnion, fold-roll-RawUnion}
-use Rattle.cw_tree.specs.declared.expression.RawExpr.TheOpen.{RawPrimary-F, RawRef-F, RawCand-F, RawCmp-F, RawCond-F, RawDiffer-F, RawMask-F, RawPrim-F, RawSum-F, RawTerm-F, RawUnion-F}
+-- What is known of each tree of an expression by its first layer: its judgement, what is made of it, its uses of names, its levels, and whether
+-- it is regular.
+use Rattle.std.proofs.Common.{◌≡◌, ℕ, Bool, sym, subst}
+use Rattle.cw_tree.specs.declared.expression.RawExpr.{RawExpr, roll-RawExpr}
+use Rattle.cw_tree.specs.declared.expression.RawPrimary.{RawPrimary, roll-RawPrimary}
+use Rattle.cw_tree.specs.declared.expression.RawRef.{RawRef, roll-RawRef}
+use Rattle.cw_tree.specs.declared.expression.RawCand.{RawCand, roll-RawCand}
+use Rattle.cw_tree.specs.declared.expression.RawCmp.{RawCmp, roll-RawCmp}
+use Rattle.cw_tree.specs.declared.expression.RawCond.{RawCond, roll-RawCond}
+use Rattle.cw_tree.specs.declared.expression.RawDiffer.{RawDiffer, roll-RawDiffer}
+use Rattle.cw_tree.specs.declared.expression.RawMask.{RawMask, roll-RawMask}
+use Rattle.cw_tree.specs.declared.expression.RawPrim.{RawPrim, roll-RawPrim}
+use Rattle.cw_tree.specs.declared.expression.RawSum.{RawSum, roll-RawSum}
+use Rattle.cw_tree.specs.declared.expression.RawTerm.{RawTerm, roll-RawTerm}
+use Rattle.cw_tree.specs.declared.expression.RawUnion.{RawUnion, roll-RawUnion}
+use Rattle.cw_tree.proofs.Expressions.{of_expression, of_primary, of_reference, of_conjunction, of_comparison, of_condition, of_differ, of_mask, of_prim, of_sum, of_term, of_union}
 use Rattle.cw_facts.specs.Uses.{Uses}
-use Rattle.cw_facts.specs.Uses as uses
 use Rattle.cw_scope.specs.declared.resolve.Named.{Named}
 use Rattle.cw_scale.specs.TypeRules.{Judged}
-use Rattle.cw_scale.specs.TypeRules as judged
 use Rattle.cw_make_expr.specs.Parts.{Numbers}
 use Rattle.cw_make_expr.specs.Made.{Made, Placed}
-use Rattle.cw_make_expr.specs.Made as made
 use Rattle.cw_unit.specs.declared.unit.Cond.{Cond}
-use Rattle.cw_sound.specs.Expressions.Levels as levels
-use Rattle.cw_sound.specs.Expressions.Regular as regular
+use Rattle.cw_derived.proofs.Layers.{ExprLayer, PrimaryLayer, RefLayer, CandLayer, CmpLayer, CondLayer, DifferLayer, MaskLayer, PrimLayer, SumLayer, TermLayer, UnionLayer}
+use Rattle.cw_sound.proofs.Expressions.Folds.{judged_pass, made_steps, uses_pass, levels_pass, regular_pass}
+use Rattle.cw_tokens.proofs.Passes.{expr_layered, primary_layered, ref_layered, cand_layered, cmp_layered, cond_layered, differ_layered, mask_layered, prim_layered, sum_layered, term_layered, union_layered, expr_rolled, primary_rolled, ref_rolled, cand_rolled, cmp_rolled, cond_rolled, differ_rolled, mask_rolled, prim_rolled, sum_rolled, term_rolled, union_rolled}
+use Rattle.cw_sound.proofs.Expressions.Schema.{Known, ExprParts, PrimaryParts, RefParts, CandParts, CmpParts, CondParts, DifferParts, MaskParts, PrimParts, SumParts, TermParts, UnionParts, expr_layer, primary_layer, ref_layer, cand_layer, cmp_layer, cond_layer, differ_layer, mask_layer, prim_layer, sum_layer, term_layer, union_layer, Rules}
+
+pub record Values (M : Type 0) : Type 0 where
+  pub judged : Judged
+  pub made : M
+  pub uses : Uses
+  pub levels : ℕ
+  pub regular : Bool
+
+alike : {M : Type 0} {j k : Judged} {m n : M} {x y : Uses} {l i : ℕ} {g h : Bool} → j ≡ k → m ≡ n → x ≡ y → l ≡ i → g ≡ h
+    → ◌≡◌ {A = Values M} (record { judged = j; made = m; uses = x; levels = l; regular = g }) (record { judged = k; made = n; uses = y; levels = i; regular = h })
+alike ej em ex el eg = λ i. record { judged = ej i; made = em i; uses = ex i; levels = el i; regular = eg i }
 
 module _ (named : Named) (numbers : Numbers) where
-  abbrev expression_regular_layer : RawExpr-F RawExpr RawPrimary RawRef RawCand RawCmp RawCond RawDiffer RawMask RawPrim RawSum RawTerm RawUnion → Bool
-  expression_regular_layer x = regular.expression_step (map-RawExpr RawExpr RawPrimary RawRef RawCand RawCmp RawCond RawDiffer RawMask RawPrim RawSum RawTerm RawUnion Bool Bool Bool Bool Bool Bool Bool Bool Bool Bool Bool Bool regular.is_regular regular.is_regular_primary regular.is_regular_reference regular.is_regular_conjunction regular.is_regular_comparison regular.is_regular_condition regular.is_regular_differ regular.is_regular_mask regular.is_regular_prim regular.is_regular_sum regular.is_regular_term regular.is_regular_union x)
+  abbrev pub expr_values : RawExpr → Values Made
+  expr_values x = record { judged = of_expression (judged_pass named) x; made = of_expression (made_steps named numbers) x; uses = of_expression uses_pass x; levels = of_expression levels_pass x; regular = of_expression regular_pass x }
 
-  abbrev pub expression_judged_layer : RawExpr-F RawExpr RawPrimary RawRef RawCand RawCmp RawCond RawDiffer RawMask RawPrim RawSum RawTerm RawUnion → Judged
-  expression_judged_layer x = judged.expression_step named (map-RawExpr RawExpr RawPrimary RawRef RawCand RawCmp RawCond RawDiffer RawMask RawPrim RawSum RawTerm RawUnion Judged Judged Judged Judged Judged Judged Judged Judged Judged Judged Judged Judged (judged.expression named) (judged.primary named) (judged.reference named) (judged.conjunction named) (judged.comparison named) (judged.condition named) (judged.differ named) (judged.mask named) (judged.prim named) (judged.sum named) (judged.term named) (judged.union named) x)
+  abbrev pub expr_layer_values : ExprLayer → Values Made
+  expr_layer_values y = record { judged = expr_layered (judged_pass named) y; made = expr_layered (made_steps named numbers) y; uses = expr_layered uses_pass y; levels = expr_layered levels_pass y; regular = expr_layered regular_pass y }
 
-  abbrev pub expression_made_layer : RawExpr-F RawExpr RawPrimary RawRef RawCand RawCmp RawCond RawDiffer RawMask RawPrim RawSum RawTerm RawUnion → Made
-  expression_made_layer x = made.expression_step named numbers (map-RawExpr RawExpr RawPrimary RawRef RawCand RawCmp RawCond RawDiffer RawMask RawPrim RawSum RawTerm RawUnion Made Made Placed Cond Cond Cond Made Made Made Made Made Made (made.expression_made named numbers) (made.primary_made named numbers) (made.reference_made named numbers) (made.conjunction_made named numbers) (made.comparison_made named numbers) (made.condition_made named numbers) (made.differ_made named numbers) (made.mask_made named numbers) (made.prim_made named numbers) (made.sum_made named numbers) (made.term_made named numbers) (made.union_made named numbers) x)
+  expr_alike : (y : ExprLayer) → expr_values (roll-RawExpr y) ≡ expr_layer_values y
+  expr_alike y = alike (expr_rolled (judged_pass named) y) (expr_rolled (made_steps named numbers) y) (expr_rolled uses_pass y) (expr_rolled levels_pass y) (expr_rolled regular_pass y)
 
-  abbrev pub expression_uses_layer : RawExpr-F RawExpr RawPrimary RawRef RawCand RawCmp RawCond RawDiffer RawMask RawPrim RawSum RawTerm RawUnion → Uses
-  expression_uses_layer x = uses.expression_step (map-RawExpr RawExpr RawPrimary RawRef RawCand RawCmp RawCond RawDiffer RawMask RawPrim RawSum RawTerm RawUnion Uses Uses Uses Uses Uses Uses Uses Uses Uses Uses Uses Uses uses.expression_uses uses.primary_uses uses.reference_uses uses.conjunction_uses uses.comparison_uses uses.condition_uses uses.differ_uses uses.mask_uses uses.prim_uses uses.sum_uses uses.term_uses uses.union_uses x)
+  abbrev pub primary_values : RawPrimary → Values Made
+  primary_values x = record { judged = of_primary (judged_pass named) x; made = of_primary (made_steps named numbers) x; uses = of_primary uses_pass x; levels = of_primary levels_pass x; regular = of_primary regular_pass x }
 
-  abbrev expression_levels_layer : RawExpr-F RawExpr RawPrimary RawRef RawCand RawCmp RawCond RawDiffer RawMask RawPrim RawSum RawTerm RawUnion → ℕ
-  expression_levels_layer x = levels.expression_step (map-RawExpr RawExpr RawPrimary RawRef RawCand RawCmp RawCond RawDiffer RawMask RawPrim RawSum RawTerm RawUnion ℕ ℕ ℕ ℕ ℕ ℕ ℕ ℕ ℕ ℕ ℕ ℕ levels.then_levels levels.primary_levels levels.reference_levels levels.conjunction_levels levels.comparison_levels levels.condition_levels levels.differ_levels levels.mask_levels levels.prim_levels levels.sum_levels levels.term_levels levels.union_levels x)
+  abbrev pub primary_layer_values : PrimaryLayer → Values Made
+  primary_layer_values y = record { judged = primary_layered (judged_pass named) y; made = primary_layered (made_steps named numbers) y; uses = primary_layered uses_pass y; levels = primary_layered levels_pass y; regular = primary_layered regular_pass y }
 
-  abbrev primary_regular_layer : RawPrimary-F RawExpr RawPrimary RawRef RawCand RawCmp RawCond RawDiffer RawMask RawPrim RawSum RawTerm RawUnion → Bool
-  primary_regular_layer x = regular.primary_step (map-RawPrimary RawExpr RawPrimary RawRef RawCand RawCmp RawCond RawDiffer RawMask RawPrim RawSum RawTerm RawUnion Bool Bool Bool Bool Bool Bool Bool Bool Bool Bool Bool Bool regular.is_regular regular.is_regular_primary regular.is_regular_reference regular.is_regular_conjunction regular.is_regular_comparison regular.is_regular_condition regular.is_regular_differ regular.is_regular_mask regular.is_regular_prim regular.is_regular_sum regular.is_regular_term regular.is_regular_union x)
+  primary_alike : (y : PrimaryLayer) → primary_values (roll-RawPrimary y) ≡ primary_layer_values y
+  primary_alike y = alike (primary_rolled (judged_pass named) y) (primary_rolled (made_steps named numbers) y) (primary_rolled uses_pass y) (primary_rolled levels_pass y) (primary_rolled regular_pass y)
 
-  abbrev pub primary_judged_layer : RawPrimary-F RawExpr RawPrimary RawRef RawCand RawCmp RawCond RawDiffer RawMask RawPrim RawSum RawTerm RawUnion → Judged
-  primary_judged_layer x = judged.primary_step named (map-RawPrimary RawExpr RawPrimary RawRef RawCand RawCmp RawCond RawDiffer RawMask RawPrim RawSum RawTerm RawUnion Judged Judged Judged Judged Judged Judged Judged Judged Judged Judged Judged Judged (judged.expression named) (judged.primary named) (judged.reference named) (judged.conjunction named) (judged.comparison named) (judged.condition named) (judged.differ named) (judged.mask named) (judged.prim named) (judged.sum named) (judged.term named) (judged.union named) x)
+  abbrev pub ref_values : RawRef → Values Placed
+  ref_values x = record { judged = of_reference (judged_pass named) x; made = of_reference (made_steps named numbers) x; uses = of_reference uses_pass x; levels = of_reference levels_pass x; regular = of_reference regular_pass x }
 
-  abbrev pub primary_made_layer : RawPrimary-F RawExpr RawPrimary RawRef RawCand RawCmp RawCond RawDiffer RawMask RawPrim RawSum RawTerm RawUnion → Made
-  primary_made_layer x = made.primary_step named numbers (map-RawPrimary RawExpr RawPrimary RawRef RawCand RawCmp RawCond RawDiffer RawMask RawPrim RawSum RawTerm RawUnion Made Made Placed Cond Cond Cond Made Made Made Made Made Made (made.expression_made named numbers) (made.primary_made named numbers) (made.reference_made named numbers) (made.conjunction_made named numbers) (made.comparison_made named numbers) (made.condition_made named numbers) (made.differ_made named numbers) (made.mask_made named numbers) (made.prim_made named numbers) (made.sum_made named numbers) (made.term_made named numbers) (made.union_made named numbers) x)
+  abbrev pub ref_layer_values : RefLayer → Values Placed
+  ref_layer_values y = record { judged = ref_layered (judged_pass named) y; made = ref_layered (made_steps named numbers) y; uses = ref_layered uses_pass y; levels = ref_layered levels_pass y; regular = ref_layered regular_pass y }
 
-  abbrev pub primary_uses_layer : RawPrimary-F RawExpr RawPrimary RawRef RawCand RawCmp RawCond RawDiffer RawMask RawPrim RawSum RawTerm RawUnion → Uses
-  primary_uses_layer x = uses.primary_step (map-RawPrimary RawExpr RawPrimary RawRef RawCand RawCmp RawCond RawDiffer RawMask RawPrim RawSum RawTerm RawUnion Uses Uses Uses Uses Uses Uses Uses Uses Uses Uses Uses Uses uses.expression_uses uses.primary_uses uses.reference_uses uses.conjunction_uses uses.comparison_uses uses.condition_uses uses.differ_uses uses.mask_uses uses.prim_uses uses.sum_uses uses.term_uses uses.union_uses x)
+  ref_alike : (y : RefLayer) → ref_values (roll-RawRef y) ≡ ref_layer_values y
+  ref_alike y = alike (ref_rolled (judged_pass named) y) (ref_rolled (made_steps named numbers) y) (ref_rolled uses_pass y) (ref_rolled levels_pass y) (ref_rolled regular_pass y)
 
-  abbrev primary_levels_layer : RawPrimary-F RawExpr RawPrimary RawRef RawCand RawCmp RawCond RawDiffer RawMask RawPrim RawSum RawTerm RawUnion → ℕ
-  primary_levels_layer x = levels.primary_step (map-RawPrimary RawExpr RawPrimary RawRef RawCand RawCmp RawCond RawDiffer RawMask RawPrim RawSum RawTerm RawUnion ℕ ℕ ℕ ℕ ℕ ℕ ℕ ℕ ℕ ℕ ℕ ℕ levels.then_levels levels.primary_levels levels.reference_levels levels.conjunction_levels levels.comparison_levels levels.condition_levels levels.differ_levels levels.mask_levels levels.prim_levels levels.sum_levels levels.term_levels levels.union_levels x)
+  abbrev pub cand_values : RawCand → Values Cond
+  cand_values x = record { judged = of_conjunction (judged_pass named) x; made = of_conjunction (made_steps named numbers) x; uses = of_conjunction uses_pass x; levels = of_conjunction levels_pass x; regular = of_conjunction regular_pass x }
 
-  abbrev reference_regular_layer : RawRef-F RawExpr RawPrimary RawRef RawCand RawCmp RawCond RawDiffer RawMask RawPrim RawSum RawTerm RawUnion → Bool
-  reference_regular_layer x = regular.reference_step (map-RawRef RawExpr RawPrimary RawRef RawCand RawCmp RawCond RawDiffer RawMask RawPrim RawSum RawTerm RawUnion Bool Bool Bool Bool Bool Bool Bool Bool Bool Bool Bool Bool regular.is_regular regular.is_regular_primary regular.is_regular_reference regular.is_regular_conjunction regular.is_regular_comparison regular.is_regular_condition regular.is_regular_differ regular.is_regular_mask regular.is_regular_prim regular.is_regular_sum regular.is_regular_term regular.is_regular_union x)
+  abbrev pub cand_layer_values : CandLayer → Values Cond
+  cand_layer_values y = record { judged = cand_layered (judged_pass named) y; made = cand_layered (made_steps named numbers) y; uses = cand_layered uses_pass y; levels = cand_layered levels_pass y; regular = cand_layered regular_pass y }
 
-  abbrev pub reference_judged_layer : RawRef-F RawExpr RawPrimary RawRef RawCand RawCmp RawCond RawDiffer RawMask RawPrim RawSum RawTerm RawUnion → Judged
-  reference_judged_layer x = judged.reference_step named (map-RawRef RawExpr RawPrimary RawRef RawCand RawCmp RawCond RawDiffer RawMask RawPrim RawSum RawTerm RawUnion Judged Judged Judged Judged Judged Judged Judged Judged Judged Judged Judged Judged (judged.expression named) (judged.primary named) (judged.reference named) (judged.conjunction named) (judged.comparison named) (judged.condition named) (judged.differ named) (judged.mask named) (judged.prim named) (judged.sum named) (judged.term named) (judged.union named) x)
+  cand_alike : (y : CandLayer) → cand_values (roll-RawCand y) ≡ cand_layer_values y
+  cand_alike y = alike (cand_rolled (judged_pass named) y) (cand_rolled (made_steps named numbers) y) (cand_rolled uses_pass y) (cand_rolled levels_pass y) (cand_rolled regular_pass y)
 
-  abbrev pub reference_made_layer : RawRef-F RawExpr RawPrimary RawRef RawCand RawCmp RawCond RawDiffer RawMask RawPrim RawSum RawTerm RawUnion → Placed
-  reference_made_layer x = made.reference_step named numbers (map-RawRef RawExpr RawPrimary RawRef RawCand RawCmp RawCond RawDiffer RawMask RawPrim RawSum RawTerm RawUnion Made Made Placed Cond Cond Cond Made Made Made Made Made Made (made.expression_made named numbers) (made.primary_made named numbers) (made.reference_made named numbers) (made.conjunction_made named numbers) (made.comparison_made named numbers) (made.condition_made named numbers) (made.differ_made named numbers) (made.mask_made named numbers) (made.prim_made named numbers) (made.sum_made named numbers) (made.term_made named numbers) (made.union_made named numbers) x)
+  abbrev pub cmp_values : RawCmp → Values Cond
+  cmp_values x = record { judged = of_comparison (judged_pass named) x; made = of_comparison (made_steps named numbers) x; uses = of_comparison uses_pass x; levels = of_comparison levels_pass x; regular = of_comparison regular_pass x }
 
-  abbrev pub reference_uses_layer : RawRef-F RawExpr RawPrimary RawRef RawCand RawCmp RawCond RawDiffer RawMask RawPrim RawSum RawTerm RawUnion → Uses
-  reference_uses_layer x = uses.reference_step (map-RawRef RawExpr RawPrimary RawRef RawCand RawCmp RawCond RawDiffer RawMask RawPrim RawSum RawTerm RawUnion Uses Uses Uses Uses Uses Uses Uses Uses Uses Uses Uses Uses uses.expression_uses uses.primary_uses uses.reference_uses uses.conjunction_uses uses.comparison_uses uses.condition_uses uses.differ_uses uses.mask_uses uses.prim_uses uses.sum_uses uses.term_uses uses.union_uses x)
+  abbrev pub cmp_layer_values : CmpLayer → Values Cond
+  cmp_layer_values y = record { judged = cmp_layered (judged_pass named) y; made = cmp_layered (made_steps named numbers) y; uses = cmp_layered uses_pass y; levels = cmp_layered levels_pass y; regular = cmp_layered regular_pass y }
 
-  abbrev reference_levels_layer : RawRef-F RawExpr RawPrimary RawRef RawCand RawCmp RawCond RawDiffer RawMask RawPrim RawSum RawTerm RawUnion → ℕ
-  reference_levels_layer x = levels.reference_step (map-RawRef RawExpr RawPrimary RawRef RawCand RawCmp RawCond RawDiffer RawMask RawPrim RawSum RawTerm RawUnion ℕ ℕ ℕ ℕ ℕ ℕ ℕ ℕ ℕ ℕ ℕ ℕ levels.then_levels levels.primary_levels levels.reference_levels levels.conjunction_levels levels.comparison_levels levels.condition_levels levels.differ_levels levels.mask_levels levels.prim_levels levels.sum_levels levels.term_levels levels.union_levels x)
+  cmp_alike : (y : CmpLayer) → cmp_values (roll-RawCmp y) ≡ cmp_layer_values y
+  cmp_alike y = alike (cmp_rolled (judged_pass named) y) (cmp_rolled (made_steps named numbers) y) (cmp_rolled uses_pass y) (cmp_rolled levels_pass y) (cmp_rolled regular_pass y)
 
-  abbrev conjunction_regular_layer : RawCand-F RawExpr RawPrimary RawRef RawCand RawCmp RawCond RawDiffer RawMask RawPrim RawSum RawTerm RawUnion → Bool
-  conjunction_regular_layer x = regular.conjunction_step (map-RawCand RawExpr RawPrimary RawRef RawCand RawCmp RawCond RawDiffer RawMask RawPrim RawSum RawTerm RawUnion Bool Bool Bool Bool Bool Bool Bool Bool Bool Bool Bool Bool regular.is_regular regular.is_regular_primary regular.is_regular_reference regular.is_regular_conjunction regular.is_regular_comparison regular.is_regular_condition regular.is_regular_differ regular.is_regular_mask regular.is_regular_prim regular.is_regular_sum regular.is_regular_term regular.is_regular_union x)
+  abbrev pub cond_values : RawCond → Values Cond
+  cond_values x = record { judged = of_condition (judged_pass named) x; made = of_condition (made_steps named numbers) x; uses = of_condition uses_pass x; levels = of_condition levels_pass x; regular = of_condition regular_pass x }
 
-  abbrev pub conjunction_judged_layer : RawCand-F RawExpr RawPrimary RawRef RawCand RawCmp RawCond RawDiffer RawMask RawPrim RawSum RawTerm RawUnion → Judged
-  conjunction_judged_layer x = judged.conjunction_step named (map-RawCand RawExpr RawPrimary RawRef RawCand RawCmp RawCond RawDiffer RawMask RawPrim RawSum RawTerm RawUnion Judged Judged Judged Judged Judged Judged Judged Judged Judged Judged Judged Judged (judged.expression named) (judged.primary named) (judged.reference named) (judged.conjunction named) (judged.comparison named) (judged.condition named) (judged.differ named) (judged.mask named) (judged.prim named) (judged.sum named) (judged.term named) (judged.union named) x)
+  abbrev pub cond_layer_values : CondLayer → Values Cond
+  cond_layer_values y = record { judged = cond_layered (judged_pass named) y; made = cond_layered (made_steps named numbers) y; uses = cond_layered uses_pass y; levels = cond_layered levels_pass y; regular = cond_layered regular_pass y }
 
-  abbrev pub conjunction_made_layer : RawCand-F RawExpr RawPrimary RawRef RawCand RawCmp RawCond RawDiffer RawMask RawPrim RawSum RawTerm RawUnion → Cond
-  conjunction_made_layer x = made.conjunction_step named numbers (map-RawCand RawExpr RawPrimary RawRef RawCand RawCmp RawCond RawDiffer RawMask RawPrim RawSum RawTerm RawUnion Made Made Placed Cond Cond Cond Made Made Made Made Made Made (made.expression_made named numbers) (made.primary_made named numbers) (made.reference_made named numbers) (made.conjunction_made named numbers) (made.comparison_made named numbers) (made.condition_made named numbers) (made.differ_made named numbers) (made.mask_made named numbers) (made.prim_made named numbers) (made.sum_made named numbers) (made.term_made named numbers) (made.union_made named numbers) x)
+  cond_alike : (y : CondLayer) → cond_values (roll-RawCond y) ≡ cond_layer_values y
+  cond_alike y = alike (cond_rolled (judged_pass named) y) (cond_rolled (made_steps named numbers) y) (cond_rolled uses_pass y) (cond_rolled levels_pass y) (cond_rolled regular_pass y)
 
-  abbrev pub conjunction_uses_layer : RawCand-F RawExpr RawPrimary RawRef RawCand RawCmp RawCond RawDiffer RawMask RawPrim RawSum RawTerm RawUnion → Uses
-  conjunction_uses_layer x = uses.conjunction_step (map-RawCand RawExpr RawPrimary RawRef RawCand RawCmp RawCond RawDiffer RawMask RawPrim RawSum RawTerm RawUnion Uses Uses Uses Uses Uses Uses Uses Uses Uses Uses Uses Uses uses.expression_uses uses.primary_uses uses.reference_uses uses.conjunction_uses uses.comparison_uses uses.condition_uses uses.differ_uses uses.mask_uses uses.prim_uses uses.sum_uses uses.term_uses uses.union_uses x)
+  abbrev pub differ_values : RawDiffer → Values Made
+  differ_values x = record { judged = of_differ (judged_pass named) x; made = of_differ (made_steps named numbers) x; uses = of_differ uses_pass x; levels = of_differ levels_pass x; regular = of_differ regular_pass x }
 
-  abbrev conjunction_levels_layer : RawCand-F RawExpr RawPrimary RawRef RawCand RawCmp RawCond RawDiffer RawMask RawPrim RawSum RawTerm RawUnion → ℕ
-  conjunction_levels_layer x = levels.conjunction_step (map-RawCand RawExpr RawPrimary RawRef RawCand RawCmp RawCond RawDiffer RawMask RawPrim RawSum RawTerm RawUnion ℕ ℕ ℕ ℕ ℕ ℕ ℕ ℕ ℕ ℕ ℕ ℕ levels.then_levels levels.primary_levels levels.reference_levels levels.conjunction_levels levels.comparison_levels levels.condition_levels levels.differ_levels levels.mask_levels levels.prim_levels levels.sum_levels levels.term_levels levels.union_levels x)
+  abbrev pub differ_layer_values : DifferLayer → Values Made
+  differ_layer_values y = record { judged = differ_layered (judged_pass named) y; made = differ_layered (made_steps named numbers) y; uses = differ_layered uses_pass y; levels = differ_layered levels_pass y; regular = differ_layered regular_pass y }
 
-  abbrev comparison_regular_layer : RawCmp-F RawExpr RawPrimary RawRef RawCand RawCmp RawCond RawDiffer RawMask RawPrim RawSum RawTerm RawUnion → Bool
-  comparison_regular_layer x = regular.comparison_step (map-RawCmp RawExpr RawPrimary RawRef RawCand RawCmp RawCond RawDiffer RawMask RawPrim RawSum RawTerm RawUnion Bool Bool Bool Bool Bool Bool Bool Bool Bool Bool Bool Bool regular.is_regular regular.is_regular_primary regular.is_regular_reference regular.is_regular_conjunction regular.is_regular_comparison regular.is_regular_condition regular.is_regular_differ regular.is_regular_mask regular.is_regular_prim regular.is_regular_sum regular.is_regular_term regular.is_regular_union x)
+  differ_alike : (y : DifferLayer) → differ_values (roll-RawDiffer y) ≡ differ_layer_values y
+  differ_alike y = alike (differ_rolled (judged_pass named) y) (differ_rolled (made_steps named numbers) y) (differ_rolled uses_pass y) (differ_rolled levels_pass y) (differ_rolled regular_pass y)
 
-  abbrev pub comparison_judged_layer : RawCmp-F RawExpr RawPrimary RawRef RawCand RawCmp RawCond RawDiffer RawMask RawPrim RawSum RawTerm RawUnion → Judged
-  comparison_judged_layer x = judged.comparison_step named (map-RawCmp RawExpr RawPrimary RawRef RawCand RawCmp RawCond RawDiffer RawMask RawPrim RawSum RawTerm RawUnion Judged Judged Judged Judged Judged Judged Judged Judged Judged Judged Judged Judged (judged.expression named) (judged.primary named) (judged.reference named) (judged.conjunction named) (judged.comparison named) (judged.condition named) (judged.differ named) (judged.mask named) (judged.prim named) (judged.sum named) (judged.term named) (judged.union named) x)
+  abbrev pub mask_values : RawMask → Values Made
+  mask_values x = record { judged = of_mask (judged_pass named) x; made = of_mask (made_steps named numbers) x; uses = of_mask uses_pass x; levels = of_mask levels_pass x; regular = of_mask regular_pass x }
 
-  abbrev pub comparison_made_layer : RawCmp-F RawExpr RawPrimary RawRef RawCand RawCmp RawCond RawDiffer RawMask RawPrim RawSum RawTerm RawUnion → Cond
-  comparison_made_layer x = made.comparison_step named numbers (map-RawCmp RawExpr RawPrimary RawRef RawCand RawCmp RawCond RawDiffer RawMask RawPrim RawSum RawTerm RawUnion Made Made Placed Cond Cond Cond Made Made Made Made Made Made (made.expression_made named numbers) (made.primary_made named numbers) (made.reference_made named numbers) (made.conjunction_made named numbers) (made.comparison_made named numbers) (made.condition_made named numbers) (made.differ_made named numbers) (made.mask_made named numbers) (made.prim_made named numbers) (made.sum_made named numbers) (made.term_made named numbers) (made.union_made named numbers) x)
+  abbrev pub mask_layer_values : MaskLayer → Values Made
+  mask_layer_values y = record { judged = mask_layered (judged_pass named) y; made = mask_layered (made_steps named numbers) y; uses = mask_layered uses_pass y; levels = mask_layered levels_pass y; regular = mask_layered regular_pass y }
 
-  abbrev pub comparison_uses_layer : RawCmp-F RawExpr RawPrimary RawRef RawCand RawCmp RawCond RawDiffer RawMask RawPrim RawSum RawTerm RawUnion → Uses
-  comparison_uses_layer x = uses.comparison_step (map-RawCmp RawExpr RawPrimary RawRef RawCand RawCmp RawCond RawDiffer RawMask RawPrim RawSum RawTerm RawUnion Uses Uses Uses Uses Uses Uses Uses Uses Uses Uses Uses Uses uses.expression_uses uses.primary_uses uses.reference_uses uses.conjunction_uses uses.comparison_uses uses.condition_uses uses.differ_uses uses.mask_uses uses.prim_uses uses.sum_uses uses.term_uses uses.union_uses x)
+  mask_alike : (y : MaskLayer) → mask_values (roll-RawMask y) ≡ mask_layer_values y
+  mask_alike y = alike (mask_rolled (judged_pass named) y) (mask_rolled (made_steps named numbers) y) (mask_rolled uses_pass y) (mask_rolled levels_pass y) (mask_rolled regular_pass y)
 
-  abbrev comparison_levels_layer : RawCmp-F RawExpr RawPrimary RawRef RawCand RawCmp RawCond RawDiffer RawMask RawPrim RawSum RawTerm RawUnion → ℕ
-  comparison_levels_layer x = levels.comparison_step (map-RawCmp RawExpr RawPrimary RawRef RawCand RawCmp RawCond RawDiffer RawMask RawPrim RawSum RawTerm RawUnion ℕ ℕ ℕ ℕ ℕ ℕ ℕ ℕ ℕ ℕ ℕ ℕ levels.then_levels levels.primary_levels levels.reference_levels levels.conjunction_levels levels.comparison_levels levels.condition_levels levels.differ_levels levels.mask_levels levels.prim_levels levels.sum_levels levels.term_levels levels.union_levels x)
+  abbrev pub prim_values : RawPrim → Values Made
+  prim_values x = record { judged = of_prim (judged_pass named) x; made = of_prim (made_steps named numbers) x; uses = of_prim uses_pass x; levels = of_prim levels_pass x; regular = of_prim regular_pass x }
 
-  abbrev condition_regular_layer : RawCond-F RawExpr RawPrimary RawRef RawCand RawCmp RawCond RawDiffer RawMask RawPrim RawSum RawTerm RawUnion → Bool
-  condition_regular_layer x = regular.condition_step (map-RawCond RawExpr RawPrimary RawRef RawCand RawCmp RawCond RawDiffer RawMask RawPrim RawSum RawTerm RawUnion Bool Bool Bool Bool Bool Bool Bool Bool Bool Bool Bool Bool regular.is_regular regular.is_regular_primary regular.is_regular_reference regular.is_regular_conjunction regular.is_regular_comparison regular.is_regular_condition regular.is_regular_differ regular.is_regular_mask regular.is_regular_prim regular.is_regular_sum regular.is_regular_term regular.is_regular_union x)
+  abbrev pub prim_layer_values : PrimLayer → Values Made
+  prim_layer_values y = record { judged = prim_layered (judged_pass named) y; made = prim_layered (made_steps named numbers) y; uses = prim_layered uses_pass y; levels = prim_layered levels_pass y; regular = prim_layered regular_pass y }
 
-  abbrev pub condition_judged_layer : RawCond-F RawExpr RawPrimary RawRef RawCand RawCmp RawCond RawDiffer RawMask RawPrim RawSum RawTerm RawUnion → Judged
-  condition_judged_layer x = judged.condition_step named (map-RawCond RawExpr RawPrimary RawRef RawCand RawCmp RawCond RawDiffer RawMask RawPrim RawSum RawTerm RawUnion Judged Judged Judged Judged Judged Judged Judged Judged Judged Judged Judged Judged (judged.expression named) (judged.primary named) (judged.reference named) (judged.conjunction named) (judged.comparison named) (judged.condition named) (judged.differ named) (judged.mask named) (judged.prim named) (judged.sum named) (judged.term named) (judged.union named) x)
+  prim_alike : (y : PrimLayer) → prim_values (roll-RawPrim y) ≡ prim_layer_values y
+  prim_alike y = alike (prim_rolled (judged_pass named) y) (prim_rolled (made_steps named numbers) y) (prim_rolled uses_pass y) (prim_rolled levels_pass y) (prim_rolled regular_pass y)
 
-  abbrev pub condition_made_layer : RawCond-F RawExpr RawPrimary RawRef RawCand RawCmp RawCond RawDiffer RawMask RawPrim RawSum RawTerm RawUnion → Cond
-  condition_made_layer x = made.condition_step named numbers (map-RawCond RawExpr RawPrimary RawRef RawCand RawCmp RawCond RawDiffer RawMask RawPrim RawSum RawTerm RawUnion Made Made Placed Cond Cond Cond Made Made Made Made Made Made (made.expression_made named numbers) (made.primary_made named numbers) (made.reference_made named numbers) (made.conjunction_made named numbers) (made.comparison_made named numbers) (made.condition_made named numbers) (made.differ_made named numbers) (made.mask_made named numbers) (made.prim_made named numbers) (made.sum_made named numbers) (made.term_made named numbers) (made.union_made named numbers) x)
+  abbrev pub sum_values : RawSum → Values Made
+  sum_values x = record { judged = of_sum (judged_pass named) x; made = of_sum (made_steps named numbers) x; uses = of_sum uses_pass x; levels = of_sum levels_pass x; regular = of_sum regular_pass x }
 
-  abbrev pub condition_uses_layer : RawCond-F RawExpr RawPrimary RawRef RawCand RawCmp RawCond RawDiffer RawMask RawPrim RawSum RawTerm RawUnion → Uses
-  condition_uses_layer x = uses.condition_step (map-RawCond RawExpr RawPrimary RawRef RawCand RawCmp RawCond RawDiffer RawMask RawPrim RawSum RawTerm RawUnion Uses Uses Uses Uses Uses Uses Uses Uses Uses Uses Uses Uses uses.expression_uses uses.primary_uses uses.reference_uses uses.conjunction_uses uses.comparison_uses uses.condition_uses uses.differ_uses uses.mask_uses uses.prim_uses uses.sum_uses uses.term_uses uses.union_uses x)
+  abbrev pub sum_layer_values : SumLayer → Values Made
+  sum_layer_values y = record { judged = sum_layered (judged_pass named) y; made = sum_layered (made_steps named numbers) y; uses = sum_layered uses_pass y; levels = sum_layered levels_pass y; regular = sum_layered regular_pass y }
 
-  abbrev condition_levels_layer : RawCond-F RawExpr RawPrimary RawRef RawCand RawCmp RawCond RawDiffer RawMask RawPrim RawSum RawTerm RawUnion → ℕ
-  condition_levels_layer x = levels.condition_step (map-RawCond RawExpr RawPrimary RawRef RawCand RawCmp RawCond RawDiffer RawMask RawPrim RawSum RawTerm RawUnion ℕ ℕ ℕ ℕ ℕ ℕ ℕ ℕ ℕ ℕ ℕ ℕ levels.then_levels levels.primary_levels levels.reference_levels levels.conjunction_levels levels.comparison_levels levels.condition_levels levels.differ_levels levels.mask_levels levels.prim_levels levels.sum_levels levels.term_levels levels.union_levels x)
+  sum_alike : (y : SumLayer) → sum_values (roll-RawSum y) ≡ sum_layer_values y
+  sum_alike y = alike (sum_rolled (judged_pass named) y) (sum_rolled (made_steps named numbers) y) (sum_rolled uses_pass y) (sum_rolled levels_pass y) (sum_rolled regular_pass y)
 
-  abbrev differ_regular_layer : RawDiffer-F RawExpr RawPrimary RawRef RawCand RawCmp RawCond RawDiffer RawMask RawPrim RawSum RawTerm RawUnion → Bool
-  differ_regular_layer x = regular.differ_step (map-RawDiffer RawExpr RawPrimary RawRef RawCand RawCmp RawCond RawDiffer RawMask RawPrim RawSum RawTerm RawUnion Bool Bool Bool Bool Bool Bool Bool Bool Bool Bool Bool Bool regular.is_regular regular.is_regular_primary regular.is_regular_reference regular.is_regular_conjunction regular.is_regular_comparison regular.is_regular_condition regular.is_regular_differ regular.is_regular_mask regular.is_regular_prim regular.is_regular_sum regular.is_regular_term regular.is_regular_union x)
+  abbrev pub term_values : RawTerm → Values Made
+  term_values x = record { judged = of_term (judged_pass named) x; made = of_term (made_steps named numbers) x; uses = of_term uses_pass x; levels = of_term levels_pass x; regular = of_term regular_pass x }
 
-  abbrev pub differ_judged_layer : RawDiffer-F RawExpr RawPrimary RawRef RawCand RawCmp RawCond RawDiffer RawMask RawPrim RawSum RawTerm RawUnion → Judged
-  differ_judged_layer x = judged.differ_step named (map-RawDiffer RawExpr RawPrimary RawRef RawCand RawCmp RawCond RawDiffer RawMask RawPrim RawSum RawTerm RawUnion Judged Judged Judged Judged Judged Judged Judged Judged Judged Judged Judged Judged (judged.expression named) (judged.primary named) (judged.reference named) (judged.conjunction named) (judged.comparison named) (judged.condition named) (judged.differ named) (judged.mask named) (judged.prim named) (judged.sum named) (judged.term named) (judged.union named) x)
+  abbrev pub term_layer_values : TermLayer → Values Made
+  term_layer_values y = record { judged = term_layered (judged_pass named) y; made = term_layered (made_steps named numbers) y; uses = term_layered uses_pass y; levels = term_layered levels_pass y; regular = term_layered regular_pass y }
 
-  abbrev pub differ_made_layer : RawDiffer-F RawExpr RawPrimary RawRef RawCand RawCmp RawCond RawDiffer RawMask RawPrim RawSum RawTerm RawUnion → Made
-  differ_made_layer x = made.differ_step named numbers (map-RawDiffer RawExpr RawPrimary RawRef RawCand RawCmp RawCond RawDiffer RawMask RawPrim RawSum RawTerm RawUnion Made Made Placed Cond Cond Cond Made Made Made Made Made Made (made.expression_made named numbers) (made.primary_made named numbers) (made.reference_made named numbers) (made.conjunction_made named numbers) (made.comparison_made named numbers) (made.condition_made named numbers) (made.differ_made named numbers) (made.mask_made named numbers) (made.prim_made named numbers) (made.sum_made named numbers) (made.term_made named numbers) (made.union_made named numbers) x)
+  term_alike : (y : TermLayer) → term_values (roll-RawTerm y) ≡ term_layer_values y
+  term_alike y = alike (term_rolled (judged_pass named) y) (term_rolled (made_steps named numbers) y) (term_rolled uses_pass y) (term_rolled levels_pass y) (term_rolled regular_pass y)
 
-  abbrev pub differ_uses_layer : RawDiffer-F RawExpr RawPrimary RawRef RawCand RawCmp RawCond RawDiffer RawMask RawPrim RawSum RawTerm RawUnion → Uses
-  differ_uses_layer x = uses.differ_step (map-RawDiffer RawExpr RawPrimary RawRef RawCand RawCmp RawCond RawDiffer RawMask RawPrim RawSum RawTerm RawUnion Uses Uses Uses Uses Uses Uses Uses Uses Uses Uses Uses Uses uses.expression_uses uses.primary_uses uses.reference_uses uses.conjunction_uses uses.comparison_uses uses.condition_uses uses.differ_uses uses.mask_uses uses.prim_uses uses.sum_uses uses.term_uses uses.union_uses x)
-
-  abbrev differ_levels_layer : RawDiffer-F RawExpr RawPrimary RawRef RawCand RawCmp RawCond RawDiffer RawMask RawPrim RawSum RawTerm RawUnion → ℕ
-  differ_levels_layer x = levels.differ_step (map-RawDiffer RawExpr RawPrimary RawRef RawCand RawCmp RawCond RawDiffer RawMask RawPrim RawSum RawTerm RawUnion ℕ ℕ ℕ ℕ ℕ ℕ ℕ ℕ ℕ ℕ ℕ ℕ levels.then_levels levels.primary_levels levels.reference_levels levels.conjunction_levels levels.comparison_levels levels.condition_levels levels.differ_levels levels.mask_levels levels.prim_levels levels.sum_levels levels.term_levels levels.union_levels x)
-
-  abbrev mask_regular_layer : RawMask-F RawExpr RawPrimary RawRef RawCand RawCmp RawCond RawDiffer RawMask RawPrim RawSum RawTerm RawUnion → Bool
-  mask_regular_layer x = regular.mask_step (map-RawMask RawExpr RawPrimary RawRef RawCand RawCmp RawCond RawDiffer RawMask RawPrim RawSum RawTerm RawUnion Bool Bool Bool Bool Bool Bool Bool Bool Bool Bool Bool Bool regular.is_regular regular.is_regular_primary regular.is_regular_reference regular.is_regular_conjunction regular.is_regular_comparison regular.is_regular_condition regular.is_regular_differ regular.is_regular_mask regular.is_regular_prim regular.is_regular_sum regular.is_regular_term regular.is_regular_union x)
-
-  abbrev pub mask_judged_layer : RawMask-F RawExpr RawPrimary RawRef RawCand RawCmp RawCond RawDiffer RawMask RawPrim RawSum RawTerm RawUnion → Judged
-  mask_judged_layer x = judged.mask_step named (map-RawMask RawExpr RawPrimary RawRef RawCand RawCmp RawCond RawDiffer RawMask RawPrim RawSum RawTerm RawUnion Judged Judged Judged Judged Judged Judged Judged Judged Judged Judged Judged Judged (judged.expression named) (judged.primary named) (judged.reference named) (judged.conjunction named) (judged.comparison named) (judged.condition named) (judged.differ named) (judged.mask named) (judged.prim named) (judged.sum named) (judged.term named) (judged.union named) x)
-
-  abbrev pub mask_made_layer : RawMask-F RawExpr RawPrimary RawRef RawCand RawCmp RawCond RawDiffer RawMask RawPrim RawSum RawTerm RawUnion → Made
-  mask_made_layer x = made.mask_step named numbers (map-RawMask RawExpr RawPrimary RawRef RawCand RawCmp RawCond RawDiffer RawMask RawPrim RawSum RawTerm RawUnion Made Made Placed Cond Cond Cond Made Made Made Made Made Made (made.expression_made named numbers) (made.primary_made named numbers) (made.reference_made named numbers) (made.conjunction_made named numbers) (made.comparison_made named numbers) (made.condition_made named numbers) (made.differ_made named numbers) (made.mask_made named numbers) (made.prim_made named numbers) (made.sum_made named numbers) (made.term_made named numbers) (made.union_made named numbers) x)
-
-  abbrev pub mask_uses_layer : RawMask-F RawExpr RawPrimary RawRef RawCand RawCmp RawCond RawDiffer RawMask RawPrim RawSum RawTerm RawUnion → Uses
-  mask_uses_layer x = uses.mask_step (map-RawMask RawExpr RawPrimary RawRef RawCand RawCmp RawCond RawDiffer RawMask RawPrim RawSum RawTerm RawUnion Uses Uses Uses Uses Uses Uses Uses Uses Uses Uses Uses Uses uses.expression_uses uses.primary_uses uses.reference_uses uses.conjunction_uses uses.comparison_uses uses.condition_uses uses.differ_uses uses.mask_uses uses.prim_uses uses.sum_uses uses.term_uses uses.union_uses x)
-
-  abbrev mask_levels_layer : RawMask-F RawExpr RawPrimary RawRef RawCand RawCmp RawCond RawDiffer RawMask RawPrim RawSum RawTerm RawUnion → ℕ
-  mask_levels_layer x = levels.mask_step (map-RawMask RawExpr RawPrimary RawRef RawCand RawCmp RawCond RawDiffer RawMask RawPrim RawSum RawTerm RawUnion ℕ ℕ ℕ ℕ ℕ ℕ ℕ ℕ ℕ ℕ ℕ ℕ levels.then_levels levels.primary_levels levels.reference_levels levels.conjunction_levels levels.comparison_levels levels.condition_levels levels.differ_levels levels.mask_levels levels.prim_levels levels.sum_levels levels.term_levels levels.union_levels x)
-
-  abbrev prim_regular_layer : RawPrim-F RawExpr RawPrimary RawRef RawCand RawCmp RawCond RawDiffer RawMask RawPrim RawSum RawTerm RawUnion → Bool
-  prim_regular_layer x = regular.prim_step (map-RawPrim RawExpr RawPrimary RawRef RawCand RawCmp RawCond RawDiffer RawMask RawPrim RawSum RawTerm RawUnion Bool Bool Bool Bool Bool Bool Bool Bool Bool Bool Bool Bool regular.is_regular regular.is_regular_primary regular.is_regular_reference regular.is_regular_conjunction regular.is_regular_comparison regular.is_regular_condition regular.is_regular_differ regular.is_regular_mask regular.is_regular_prim regular.is_regular_sum regular.is_regular_term regular.is_regular_union x)
-
-  abbrev pub prim_judged_layer : RawPrim-F RawExpr RawPrimary RawRef RawCand RawCmp RawCond RawDiffer RawMask RawPrim RawSum RawTerm RawUnion → Judged
-  prim_judged_layer x = judged.prim_step named (map-RawPrim RawExpr RawPrimary RawRef RawCand RawCmp RawCond RawDiffer RawMask RawPrim RawSum RawTerm RawUnion Judged Judged Judged Judged Judged Judged Judged Judged Judged Judged Judged Judged (judged.expression named) (judged.primary named) (judged.reference named) (judged.conjunction named) (judged.comparison named) (judged.condition named) (judged.differ named) (judged.mask named) (judged.prim named) (judged.sum named) (judged.term named) (judged.union named) x)
-
-  abbrev pub prim_made_layer : RawPrim-F RawExpr RawPrimary RawRef RawCand RawCmp RawCond RawDiffer RawMask RawPrim RawSum RawTerm RawUnion → Made
-  prim_made_layer x = made.prim_step named numbers (map-RawPrim RawExpr RawPrimary RawRef RawCand RawCmp RawCond RawDiffer RawMask RawPrim RawSum RawTerm RawUnion Made Made Placed Cond Cond Cond Made Made Made Made Made Made (made.expression_made named numbers) (made.primary_made named numbers) (made.reference_made named numbers) (made.conjunction_made named numbers) (made.comparison_made named numbers) (made.condition_made named numbers) (made.differ_made named numbers) (made.mask_made named numbers) (made.prim_made named numbers) (made.sum_made named numbers) (made.term_made named numbers) (made.union_made named numbers) x)
-
-  abbrev pub prim_uses_layer : RawPrim-F RawExpr RawPrimary RawRef RawCand RawCmp RawCond RawDiffer RawMask RawPrim RawSum RawTerm RawUnion → Uses
-  prim_uses_layer x = uses.prim_step (map-RawPrim RawExpr RawPrimary RawRef RawCand RawCmp RawCond RawDiffer RawMask RawPrim RawSum RawTerm RawUnion Uses Uses Uses Uses Uses Uses Uses Uses Uses Uses Uses Uses uses.expression_uses uses.primary_uses uses.reference_uses uses.conjunction_uses uses.comparison_uses uses.condition_uses uses.differ_uses uses.mask_uses uses.prim_uses uses.sum_uses uses.term_uses uses.union_uses x)
-
-  abbrev prim_levels_layer : RawPrim-F RawExpr RawPrimary RawRef RawCand RawCmp RawCond RawDiffer RawMask RawPrim RawSum RawTerm RawUnion → ℕ
-  prim_levels_layer x = levels.prim_step (map-RawPrim RawExpr RawPrimary RawRef RawCand RawCmp RawCond RawDiffer RawMask RawPrim RawSum RawTerm RawUnion ℕ ℕ ℕ ℕ ℕ ℕ ℕ ℕ ℕ ℕ ℕ ℕ levels.then_levels levels.primary_levels levels.reference_levels levels.conjunction_levels levels.comparison_levels levels.condition_levels levels.differ_levels levels.mask_levels levels.prim_levels levels.sum_levels levels.term_levels levels.union_levels x)
-
-  abbrev sum_regular_layer : RawSum-F RawExpr RawPrimary RawRef RawCand RawCmp RawCond RawDiffer RawMask RawPrim RawSum RawTerm RawUnion → Bool
-  sum_regular_layer x = regular.sum_step (map-RawSum RawExpr RawPrimary RawRef RawCand RawCmp RawCond RawDiffer RawMask RawPrim RawSum RawTerm RawUnion Bool Bool Bool Bool Bool Bool Bool Bool Bool Bool Bool Bool regular.is_regular regular.is_regular_primary regular.is_regular_reference regular.is_regular_conjunction regular.is_regular_comparison regular.is_regular_condition regular.is_regular_differ regular.is_regular_mask regular.is_regular_prim regular.is_regular_sum regular.is_regular_term regular.is_regular_union x)
-
-  abbrev pub sum_judged_layer : RawSum-F RawExpr RawPrimary RawRef RawCand RawCmp RawCond RawDiffer RawMask RawPrim RawSum RawTerm RawUnion → Judged
-  sum_judged_layer x = judged.sum_step named (map-RawSum RawExpr RawPrimary RawRef RawCand RawCmp RawCond RawDiffer RawMask RawPrim RawSum RawTerm RawUnion Judged Judged Judged Judged Judged Judged Judged Judged Judged Judged Judged Judged (judged.expression named) (judged.primary named) (judged.reference named) (judged.conjunction named) (judged.comparison named) (judged.condition named) (judged.differ named) (judged.mask named) (judged.prim named) (judged.sum named) (judged.term named) (judged.union named) x)
-
-  abbrev pub sum_made_layer : RawSum-F RawExpr RawPrimary RawRef RawCand RawCmp RawCond RawDiffer RawMask RawPrim RawSum RawTerm RawUnion → Made
-  sum_made_layer x = made.sum_step named numbers (map-RawSum RawExpr RawPrimary RawRef RawCand RawCmp RawCond RawDiffer RawMask RawPrim RawSum RawTerm RawUnion Made Made Placed Cond Cond Cond Made Made Made Made Made Made (made.expression_made named numbers) (made.primary_made named numbers) (made.reference_made named numbers) (made.conjunction_made named numbers) (made.comparison_made named numbers) (made.condition_made named numbers) (made.differ_made named numbers) (made.mask_made named numbers) (made.prim_made named numbers) (made.sum_made named numbers) (made.term_made named numbers) (made.union_made named numbers) x)
-
-  abbrev pub sum_uses_layer : RawSum-F RawExpr RawPrimary RawRef RawCand RawCmp RawCond RawDiffer RawMask RawPrim RawSum RawTerm RawUnion → Uses
-  sum_uses_layer x = uses.sum_step (map-RawSum RawExpr RawPrimary RawRef RawCand RawCmp RawCond RawDiffer RawMask RawPrim RawSum RawTerm RawUnion Uses Uses Uses Uses Uses Uses Uses Uses Uses Uses Uses Uses uses.expression_uses uses.primary_uses uses.reference_uses uses.conjunction_uses uses.comparison_uses uses.condition_uses uses.differ_uses uses.mask_uses uses.prim_uses uses.sum_uses uses.term_uses uses.union_uses x)
-
-  abbrev sum_levels_layer : RawSum-F RawExpr RawPrimary RawRef RawCand RawCmp RawCond RawDiffer RawMask RawPrim RawSum RawTerm RawUnion → ℕ
-  sum_levels_layer x = levels.sum_step (map-RawSum RawExpr RawPrimary RawRef RawCand RawCmp RawCond RawDiffer RawMask RawPrim RawSum RawTerm RawUnion ℕ ℕ ℕ ℕ ℕ ℕ ℕ ℕ ℕ ℕ ℕ ℕ levels.then_levels levels.primary_levels levels.reference_levels levels.conjunction_levels levels.comparison_levels levels.condition_levels levels.differ_levels levels.mask_levels levels.prim_levels levels.sum_levels levels.term_levels levels.union_levels x)
-
-  abbrev term_regular_layer : RawTerm-F RawExpr RawPrimary RawRef RawCand RawCmp RawCond RawDiffer RawMask RawPrim RawSum RawTerm RawUnion → Bool
-  term_regular_layer x = regular.term_step (map-RawTerm RawExpr RawPrimary RawRef RawCand RawCmp RawCond RawDiffer RawMask RawPrim RawSum RawTerm RawUnion Bool Bool Bool Bool Bool Bool Bool Bool Bool Bool Bool Bool regular.is_regular regular.is_regular_primary regular.is_regular_reference regular.is_regular_conjunction regular.is_regular_comparison regular.is_regular_condition regular.is_regular_differ regular.is_regular_mask regular.is_regular_prim regular.is_regular_sum regular.is_regular_term regular.is_regular_union x)
-
-  abbrev pub term_judged_layer : RawTerm-F RawExpr RawPrimary RawRef RawCand RawCmp RawCond RawDiffer RawMask RawPrim RawSum RawTerm RawUnion → Judged
-  term_judged_layer x = judged.term_step named (map-RawTerm RawExpr RawPrimary RawRef RawCand RawCmp RawCond RawDiffer RawMask RawPrim RawSum RawTerm RawUnion Judged Judged Judged Judged Judged Judged Judged Judged Judged Judged Judged Judged (judged.expression named) (judged.primary named) (judged.reference named) (judged.conjunction named) (judged.comparison named) (judged.condition named) (judged.differ named) (judged.mask named) (judged.prim named) (judged.sum named) (judged.term named) (judged.union named) x)
-
-  abbrev pub term_made_layer : RawTerm-F RawExpr RawPrimary RawRef RawCand RawCmp RawCond RawDiffer RawMask RawPrim RawSum RawTerm RawUnion → Made
-  term_made_layer x = made.term_step named numbers (map-RawTerm RawExpr RawPrimary RawRef RawCand RawCmp RawCond RawDiffer RawMask RawPrim RawSum RawTerm RawUnion Made Made Placed Cond Cond Cond Made Made Made Made Made Made (made.expression_made named numbers) (made.primary_made named numbers) (made.reference_made named numbers) (made.conjunction_made named numbers) (made.comparison_made named numbers) (made.condition_made named numbers) (made.differ_made named numbers) (made.mask_made named numbers) (made.prim_made named numbers) (made.sum_made named numbers) (made.term_made named numbers) (made.union_made named numbers) x)
-
-  abbrev pub term_uses_layer : RawTerm-F RawExpr RawPrimary RawRef RawCand RawCmp RawCond RawDiffer RawMask RawPrim RawSum RawTerm RawUnion → Uses
-  term_uses_layer x = uses.term_step (map-RawTerm RawExpr RawPrimary RawRef RawCand RawCmp RawCond RawDiffer RawMask RawPrim RawSum RawTerm RawUnion Uses Uses Uses Uses Uses Uses Uses Uses Uses Uses Uses Uses uses.expression_uses uses.primary_uses uses.reference_uses uses.conjunction_uses uses.comparison_uses uses.condition_uses uses.differ_uses uses.mask_uses uses.prim_uses uses.sum_uses uses.term_uses uses.union_uses x)
-
-  abbrev term_levels_layer : RawTerm-F RawExpr RawPrimary RawRef RawCand RawCmp RawCond RawDiffer RawMask RawPrim RawSum RawTerm RawUnion → ℕ
-  term_levels_layer x = levels.term_step (map-RawTerm RawExpr RawPrimary RawRef RawCand RawCmp RawCond RawDiffer RawMask RawPrim RawSum RawTerm RawUnion ℕ ℕ ℕ ℕ ℕ ℕ ℕ ℕ ℕ ℕ ℕ ℕ levels.then_levels levels.primary_levels levels.reference_levels levels.conjunction_levels levels.comparison_levels levels.condition_levels levels.differ_levels levels.mask_levels levels.prim_levels levels.sum_levels levels.term_levels levels.union_levels x)
-
-  abbrev union_regular_layer : RawUnion-F RawExpr RawPrimary RawRef RawCand RawCmp RawCond RawDiffer RawMask RawPrim RawSum RawTerm RawUnion → Bool
-  union_regular_layer x = regular.union_step (map-RawUnion RawExpr RawPrimary RawRef RawCand RawCmp RawCond RawDiffer RawMask RawPrim RawSum RawTerm RawUnion Bool Bool Bool Bool Bool Bool Bool Bool Bool Bool Bool Bool regular.is_regular regular.is_regular_primary regular.is_regular_reference regular.is_regular_conjunction regular.is_regular_comparison regular.is_regular_condition regular.is_regular_differ regular.is_regular_mask regular.is_regular_prim regular.is_regular_sum regular.is_regular_term regular.is_regular_union x)
-
-  abbrev pub union_judged_layer : RawUnion-F RawExpr RawPrimary RawRef RawCand RawCmp RawCond RawDiffer RawMask RawPrim RawSum RawTerm RawUnion → Judged
-  union_judged_layer x = judged.union_step named (map-RawUnion RawExpr RawPrimary RawRef RawCand RawCmp RawCond RawDiffer RawMask RawPrim RawSum RawTerm RawUnion Judged Judged Judged Judged Judged Judged Judged Judged Judged Judged Judged Judged (judged.expression named) (judged.primary named) (judged.reference named) (judged.conjunction named) (judged.comparison named) (judged.condition named) (judged.differ named) (judged.mask named) (judged.prim named) (judged.sum named) (judged.term named) (judged.union named) x)
-
-  abbrev pub union_made_layer : RawUnion-F RawExpr RawPrimary RawRef RawCand RawCmp RawCond RawDiffer RawMask RawPrim RawSum RawTerm RawUnion → Made
-  union_made_layer x = made.union_step named numbers (map-RawUnion RawExpr RawPrimary RawRef RawCand RawCmp RawCond RawDiffer RawMask RawPrim RawSum RawTerm RawUnion Made Made Placed Cond Cond Cond Made Made Made Made Made Made (made.expression_made named numbers) (made.primary_made named numbers) (made.reference_made named numbers) (made.conjunction_made named numbers) (made.comparison_made named numbers) (made.condition_made named numbers) (made.differ_made named numbers) (made.mask_made named numbers) (made.prim_made named numbers) (made.sum_made named numbers) (made.term_made named numbers) (made.union_made named numbers) x)
-
-  abbrev pub union_uses_layer : RawUnion-F RawExpr RawPrimary RawRef RawCand RawCmp RawCond RawDiffer RawMask RawPrim RawSum RawTerm RawUnion → Uses
-  union_uses_layer x = uses.union_step (map-RawUnion RawExpr RawPrimary RawRef RawCand RawCmp RawCond RawDiffer RawMask RawPrim RawSum RawTerm RawUnion Uses Uses Uses Uses Uses Uses Uses Uses Uses Uses Uses Uses uses.expression_uses uses.primary_uses uses.reference_uses uses.conjunction_uses uses.comparison_uses uses.condition_uses uses.differ_uses uses.mask_uses uses.prim_uses uses.sum_uses uses.term_uses uses.union_uses x)
-
-  abbrev union_levels_layer : RawUnion-F RawExpr RawPrimary RawRef RawCand RawCmp RawCond RawDiffer RawMask RawPrim RawSum RawTerm RawUnion → ℕ
-  union_levels_layer x = levels.union_step (map-RawUnion RawExpr RawPrimary RawRef RawCand RawCmp RawCond RawDiffer RawMask RawPrim RawSum RawTerm RawUnion ℕ ℕ ℕ ℕ ℕ ℕ ℕ ℕ ℕ ℕ ℕ ℕ levels.then_levels levels.primary_levels levels.reference_levels levels.conjunction_levels levels.comparison_levels levels.condition_levels levels.differ_levels levels.mask_levels levels.prim_levels levels.sum_levels levels.term_levels levels.union_levels x)
-
-moved : (M : Type 0) (Known : Judged → M → Uses → ℕ → Type 0) {j k : Judged} {m n : M} {x y : Uses} {l i : ℕ} → k ≡ j → n ≡ m → y ≡ x → i ≡ l → Known j m x l → Known k n y i
-moved M Known {j = j} {k = k} {m = m} {n = n} {x = x} {y = y} {l = l} {i = i} ej em ex el h =
-    subst (λ (z : Judged). Known z n y i) (sym ej) (subst (λ (z : M). Known j z y i) (sym em) (subst (λ (z : Uses). Known j m z i) (sym ex) (subst (λ (z : ℕ). Known j m x z) (sym el) h)))
-
--- of a property of values, one of tests and one of places
-module _ (named : Named) (numbers : Numbers) (Value : Judged → Made → Uses → ℕ → Type 0) (Test : Judged → Cond → Uses → ℕ → Type 0) (Place : Judged → Placed → Uses → ℕ → Type 0) where
-  abbrev pub IsExpressionRight : RawExpr → Type 0
-  IsExpressionRight x = IsTrue (regular.is_regular x) → Value (judged.expression named x) (made.expression_made named numbers x) (uses.expression_uses x) (levels.then_levels x)
-
-  abbrev pub IsExpressionLayerRight : RawExpr-F RawExpr RawPrimary RawRef RawCand RawCmp RawCond RawDiffer RawMask RawPrim RawSum RawTerm RawUnion → Type 0
-  IsExpressionLayerRight x = IsTrue (expression_regular_layer named numbers x) → Value (expression_judged_layer named numbers x) (expression_made_layer named numbers x) (expression_uses_layer named numbers x) (expression_levels_layer named numbers x)
-
-  pub expression_rolls : (x : RawExpr-F RawExpr RawPrimary RawRef RawCand RawCmp RawCond RawDiffer RawMask RawPrim RawSum RawTerm RawUnion) → IsExpressionLayerRight x → IsExpressionRight (roll-RawExpr x)
-  expression_rolls x h regular_tree =
-      moved Made Value (fold-roll-RawExpr Judged Judged Judged Judged Judged Judged Judged Judged Judged Judged Judged Judged (judged.expression_step named) (judged.primary_step named) (judged.reference_step named) (judged.conjunction_step named) (judged.comparison_step named) (judged.condition_step named) (judged.differ_step named) (judged.mask_step named) (judged.prim_step named) (judged.sum_step named) (judged.term_step named) (judged.union_step named) x)
-      (fold-roll-RawExpr Made Made Placed Cond Cond Cond Made Made Made Made Made Made (made.expression_step named numbers) (made.primary_step named numbers) (made.reference_step named numbers) (made.conjunction_step named numbers) (made.comparison_step named numbers) (made.condition_step named numbers) (made.differ_step named numbers) (made.mask_step named numbers) (made.prim_step named numbers) (made.sum_step named numbers) (made.term_step named numbers) (made.union_step named numbers) x)
-      (fold-roll-RawExpr Uses Uses Uses Uses Uses Uses Uses Uses Uses Uses Uses Uses uses.expression_step uses.primary_step uses.reference_step uses.conjunction_step uses.comparison_step uses.condition_step uses.differ_step uses.mask_step uses.prim_step uses.sum_step uses.term_step uses.union_step x)
-      (fold-roll-RawExpr ℕ ℕ ℕ ℕ ℕ ℕ ℕ ℕ ℕ ℕ ℕ ℕ levels.expression_step levels.primary_step levels.reference_step levels.conjunction_step levels.comparison_step levels.condition_step levels.differ_step levels.mask_step levels.prim_step levels.sum_step levels.term_step levels.union_step x)
-      (h (subst IsTrue (fold-roll-RawExpr Bool Bool Bool Bool Bool Bool Bool Bool Bool Bool Bool Bool regular.expression_step regular.primary_step regular.reference_step regular.conjunction_step regular.comparison_step regular.condition_step regular.differ_step regular.mask_step regular.prim_step regular.sum_step regular.term_step regular.union_step x) regular_tree))
-
-  abbrev pub IsPrimaryRight : RawPrimary → Type 0
-  IsPrimaryRight x = IsTrue (regular.is_regular_primary x) → Value (judged.primary named x) (made.primary_made named numbers x) (uses.primary_uses x) (levels.primary_levels x)
-
-  abbrev pub IsPrimaryLayerRight : RawPrimary-F RawExpr RawPrimary RawRef RawCand RawCmp RawCond RawDiffer RawMask RawPrim RawSum RawTerm RawUnion → Type 0
-  IsPrimaryLayerRight x = IsTrue (primary_regular_layer named numbers x) → Value (primary_judged_layer named numbers x) (primary_made_layer named numbers x) (primary_uses_layer named numbers x) (primary_levels_layer named numbers x)
-
-  pub primary_rolls : (x : RawPrimary-F RawExpr RawPrimary RawRef RawCand RawCmp RawCond RawDiffer RawMask RawPrim RawSum RawTerm RawUnion) → IsPrimaryLayerRight x → IsPrimaryRight (roll-RawPrimary x)
-  primary_rolls x h regular_tree =
-      moved Made Value (fold-roll-RawPrimary Judged Judged Judged Judged Judged Judged Judged Judged Judged Judged Judged Judged (judged.expression_step named) (judged.primary_step named) (judged.reference_step named) (judged.conjunction_step named) (judged.comparison_step named) (judged.condition_step named) (judged.differ_step named) (judged.mask_step named) (judged.prim_step named) (judged.sum_step named) (judged.term_step named) (judged.union_step named) x)
-      (fold-roll-RawPrimary Made Made Placed Cond Cond Cond Made Made Made Made Made Made (made.expression_step named numbers) (made.primary_step named numbers) (made.reference_step named numbers) (made.conjunction_step named numbers) (made.comparison_step named numbers) (made.condition_step named numbers) (made.differ_step named numbers) (made.mask_step named numbers) (made.prim_step named numbers) (made.sum_step named numbers) (made.term_step named numbers) (made.union_step named numbers) x)
-      (fold-roll-RawPrimary Uses Uses Uses Uses Uses Uses Uses Uses Uses Uses Uses Uses uses.expression_step uses.primary_step uses.reference_step uses.conjunction_step uses.comparison_step uses.condition_step uses.differ_step uses.mask_step uses.prim_step uses.sum_step uses.term_step uses.union_step x)
-      (fold-roll-RawPrimary ℕ ℕ ℕ ℕ ℕ ℕ ℕ ℕ ℕ ℕ ℕ ℕ levels.expression_step levels.primary_step levels.reference_step levels.conjunction_step levels.comparison_step levels.condition_step levels.differ_step levels.mask_step levels.prim_step levels.sum_step levels.term_step levels.union_step x)
-      (h (subst IsTrue (fold-roll-RawPrimary Bool Bool Bool Bool Bool Bool Bool Bool Bool Bool Bool Bool regular.expression_step regular.primary_step regular.reference_step regular.conjunction_step regular.comparison_step regular.condition_step regular.differ_step regular.mask_step regular.prim_step regular.sum_step regular.term_step regular.union_step x) regular_tree))
-
-  abbrev pub IsReferenceRight : RawRef → Type 0
-  IsReferenceRight x = IsTrue (regular.is_regular_reference x) → Place (judged.reference named x) (made.reference_made named numbers x) (uses.reference_uses x) (levels.reference_levels x)
-
-  abbrev pub IsReferenceLayerRight : RawRef-F RawExpr RawPrimary RawRef RawCand RawCmp RawCond RawDiffer RawMask RawPrim RawSum RawTerm RawUnion → Type 0
-  IsReferenceLayerRight x = IsTrue (reference_regular_layer named numbers x) → Place (reference_judged_layer named numbers x) (reference_made_layer named numbers x) (reference_uses_layer named numbers x) (reference_levels_layer named numbers x)
-
-  pub reference_rolls : (x : RawRef-F RawExpr RawPrimary RawRef RawCand RawCmp RawCond RawDiffer RawMask RawPrim RawSum RawTerm RawUnion) → IsReferenceLayerRight x → IsReferenceRight (roll-RawRef x)
-  reference_rolls x h regular_tree =
-      moved Placed Place (fold-roll-RawRef Judged Judged Judged Judged Judged Judged Judged Judged Judged Judged Judged Judged (judged.expression_step named) (judged.primary_step named) (judged.reference_step named) (judged.conjunction_step named) (judged.comparison_step named) (judged.condition_step named) (judged.differ_step named) (judged.mask_step named) (judged.prim_step named) (judged.sum_step named) (judged.term_step named) (judged.union_step named) x)
-      (fold-roll-RawRef Made Made Placed Cond Cond Cond Made Made Made Made Made Made (made.expression_step named numbers) (made.primary_step named numbers) (made.reference_step named numbers) (made.conjunction_step named numbers) (made.comparison_step named numbers) (made.condition_step named numbers) (made.differ_step named numbers) (made.mask_step named numbers) (made.prim_step named numbers) (made.sum_step named numbers) (made.term_step named numbers) (made.union_step named numbers) x)
-      (fold-roll-RawRef Uses Uses Uses Uses Uses Uses Uses Uses Uses Uses Uses Uses uses.expression_step uses.primary_step uses.reference_step uses.conjunction_step uses.comparison_step uses.condition_step uses.differ_step uses.mask_step uses.prim_step uses.sum_step uses.term_step uses.union_step x)
-      (fold-roll-RawRef ℕ ℕ ℕ ℕ ℕ ℕ ℕ ℕ ℕ ℕ ℕ ℕ levels.expression_step levels.primary_step levels.reference_step levels.conjunction_step levels.comparison_step levels.condition_step levels.differ_step levels.mask_step levels.prim_step levels.sum_step levels.term_step levels.union_step x)
-      (h (subst IsTrue (fold-roll-RawRef Bool Bool Bool Bool Bool Bool Bool Bool Bool Bool Bool Bool regular.expression_step regular.primary_step regular.reference_step regular.conjunction_step regular.comparison_step regular.condition_step regular.differ_step regular.mask_step regular.prim_step regular.sum_step regular.term_step regular.union_step x) regular_tree))
-
-  abbrev pub IsConjunctionRight : RawCand → Type 0
-  IsConjunctionRight x = IsTrue (regular.is_regular_conjunction x) → Test (judged.conjunction named x) (made.conjunction_made named numbers x) (uses.conjunction_uses x) (levels.conjunction_levels x)
-
-  abbrev pub IsConjunctionLayerRight : RawCand-F RawExpr RawPrimary RawRef RawCand RawCmp RawCond RawDiffer RawMask RawPrim RawSum RawTerm RawUnion → Type 0
-  IsConjunctionLayerRight x = IsTrue (conjunction_regular_layer named numbers x) → Test (conjunction_judged_layer named numbers x) (conjunction_made_layer named numbers x) (conjunction_uses_layer named numbers x) (conjunction_levels_layer named numbers x)
-
-  pub conjunction_rolls : (x : RawCand-F RawExpr RawPrimary RawRef RawCand RawCmp RawCond RawDiffer RawMask RawPrim RawSum RawTerm RawUnion) → IsConjunctionLayerRight x → IsConjunctionRight (roll-RawCand x)
-  conjunction_rolls x h regular_tree =
-      moved Cond Test (fold-roll-RawCand Judged Judged Judged Judged Judged Judged Judged Judged Judged Judged Judged Judged (judged.expression_step named) (judged.primary_step named) (judged.reference_step named) (judged.conjunction_step named) (judged.comparison_step named) (judged.condition_step named) (judged.differ_step named) (judged.mask_step named) (judged.prim_step named) (judged.sum_step named) (judged.term_step named) (judged.union_step named) x)
-      (fold-roll-RawCand Made Made Placed Cond Cond Cond Made Made Made Made Made Made (made.expression_step named numbers) (made.primary_step named numbers) (made.reference_step named numbers) (made.conjunction_step named numbers) (made.comparison_step named numbers) (made.condition_step named numbers) (made.differ_step named numbers) (made.mask_step named numbers) (made.prim_step named numbers) (made.sum_step named numbers) (made.term_step named numbers) (made.union_step named numbers) x)
-      (fold-roll-RawCand Uses Uses Uses Uses Uses Uses Uses Uses Uses Uses Uses Uses uses.expression_step uses.primary_step uses.reference_step uses.conjunction_step uses.comparison_step uses.condition_step uses.differ_step uses.mask_step uses.prim_step uses.sum_step uses.term_step uses.union_step x)
-      (fold-roll-RawCand ℕ ℕ ℕ ℕ ℕ ℕ ℕ ℕ ℕ ℕ ℕ ℕ levels.expression_step levels.primary_step levels.reference_step levels.conjunction_step levels.comparison_step levels.condition_step levels.differ_step levels.mask_step levels.prim_step levels.sum_step levels.term_step levels.union_step x)
-      (h (subst IsTrue (fold-roll-RawCand Bool Bool Bool Bool Bool Bool Bool Bool Bool Bool Bool Bool regular.expression_step regular.primary_step regular.reference_step regular.conjunction_step regular.comparison_step regular.condition_step regular.differ_step regular.mask_step regular.prim_step regular.sum_step regular.term_step regular.union_step x) regular_tree))
-
-  abbrev pub IsComparisonRight : RawCmp → Type 0
-  IsComparisonRight x = IsTrue (regular.is_regular_comparison x) → Test (judged.comparison named x) (made.comparison_made named numbers x) (uses.comparison_uses x) (levels.comparison_levels x)
-
-  abbrev pub IsComparisonLayerRight : RawCmp-F RawExpr RawPrimary RawRef RawCand RawCmp RawCond RawDiffer RawMask RawPrim RawSum RawTerm RawUnion → Type 0
-  IsComparisonLayerRight x = IsTrue (comparison_regular_layer named numbers x) → Test (comparison_judged_layer named numbers x) (comparison_made_layer named numbers x) (comparison_uses_layer named numbers x) (comparison_levels_layer named numbers x)
-
-  pub comparison_rolls : (x : RawCmp-F RawExpr RawPrimary RawRef RawCand RawCmp RawCond RawDiffer RawMask RawPrim RawSum RawTerm RawUnion) → IsComparisonLayerRight x → IsComparisonRight (roll-RawCmp x)
-  comparison_rolls x h regular_tree =
-      moved Cond Test (fold-roll-RawCmp Judged Judged Judged Judged Judged Judged Judged Judged Judged Judged Judged Judged (judged.expression_step named) (judged.primary_step named) (judged.reference_step named) (judged.conjunction_step named) (judged.comparison_step named) (judged.condition_step named) (judged.differ_step named) (judged.mask_step named) (judged.prim_step named) (judged.sum_step named) (judged.term_step named) (judged.union_step named) x)
-      (fold-roll-RawCmp Made Made Placed Cond Cond Cond Made Made Made Made Made Made (made.expression_step named numbers) (made.primary_step named numbers) (made.reference_step named numbers) (made.conjunction_step named numbers) (made.comparison_step named numbers) (made.condition_step named numbers) (made.differ_step named numbers) (made.mask_step named numbers) (made.prim_step named numbers) (made.sum_step named numbers) (made.term_step named numbers) (made.union_step named numbers) x)
-      (fold-roll-RawCmp Uses Uses Uses Uses Uses Uses Uses Uses Uses Uses Uses Uses uses.expression_step uses.primary_step uses.reference_step uses.conjunction_step uses.comparison_step uses.condition_step uses.differ_step uses.mask_step uses.prim_step uses.sum_step uses.term_step uses.union_step x)
-      (fold-roll-RawCmp ℕ ℕ ℕ ℕ ℕ ℕ ℕ ℕ ℕ ℕ ℕ ℕ levels.expression_step levels.primary_step levels.reference_step levels.conjunction_step levels.comparison_step levels.condition_step levels.differ_step levels.mask_step levels.prim_step levels.sum_step levels.term_step levels.union_step x)
-      (h (subst IsTrue (fold-roll-RawCmp Bool Bool Bool Bool Bool Bool Bool Bool Bool Bool Bool Bool regular.expression_step regular.primary_step regular.reference_step regular.conjunction_step regular.comparison_step regular.condition_step regular.differ_step regular.mask_step regular.prim_step regular.sum_step regular.term_step regular.union_step x) regular_tree))
-
-  abbrev pub IsConditionRight : RawCond → Type 0
-  IsConditionRight x = IsTrue (regular.is_regular_condition x) → Test (judged.condition named x) (made.condition_made named numbers x) (uses.condition_uses x) (levels.condition_levels x)
-
-  abbrev pub IsConditionLayerRight : RawCond-F RawExpr RawPrimary RawRef RawCand RawCmp RawCond RawDiffer RawMask RawPrim RawSum RawTerm RawUnion → Type 0
-  IsConditionLayerRight x = IsTrue (condition_regular_layer named numbers x) → Test (condition_judged_layer named numbers x) (condition_made_layer named numbers x) (condition_uses_layer named numbers x) (condition_levels_layer named numbers x)
-
-  pub condition_rolls : (x : RawCond-F RawExpr RawPrimary RawRef RawCand RawCmp RawCond RawDiffer RawMask RawPrim RawSum RawTerm RawUnion) → IsConditionLayerRight x → IsConditionRight (roll-RawCond x)
-  condition_rolls x h regular_tree =
-      moved Cond Test (fold-roll-RawCond Judged Judged Judged Judged Judged Judged Judged Judged Judged Judged Judged Judged (judged.expression_step named) (judged.primary_step named) (judged.reference_step named) (judged.conjunction_step named) (judged.comparison_step named) (judged.condition_step named) (judged.differ_step named) (judged.mask_step named) (judged.prim_step named) (judged.sum_step named) (judged.term_step named) (judged.union_step named) x)
-      (fold-roll-RawCond Made Made Placed Cond Cond Cond Made Made Made Made Made Made (made.expression_step named numbers) (made.primary_step named numbers) (made.reference_step named numbers) (made.conjunction_step named numbers) (made.comparison_step named numbers) (made.condition_step named numbers) (made.differ_step named numbers) (made.mask_step named numbers) (made.prim_step named numbers) (made.sum_step named numbers) (made.term_step named numbers) (made.union_step named numbers) x)
-      (fold-roll-RawCond Uses Uses Uses Uses Uses Uses Uses Uses Uses Uses Uses Uses uses.expression_step uses.primary_step uses.reference_step uses.conjunction_step uses.comparison_step uses.condition_step uses.differ_step uses.mask_step uses.prim_step uses.sum_step uses.term_step uses.union_step x)
-      (fold-roll-RawCond ℕ ℕ ℕ ℕ ℕ ℕ ℕ ℕ ℕ ℕ ℕ ℕ levels.expression_step levels.primary_step levels.reference_step levels.conjunction_step levels.comparison_step levels.condition_step levels.differ_step levels.mask_step levels.prim_step levels.sum_step levels.term_step levels.union_step x)
-      (h (subst IsTrue (fold-roll-RawCond Bool Bool Bool Bool Bool Bool Bool Bool Bool Bool Bool Bool regular.expression_step regular.primary_step regular.reference_step regular.conjunction_step regular.comparison_step regular.condition_step regular.differ_step regular.mask_step regular.prim_step regular.sum_step regular.term_step regular.union_step x) regular_tree))
-
-  abbrev pub IsDifferRight : RawDiffer → Type 0
-  IsDifferRight x = IsTrue (regular.is_regular_differ x) → Value (judged.differ named x) (made.differ_made named numbers x) (uses.differ_uses x) (levels.differ_levels x)
-
-  abbrev pub IsDifferLayerRight : RawDiffer-F RawExpr RawPrimary RawRef RawCand RawCmp RawCond RawDiffer RawMask RawPrim RawSum RawTerm RawUnion → Type 0
-  IsDifferLayerRight x = IsTrue (differ_regular_layer named numbers x) → Value (differ_judged_layer named numbers x) (differ_made_layer named numbers x) (differ_uses_layer named numbers x) (differ_levels_layer named numbers x)
-
-  pub differ_rolls : (x : RawDiffer-F RawExpr RawPrimary RawRef RawCand RawCmp RawCond RawDiffer RawMask RawPrim RawSum RawTerm RawUnion) → IsDifferLayerRight x → IsDifferRight (roll-RawDiffer x)
-  differ_rolls x h regular_tree =
-      moved Made Value (fold-roll-RawDiffer Judged Judged Judged Judged Judged Judged Judged Judged Judged Judged Judged Judged (judged.expression_step named) (judged.primary_step named) (judged.reference_step named) (judged.conjunction_step named) (judged.comparison_step named) (judged.condition_step named) (judged.differ_step named) (judged.mask_step named) (judged.prim_step named) (judged.sum_step named) (judged.term_step named) (judged.union_step named) x)
-      (fold-roll-RawDiffer Made Made Placed Cond Cond Cond Made Made Made Made Made Made (made.expression_step named numbers) (made.primary_step named numbers) (made.reference_step named numbers) (made.conjunction_step named numbers) (made.comparison_step named numbers) (made.condition_step named numbers) (made.differ_step named numbers) (made.mask_step named numbers) (made.prim_step named numbers) (made.sum_step named numbers) (made.term_step named numbers) (made.union_step named numbers) x)
-      (fold-roll-RawDiffer Uses Uses Uses Uses Uses Uses Uses Uses Uses Uses Uses Uses uses.expression_step uses.primary_step uses.reference_step uses.conjunction_step uses.comparison_step uses.condition_step uses.differ_step uses.mask_step uses.prim_step uses.sum_step uses.term_step uses.union_step x)
-      (fold-roll-RawDiffer ℕ ℕ ℕ ℕ ℕ ℕ ℕ ℕ ℕ ℕ ℕ ℕ levels.expression_step levels.primary_step levels.reference_step levels.conjunction_step levels.comparison_step levels.condition_step levels.differ_step levels.mask_step levels.prim_step levels.sum_step levels.term_step levels.union_step x)
-      (h (subst IsTrue (fold-roll-RawDiffer Bool Bool Bool Bool Bool Bool Bool Bool Bool Bool Bool Bool regular.expression_step regular.primary_step regular.reference_step regular.conjunction_step regular.comparison_step regular.condition_step regular.differ_step regular.mask_step regular.prim_step regular.sum_step regular.term_step regular.union_step x) regular_tree))
-
-  abbrev pub IsMaskRight : RawMask → Type 0
-  IsMaskRight x = IsTrue (regular.is_regular_mask x) → Value (judged.mask named x) (made.mask_made named numbers x) (uses.mask_uses x) (levels.mask_levels x)
-
-  abbrev pub IsMaskLayerRight : RawMask-F RawExpr RawPrimary RawRef RawCand RawCmp RawCond RawDiffer RawMask RawPrim RawSum RawTerm RawUnion → Type 0
-  IsMaskLayerRight x = IsTrue (mask_regular_layer named numbers x) → Value (mask_judged_layer named numbers x) (mask_made_layer named numbers x) (mask_uses_layer named numbers x) (mask_levels_layer named numbers x)
-
-  pub mask_rolls : (x : RawMask-F RawExpr RawPrimary RawRef RawCand RawCmp RawCond RawDiffer RawMask RawPrim RawSum RawTerm RawUnion) → IsMaskLayerRight x → IsMaskRight (roll-RawMask x)
-  mask_rolls x h regular_tree =
-      moved Made Value (fold-roll-RawMask Judged Judged Judged Judged Judged Judged Judged Judged Judged Judged Judged Judged (judged.expression_step named) (judged.primary_step named) (judged.reference_step named) (judged.conjunction_step named) (judged.comparison_step named) (judged.condition_step named) (judged.differ_step named) (judged.mask_step named) (judged.prim_step named) (judged.sum_step named) (judged.term_step named) (judged.union_step named) x)
-      (fold-roll-RawMask Made Made Placed Cond Cond Cond Made Made Made Made Made Made (made.expression_step named numbers) (made.primary_step named numbers) (made.reference_step named numbers) (made.conjunction_step named numbers) (made.comparison_step named numbers) (made.condition_step named numbers) (made.differ_step named numbers) (made.mask_step named numbers) (made.prim_step named numbers) (made.sum_step named numbers) (made.term_step named numbers) (made.union_step named numbers) x)
-      (fold-roll-RawMask Uses Uses Uses Uses Uses Uses Uses Uses Uses Uses Uses Uses uses.expression_step uses.primary_step uses.reference_step uses.conjunction_step uses.comparison_step uses.condition_step uses.differ_step uses.mask_step uses.prim_step uses.sum_step uses.term_step uses.union_step x)
-      (fold-roll-RawMask ℕ ℕ ℕ ℕ ℕ ℕ ℕ ℕ ℕ ℕ ℕ ℕ levels.expression_step levels.primary_step levels.reference_step levels.conjunction_step levels.comparison_step levels.condition_step levels.differ_step levels.mask_step levels.prim_step levels.sum_step levels.term_step levels.union_step x)
-      (h (subst IsTrue (fold-roll-RawMask Bool Bool Bool Bool Bool Bool Bool Bool Bool Bool Bool Bool regular.expression_step regular.primary_step regular.reference_step regular.conjunction_step regular.comparison_step regular.condition_step regular.differ_step regular.mask_step regular.prim_step regular.sum_step regular.term_step regular.union_step x) regular_tree))
-
-  abbrev pub IsPrimRight : RawPrim → Type 0
-  IsPrimRight x = IsTrue (regular.is_regular_prim x) → Value (judged.prim named x) (made.prim_made named numbers x) (uses.prim_uses x) (levels.prim_levels x)
-
-  abbrev pub IsPrimLayerRight : RawPrim-F RawExpr RawPrimary RawRef RawCand RawCmp RawCond RawDiffer RawMask RawPrim RawSum RawTerm RawUnion → Type 0
-  IsPrimLayerRight x = IsTrue (prim_regular_layer named numbers x) → Value (prim_judged_layer named numbers x) (prim_made_layer named numbers x) (prim_uses_layer named numbers x) (prim_levels_layer named numbers x)
-
-  pub prim_rolls : (x : RawPrim-F RawExpr RawPrimary RawRef RawCand RawCmp RawCond RawDiffer RawMask RawPrim RawSum RawTerm RawUnion) → IsPrimLayerRight x → IsPrimRight (roll-RawPrim x)
-  prim_rolls x h regular_tree =
-      moved Made Value (fold-roll-RawPrim Judged Judged Judged Judged Judged Judged Judged Judged Judged Judged Judged Judged (judged.expression_step named) (judged.primary_step named) (judged.reference_step named) (judged.conjunction_step named) (judged.comparison_step named) (judged.condition_step named) (judged.differ_step named) (judged.mask_step named) (judged.prim_step named) (judged.sum_step named) (judged.term_step named) (judged.union_step named) x)
-      (fold-roll-RawPrim Made Made Placed Cond Cond Cond Made Made Made Made Made Made (made.expression_step named numbers) (made.primary_step named numbers) (made.reference_step named numbers) (made.conjunction_step named numbers) (made.comparison_step named numbers) (made.condition_step named numbers) (made.differ_step named numbers) (made.mask_step named numbers) (made.prim_step named numbers) (made.sum_step named numbers) (made.term_step named numbers) (made.union_step named numbers) x)
-      (fold-roll-RawPrim Uses Uses Uses Uses Uses Uses Uses Uses Uses Uses Uses Uses uses.expression_step uses.primary_step uses.reference_step uses.conjunction_step uses.comparison_step uses.condition_step uses.differ_step uses.mask_step uses.prim_step uses.sum_step uses.term_step uses.union_step x)
-      (fold-roll-RawPrim ℕ ℕ ℕ ℕ ℕ ℕ ℕ ℕ ℕ ℕ ℕ ℕ levels.expression_step levels.primary_step levels.reference_step levels.conjunction_step levels.comparison_step levels.condition_step levels.differ_step levels.mask_step levels.prim_step levels.sum_step levels.term_step levels.union_step x)
-      (h (subst IsTrue (fold-roll-RawPrim Bool Bool Bool Bool Bool Bool Bool Bool Bool Bool Bool Bool regular.expression_step regular.primary_step regular.reference_step regular.conjunction_step regular.comparison_step regular.condition_step regular.differ_step regular.mask_step regular.prim_step regular.sum_step regular.term_step regular.union_step x) regular_tree))
-
-  abbrev pub IsSumRight : RawSum → Type 0
-  IsSumRight x = IsTrue (regular.is_regular_sum x) → Value (judged.sum named x) (made.sum_made named numbers x) (uses.sum_uses x) (levels.sum_levels x)
-
-  abbrev pub IsSumLayerRight : RawSum-F RawExpr RawPrimary RawRef RawCand RawCmp RawCond RawDiffer RawMask RawPrim RawSum RawTerm RawUnion → Type 0
-  IsSumLayerRight x = IsTrue (sum_regular_layer named numbers x) → Value (sum_judged_layer named numbers x) (sum_made_layer named numbers x) (sum_uses_layer named numbers x) (sum_levels_layer named numbers x)
-
-  pub sum_rolls : (x : RawSum-F RawExpr RawPrimary RawRef RawCand RawCmp RawCond RawDiffer RawMask RawPrim RawSum RawTerm RawUnion) → IsSumLayerRight x → IsSumRight (roll-RawSum x)
-  sum_rolls x h regular_tree =
-      moved Made Value (fold-roll-RawSum Judged Judged Judged Judged Judged Judged Judged Judged Judged Judged Judged Judged (judged.expression_step named) (judged.primary_step named) (judged.reference_step named) (judged.conjunction_step named) (judged.comparison_step named) (judged.condition_step named) (judged.differ_step named) (judged.mask_step named) (judged.prim_step named) (judged.sum_step named) (judged.term_step named) (judged.union_step named) x)
-      (fold-roll-RawSum Made Made Placed Cond Cond Cond Made Made Made Made Made Made (made.expression_step named numbers) (made.primary_step named numbers) (made.reference_step named numbers) (made.conjunction_step named numbers) (made.comparison_step named numbers) (made.condition_step named numbers) (made.differ_step named numbers) (made.mask_step named numbers) (made.prim_step named numbers) (made.sum_step named numbers) (made.term_step named numbers) (made.union_step named numbers) x)
-      (fold-roll-RawSum Uses Uses Uses Uses Uses Uses Uses Uses Uses Uses Uses Uses uses.expression_step uses.primary_step uses.reference_step uses.conjunction_step uses.comparison_step uses.condition_step uses.differ_step uses.mask_step uses.prim_step uses.sum_step uses.term_step uses.union_step x)
-      (fold-roll-RawSum ℕ ℕ ℕ ℕ ℕ ℕ ℕ ℕ ℕ ℕ ℕ ℕ levels.expression_step levels.primary_step levels.reference_step levels.conjunction_step levels.comparison_step levels.condition_step levels.differ_step levels.mask_step levels.prim_step levels.sum_step levels.term_step levels.union_step x)
-      (h (subst IsTrue (fold-roll-RawSum Bool Bool Bool Bool Bool Bool Bool Bool Bool Bool Bool Bool regular.expression_step regular.primary_step regular.reference_step regular.conjunction_step regular.comparison_step regular.condition_step regular.differ_step regular.mask_step regular.prim_step regular.sum_step regular.term_step regular.union_step x) regular_tree))
-
-  abbrev pub IsTermRight : RawTerm → Type 0
-  IsTermRight x = IsTrue (regular.is_regular_term x) → Value (judged.term named x) (made.term_made named numbers x) (uses.term_uses x) (levels.term_levels x)
-
-  abbrev pub IsTermLayerRight : RawTerm-F RawExpr RawPrimary RawRef RawCand RawCmp RawCond RawDiffer RawMask RawPrim RawSum RawTerm RawUnion → Type 0
-  IsTermLayerRight x = IsTrue (term_regular_layer named numbers x) → Value (term_judged_layer named numbers x) (term_made_layer named numbers x) (term_uses_layer named numbers x) (term_levels_layer named numbers x)
-
-  pub term_rolls : (x : RawTerm-F RawExpr RawPrimary RawRef RawCand RawCmp RawCond RawDiffer RawMask RawPrim RawSum RawTerm RawUnion) → IsTermLayerRight x → IsTermRight (roll-RawTerm x)
-  term_rolls x h regular_tree =
-      moved Made Value (fold-roll-RawTerm Judged Judged Judged Judged Judged Judged Judged Judged Judged Judged Judged Judged (judged.expression_step named) (judged.primary_step named) (judged.reference_step named) (judged.conjunction_step named) (judged.comparison_step named) (judged.condition_step named) (judged.differ_step named) (judged.mask_step named) (judged.prim_step named) (judged.sum_step named) (judged.term_step named) (judged.union_step named) x)
-      (fold-roll-RawTerm Made Made Placed Cond Cond Cond Made Made Made Made Made Made (made.expression_step named numbers) (made.primary_step named numbers) (made.reference_step named numbers) (made.conjunction_step named numbers) (made.comparison_step named numbers) (made.condition_step named numbers) (made.differ_step named numbers) (made.mask_step named numbers) (made.prim_step named numbers) (made.sum_step named numbers) (made.term_step named numbers) (made.union_step named numbers) x)
-      (fold-roll-RawTerm Uses Uses Uses Uses Uses Uses Uses Uses Uses Uses Uses Uses uses.expression_step uses.primary_step uses.reference_step uses.conjunction_step uses.comparison_step uses.condition_step uses.differ_step uses.mask_step uses.prim_step uses.sum_step uses.term_step uses.union_step x)
-      (fold-roll-RawTerm ℕ ℕ ℕ ℕ ℕ ℕ ℕ ℕ ℕ ℕ ℕ ℕ levels.expression_step levels.primary_step levels.reference_step levels.conjunction_step levels.comparison_step levels.condition_step levels.differ_step levels.mask_step levels.prim_step levels.sum_step levels.term_step levels.union_step x)
-      (h (subst IsTrue (fold-roll-RawTerm Bool Bool Bool Bool Bool Bool Bool Bool Bool Bool Bool Bool regular.expression_step regular.primary_step regular.reference_step regular.conjunction_step regular.comparison_step regular.condition_step regular.differ_step regular.mask_step regular.prim_step regular.sum_step regular.term_step regular.union_step x) regular_tree))
-
-  abbrev pub IsUnionRight : RawUnion → Type 0
-  IsUnionRight x = IsTrue (regular.is_regular_union x) → Value (judged.union named x) (made.union_made named numbers x) (uses.union_uses x) (levels.union_levels x)
-
-  abbrev pub IsUnionLayerRight : RawUnion-F RawExpr RawPrimary RawRef RawCand RawCmp RawCond RawDiffer RawMask RawPrim RawSum RawTerm RawUnion → Type 0
-  IsUnionLayerRight x = IsTrue (union_regular_layer named numbers x) → Value (union_judged_layer named numbers x) (union_made_layer named numbers x) (union_uses_layer named numbers x) (union_levels_layer named numbers x)
-
-  pub union_rolls : (x : RawUnion-F RawExpr RawPrimary RawRef RawCand RawCmp RawCond RawDiffer RawMask RawPrim RawSum RawTerm RawUnion) → IsUnionLayerRight x → IsUnionRight (roll-RawUnion x)
-  union_rolls x h regular_tree =
-      moved Made Value (fold-roll-RawUnion Judged Judged Judged Judged Judged Judged Judged Judged Judged Judged Judged Judged (judged.expression_step named) (judged.primary_step named) (judged.reference_step named) (judged.conjunction_step named) (judged.comparison_step named) (judged.condition_step named) (judged.differ_step named) (judged.mask_step named) (judged.prim_step named) (judged.sum_step named) (judged.term_step named) (judged.union_step named) x)
-      (fold-roll-RawUnion Made Made Placed Cond Cond Cond Made Made Made Made Made Made (made.expression_step named numbers) (made.primary_step named numbers) (made.reference_step named numbers) (made.conjunction_step named numbers) (made.comparison_step named numbers) (made.condition_step named numbers) (made.differ_step named numbers) (made.mask_step named numbers) (made.prim_step named numbers) (made.sum_step named numbers) (made.term_step named numbers) (made.union_step named numbers) x)
-      (fold-roll-RawUnion Uses Uses Uses Uses Uses Uses Uses Uses Uses Uses Uses Uses uses.expression_step uses.primary_step uses.reference_step uses.conjunction_step uses.comparison_step uses.condition_step uses.differ_step uses.mask_step uses.prim_step uses.sum_step uses.term_step uses.union_step x)
-      (fold-roll-RawUnion ℕ ℕ ℕ ℕ ℕ ℕ ℕ ℕ ℕ ℕ ℕ ℕ levels.expression_step levels.primary_step levels.reference_step levels.conjunction_step levels.comparison_step levels.condition_step levels.differ_step levels.mask_step levels.prim_step levels.sum_step levels.term_step levels.union_step x)
-      (h (subst IsTrue (fold-roll-RawUnion Bool Bool Bool Bool Bool Bool Bool Bool Bool Bool Bool Bool regular.expression_step regular.primary_step regular.reference_step regular.conjunction_step regular.comparison_step regular.condition_step regular.differ_step regular.mask_step regular.prim_step regular.sum_step regular.term_step regular.union_step x) regular_tree))
+  abbrev pub union_values : RawUnion → Values Made
+  union_values x = record { judged = of_union (judged_pass named) x; made = of_union (made_steps named numbers) x; uses = of_union uses_pass x; levels = of_union levels_pass x; regular = of_union regular_pass x }
+
+  abbrev pub union_layer_values : UnionLayer → Values Made
+  union_layer_values y = record { judged = union_layered (judged_pass named) y; made = union_layered (made_steps named numbers) y; uses = union_layered uses_pass y; levels = union_layered levels_pass y; regular = union_layered regular_pass y }
+
+  union_alike : (y : UnionLayer) → union_values (roll-RawUnion y) ≡ union_layer_values y
+  union_alike y = alike (union_rolled (judged_pass named) y) (union_rolled (made_steps named numbers) y) (union_rolled uses_pass y) (union_rolled levels_pass y) (union_rolled regular_pass y)
+
+module _ (named : Named) (numbers : Numbers) (Value : Values Made → Type 0) (Test : Values Cond → Type 0) (Place : Values Placed → Type 0) where
+  abbrev pub known : Known
+  known = record {
+    Expr = λ x. Value (expr_values named numbers x);
+    Primary = λ x. Value (primary_values named numbers x);
+    Ref = λ x. Place (ref_values named numbers x);
+    Cand = λ x. Test (cand_values named numbers x);
+    Cmp = λ x. Test (cmp_values named numbers x);
+    Cond = λ x. Test (cond_values named numbers x);
+    Differ = λ x. Value (differ_values named numbers x);
+    Mask = λ x. Value (mask_values named numbers x);
+    Prim = λ x. Value (prim_values named numbers x);
+    Sum = λ x. Value (sum_values named numbers x);
+    Term = λ x. Value (term_values named numbers x);
+    Union = λ x. Value (union_values named numbers x);
+  }
+
+  module _ (expression : (y : ExprParts known) → Value (expr_layer_values named numbers (expr_layer known y))) (primary : (y : PrimaryParts known) → Value (primary_layer_values named numbers (primary_layer known y))) (reference : (y : RefParts known) → Place (ref_layer_values named numbers (ref_layer known y))) (conjunction : (y : CandParts known) → Test (cand_layer_values named numbers (cand_layer known y))) (comparison : (y : CmpParts known) → Test (cmp_layer_values named numbers (cmp_layer known y))) (condition : (y : CondParts known) → Test (cond_layer_values named numbers (cond_layer known y))) (differ : (y : DifferParts known) → Value (differ_layer_values named numbers (differ_layer known y))) (mask : (y : MaskParts known) → Value (mask_layer_values named numbers (mask_layer known y))) (prim : (y : PrimParts known) → Value (prim_layer_values named numbers (prim_layer known y))) (sum : (y : SumParts known) → Value (sum_layer_values named numbers (sum_layer known y))) (term : (y : TermParts known) → Value (term_layer_values named numbers (term_layer known y))) (union : (y : UnionParts known) → Value (union_layer_values named numbers (union_layer known y))) where
+    pub known_rules : Rules known
+    known_rules = record {
+      expr = λ y. subst Value (sym (expr_alike named numbers (expr_layer known y))) (expression y);
+      primary = λ y. subst Value (sym (primary_alike named numbers (primary_layer known y))) (primary y);
+      ref = λ y. subst Place (sym (ref_alike named numbers (ref_layer known y))) (reference y);
+      cand = λ y. subst Test (sym (cand_alike named numbers (cand_layer known y))) (conjunction y);
+      cmp = λ y. subst Test (sym (cmp_alike named numbers (cmp_layer known y))) (comparison y);
+      cond = λ y. subst Test (sym (cond_alike named numbers (cond_layer known y))) (condition y);
+      differ = λ y. subst Value (sym (differ_alike named numbers (differ_layer known y))) (differ y);
+      mask = λ y. subst Value (sym (mask_alike named numbers (mask_layer known y))) (mask y);
+      prim = λ y. subst Value (sym (prim_alike named numbers (prim_layer known y))) (prim y);
+      sum = λ y. subst Value (sym (sum_alike named numbers (sum_layer known y))) (sum y);
+      term = λ y. subst Value (sym (term_alike named numbers (term_layer known y))) (term y);
+      union = λ y. subst Value (sym (union_alike named numbers (union_layer known y))) (union y);
+    }

@@ -1,124 +1,41 @@
--- A pass over expressions that makes a value of each: what it makes of a first layer.
-use Rattle.std.proofs.Common.{◌≡◌}
-use Rattle.cw_tree.specs.declared.expression.RawExpr.{RawExpr, RawExpr-F, roll-RawExpr, map-RawExpr, fold-RawExpr, fold-roll-RawExpr}
-use Rattle.cw_tree.specs.declared.expression.RawPrimary.{RawPrimary, roll-RawPrimary, map-RawPrimary, fold-RawPrimary, fold-roll-RawPrimary}
-use Rattle.cw_tree.specs.declared.expression.RawRef.{RawRef, roll-RawRef, map-RawRef, fold-RawRef, fold-roll-RawRef}
-use Rattle.cw_tree.specs.declared.expression.RawCand.{RawCand, roll-RawCand, map-RawCand, fold-RawCand, fold-roll-RawCand}
-use Rattle.cw_tree.specs.declared.expression.RawCmp.{RawCmp, roll-RawCmp, map-RawCmp, fold-RawCmp, fold-roll-RawCmp}
-use Rattle.cw_tree.specs.declared.expression.RawCond.{RawCond, roll-RawCond, map-RawCond, fold-RawCond, fold-roll-RawCond}
-use Rattle.cw_tree.specs.declared.expression.RawDiffer.{RawDiffer, roll-RawDiffer, map-RawDiffer, fold-RawDiffer, fold-roll-RawDiffer}
-use Rattle.cw_tree.specs.declared.expression.RawMask.{RawMask, roll-RawMask, map-RawMask, fold-RawMask, fold-roll-RawMask}
-use Rattle.cw_tree.specs.declared.expression.RawPrim.{RawPrim, roll-RawPrim, map-RawPrim, fold-RawPrim, fold-roll-RawPrim}
-use Rattle.cw_tree.specs.declared.expression.RawSum.{RawSum, roll-RawSum, map-RawSum, fold-RawSum, fold-roll-RawSum}
-use Rattle.cw_tree.specs.declared.expression.RawTerm.{RawTerm, roll-RawTerm, map-RawTerm, fold-RawTerm, fold-roll-RawTerm}
-use Rattle.cw_tree.specs.declared.expression.RawUnion.{RawUnion, roll-RawUnion, map-RawUnion, fold-RawUnion, fold-roll-RawUnion}
-use Rattle.cw_tree.specs.declared.expression.RawExpr.TheOpen.{RawPrimary-F, RawRef-F, RawCand-F, RawCmp-F, RawCond-F, RawDiffer-F, RawMask-F, RawPrim-F, RawSum-F, RawTerm-F, RawUnion-F}
-use Rattle.cw_derived.proofs.Layers.{ExprLayer, PrimaryLayer, RefLayer, CandLayer, CmpLayer, CondLayer, DifferLayer, MaskLayer, PrimLayer, SumLayer, TermLayer, UnionLayer}
+-- What holds of what two folds make of each tree, where it holds of what they make of its layer.
+use Rattle.std.proofs.Common.{sym, subst₂}
+use Rattle.cw_tree.proofs.Expressions.{of_expression, of_primary, of_reference, of_conjunction, of_comparison, of_condition, of_differ, of_mask, of_prim, of_sum, of_term, of_union}
+use Rattle.cw_sound.proofs.Expressions.Schema.{Known, ExprParts, PrimaryParts, RefParts, CandParts, CmpParts, CondParts, DifferParts, MaskParts, PrimParts, SumParts, TermParts, UnionParts, expr_layer, primary_layer, ref_layer, cand_layer, cmp_layer, cond_layer, differ_layer, mask_layer, prim_layer, sum_layer, term_layer, union_layer, Rules}
+use Rattle.cw_tokens.proofs.Passes.{Pass, expr_layered, primary_layered, ref_layered, cand_layered, cmp_layered, cond_layered, differ_layered, mask_layered, prim_layered, sum_layered, term_layered, union_layered, expr_rolled, primary_rolled, ref_rolled, cand_rolled, cmp_rolled, cond_rolled, differ_rolled, mask_rolled, prim_rolled, sum_rolled, term_rolled, union_rolled}
 
-pub record Pass (A : Type 0) : Type 0 where
-  pub expr : RawExpr-F A A A A A A A A A A A A → A
-  pub primary : RawPrimary-F A A A A A A A A A A A A → A
-  pub ref : RawRef-F A A A A A A A A A A A A → A
-  pub cand : RawCand-F A A A A A A A A A A A A → A
-  pub cmp : RawCmp-F A A A A A A A A A A A A → A
-  pub cond : RawCond-F A A A A A A A A A A A A → A
-  pub differ : RawDiffer-F A A A A A A A A A A A A → A
-  pub mask : RawMask-F A A A A A A A A A A A A → A
-  pub prim : RawPrim-F A A A A A A A A A A A A → A
-  pub sum : RawSum-F A A A A A A A A A A A A → A
-  pub term : RawTerm-F A A A A A A A A A A A A → A
-  pub union : RawUnion-F A A A A A A A A A A A A → A
-
--- a value of each tree
-pub record Whole (A : Type 0) : Type 0 where
-  pub expr : RawExpr → A
-  pub primary : RawPrimary → A
-  pub ref : RawRef → A
-  pub cand : RawCand → A
-  pub cmp : RawCmp → A
-  pub cond : RawCond → A
-  pub differ : RawDiffer → A
-  pub mask : RawMask → A
-  pub prim : RawPrim → A
-  pub sum : RawSum → A
-  pub term : RawTerm → A
-  pub union : RawUnion → A
-
--- a value of each layer
-pub record Layered (A : Type 0) : Type 0 where
-  pub expr : ExprLayer → A
-  pub primary : PrimaryLayer → A
-  pub ref : RefLayer → A
-  pub cand : CandLayer → A
-  pub cmp : CmpLayer → A
-  pub cond : CondLayer → A
-  pub differ : DifferLayer → A
-  pub mask : MaskLayer → A
-  pub prim : PrimLayer → A
-  pub sum : SumLayer → A
-  pub term : TermLayer → A
-  pub union : UnionLayer → A
-
--- the value of a tree is that of its layer
-pub record Rolls {A : Type 0} (whole : Whole A) (layered : Layered A) : Type 0 where
-  pub expr : (y : ExprLayer) → whole.expr (roll-RawExpr y) ≡ layered.expr y
-  pub primary : (y : PrimaryLayer) → whole.primary (roll-RawPrimary y) ≡ layered.primary y
-  pub ref : (y : RefLayer) → whole.ref (roll-RawRef y) ≡ layered.ref y
-  pub cand : (y : CandLayer) → whole.cand (roll-RawCand y) ≡ layered.cand y
-  pub cmp : (y : CmpLayer) → whole.cmp (roll-RawCmp y) ≡ layered.cmp y
-  pub cond : (y : CondLayer) → whole.cond (roll-RawCond y) ≡ layered.cond y
-  pub differ : (y : DifferLayer) → whole.differ (roll-RawDiffer y) ≡ layered.differ y
-  pub mask : (y : MaskLayer) → whole.mask (roll-RawMask y) ≡ layered.mask y
-  pub prim : (y : PrimLayer) → whole.prim (roll-RawPrim y) ≡ layered.prim y
-  pub sum : (y : SumLayer) → whole.sum (roll-RawSum y) ≡ layered.sum y
-  pub term : (y : TermLayer) → whole.term (roll-RawTerm y) ≡ layered.term y
-  pub union : (y : UnionLayer) → whole.union (roll-RawUnion y) ≡ layered.union y
-
-module _ {A : Type 0} (pass : Pass A) where
-  abbrev pub whole : Whole A
-  whole = record {
-    expr = fold-RawExpr A A A A A A A A A A A A pass.expr pass.primary pass.ref pass.cand pass.cmp pass.cond pass.differ pass.mask pass.prim pass.sum pass.term pass.union;
-    primary = fold-RawPrimary A A A A A A A A A A A A pass.expr pass.primary pass.ref pass.cand pass.cmp pass.cond pass.differ pass.mask pass.prim pass.sum pass.term pass.union;
-    ref = fold-RawRef A A A A A A A A A A A A pass.expr pass.primary pass.ref pass.cand pass.cmp pass.cond pass.differ pass.mask pass.prim pass.sum pass.term pass.union;
-    cand = fold-RawCand A A A A A A A A A A A A pass.expr pass.primary pass.ref pass.cand pass.cmp pass.cond pass.differ pass.mask pass.prim pass.sum pass.term pass.union;
-    cmp = fold-RawCmp A A A A A A A A A A A A pass.expr pass.primary pass.ref pass.cand pass.cmp pass.cond pass.differ pass.mask pass.prim pass.sum pass.term pass.union;
-    cond = fold-RawCond A A A A A A A A A A A A pass.expr pass.primary pass.ref pass.cand pass.cmp pass.cond pass.differ pass.mask pass.prim pass.sum pass.term pass.union;
-    differ = fold-RawDiffer A A A A A A A A A A A A pass.expr pass.primary pass.ref pass.cand pass.cmp pass.cond pass.differ pass.mask pass.prim pass.sum pass.term pass.union;
-    mask = fold-RawMask A A A A A A A A A A A A pass.expr pass.primary pass.ref pass.cand pass.cmp pass.cond pass.differ pass.mask pass.prim pass.sum pass.term pass.union;
-    prim = fold-RawPrim A A A A A A A A A A A A pass.expr pass.primary pass.ref pass.cand pass.cmp pass.cond pass.differ pass.mask pass.prim pass.sum pass.term pass.union;
-    sum = fold-RawSum A A A A A A A A A A A A pass.expr pass.primary pass.ref pass.cand pass.cmp pass.cond pass.differ pass.mask pass.prim pass.sum pass.term pass.union;
-    term = fold-RawTerm A A A A A A A A A A A A pass.expr pass.primary pass.ref pass.cand pass.cmp pass.cond pass.differ pass.mask pass.prim pass.sum pass.term pass.union;
-    union = fold-RawUnion A A A A A A A A A A A A pass.expr pass.primary pass.ref pass.cand pass.cmp pass.cond pass.differ pass.mask pass.prim pass.sum pass.term pass.union;
+module _ {A B : Type 0} (first : Pass A) (second : Pass B) (R : A → B → Type 0) where
+  -- that what both make of a tree is so related
+  abbrev pub related : Known
+  related = record {
+    Expr = λ x. R (of_expression first x) (of_expression second x);
+    Primary = λ x. R (of_primary first x) (of_primary second x);
+    Ref = λ x. R (of_reference first x) (of_reference second x);
+    Cand = λ x. R (of_conjunction first x) (of_conjunction second x);
+    Cmp = λ x. R (of_comparison first x) (of_comparison second x);
+    Cond = λ x. R (of_condition first x) (of_condition second x);
+    Differ = λ x. R (of_differ first x) (of_differ second x);
+    Mask = λ x. R (of_mask first x) (of_mask second x);
+    Prim = λ x. R (of_prim first x) (of_prim second x);
+    Sum = λ x. R (of_sum first x) (of_sum second x);
+    Term = λ x. R (of_term first x) (of_term second x);
+    Union = λ x. R (of_union first x) (of_union second x);
   }
 
-  abbrev pub layered : Layered A
-  layered = record {
-    expr = λ y. pass.expr (map-RawExpr RawExpr RawPrimary RawRef RawCand RawCmp RawCond RawDiffer RawMask RawPrim RawSum RawTerm RawUnion A A A A A A A A A A A A whole.expr whole.primary whole.ref whole.cand whole.cmp whole.cond whole.differ whole.mask whole.prim whole.sum whole.term whole.union y);
-    primary = λ y. pass.primary (map-RawPrimary RawExpr RawPrimary RawRef RawCand RawCmp RawCond RawDiffer RawMask RawPrim RawSum RawTerm RawUnion A A A A A A A A A A A A whole.expr whole.primary whole.ref whole.cand whole.cmp whole.cond whole.differ whole.mask whole.prim whole.sum whole.term whole.union y);
-    ref = λ y. pass.ref (map-RawRef RawExpr RawPrimary RawRef RawCand RawCmp RawCond RawDiffer RawMask RawPrim RawSum RawTerm RawUnion A A A A A A A A A A A A whole.expr whole.primary whole.ref whole.cand whole.cmp whole.cond whole.differ whole.mask whole.prim whole.sum whole.term whole.union y);
-    cand = λ y. pass.cand (map-RawCand RawExpr RawPrimary RawRef RawCand RawCmp RawCond RawDiffer RawMask RawPrim RawSum RawTerm RawUnion A A A A A A A A A A A A whole.expr whole.primary whole.ref whole.cand whole.cmp whole.cond whole.differ whole.mask whole.prim whole.sum whole.term whole.union y);
-    cmp = λ y. pass.cmp (map-RawCmp RawExpr RawPrimary RawRef RawCand RawCmp RawCond RawDiffer RawMask RawPrim RawSum RawTerm RawUnion A A A A A A A A A A A A whole.expr whole.primary whole.ref whole.cand whole.cmp whole.cond whole.differ whole.mask whole.prim whole.sum whole.term whole.union y);
-    cond = λ y. pass.cond (map-RawCond RawExpr RawPrimary RawRef RawCand RawCmp RawCond RawDiffer RawMask RawPrim RawSum RawTerm RawUnion A A A A A A A A A A A A whole.expr whole.primary whole.ref whole.cand whole.cmp whole.cond whole.differ whole.mask whole.prim whole.sum whole.term whole.union y);
-    differ = λ y. pass.differ (map-RawDiffer RawExpr RawPrimary RawRef RawCand RawCmp RawCond RawDiffer RawMask RawPrim RawSum RawTerm RawUnion A A A A A A A A A A A A whole.expr whole.primary whole.ref whole.cand whole.cmp whole.cond whole.differ whole.mask whole.prim whole.sum whole.term whole.union y);
-    mask = λ y. pass.mask (map-RawMask RawExpr RawPrimary RawRef RawCand RawCmp RawCond RawDiffer RawMask RawPrim RawSum RawTerm RawUnion A A A A A A A A A A A A whole.expr whole.primary whole.ref whole.cand whole.cmp whole.cond whole.differ whole.mask whole.prim whole.sum whole.term whole.union y);
-    prim = λ y. pass.prim (map-RawPrim RawExpr RawPrimary RawRef RawCand RawCmp RawCond RawDiffer RawMask RawPrim RawSum RawTerm RawUnion A A A A A A A A A A A A whole.expr whole.primary whole.ref whole.cand whole.cmp whole.cond whole.differ whole.mask whole.prim whole.sum whole.term whole.union y);
-    sum = λ y. pass.sum (map-RawSum RawExpr RawPrimary RawRef RawCand RawCmp RawCond RawDiffer RawMask RawPrim RawSum RawTerm RawUnion A A A A A A A A A A A A whole.expr whole.primary whole.ref whole.cand whole.cmp whole.cond whole.differ whole.mask whole.prim whole.sum whole.term whole.union y);
-    term = λ y. pass.term (map-RawTerm RawExpr RawPrimary RawRef RawCand RawCmp RawCond RawDiffer RawMask RawPrim RawSum RawTerm RawUnion A A A A A A A A A A A A whole.expr whole.primary whole.ref whole.cand whole.cmp whole.cond whole.differ whole.mask whole.prim whole.sum whole.term whole.union y);
-    union = λ y. pass.union (map-RawUnion RawExpr RawPrimary RawRef RawCand RawCmp RawCond RawDiffer RawMask RawPrim RawSum RawTerm RawUnion A A A A A A A A A A A A whole.expr whole.primary whole.ref whole.cand whole.cmp whole.cond whole.differ whole.mask whole.prim whole.sum whole.term whole.union y);
-  }
-
-  pub rolls : Rolls whole layered
-  rolls = record {
-    expr = fold-roll-RawExpr A A A A A A A A A A A A pass.expr pass.primary pass.ref pass.cand pass.cmp pass.cond pass.differ pass.mask pass.prim pass.sum pass.term pass.union;
-    primary = fold-roll-RawPrimary A A A A A A A A A A A A pass.expr pass.primary pass.ref pass.cand pass.cmp pass.cond pass.differ pass.mask pass.prim pass.sum pass.term pass.union;
-    ref = fold-roll-RawRef A A A A A A A A A A A A pass.expr pass.primary pass.ref pass.cand pass.cmp pass.cond pass.differ pass.mask pass.prim pass.sum pass.term pass.union;
-    cand = fold-roll-RawCand A A A A A A A A A A A A pass.expr pass.primary pass.ref pass.cand pass.cmp pass.cond pass.differ pass.mask pass.prim pass.sum pass.term pass.union;
-    cmp = fold-roll-RawCmp A A A A A A A A A A A A pass.expr pass.primary pass.ref pass.cand pass.cmp pass.cond pass.differ pass.mask pass.prim pass.sum pass.term pass.union;
-    cond = fold-roll-RawCond A A A A A A A A A A A A pass.expr pass.primary pass.ref pass.cand pass.cmp pass.cond pass.differ pass.mask pass.prim pass.sum pass.term pass.union;
-    differ = fold-roll-RawDiffer A A A A A A A A A A A A pass.expr pass.primary pass.ref pass.cand pass.cmp pass.cond pass.differ pass.mask pass.prim pass.sum pass.term pass.union;
-    mask = fold-roll-RawMask A A A A A A A A A A A A pass.expr pass.primary pass.ref pass.cand pass.cmp pass.cond pass.differ pass.mask pass.prim pass.sum pass.term pass.union;
-    prim = fold-roll-RawPrim A A A A A A A A A A A A pass.expr pass.primary pass.ref pass.cand pass.cmp pass.cond pass.differ pass.mask pass.prim pass.sum pass.term pass.union;
-    sum = fold-roll-RawSum A A A A A A A A A A A A pass.expr pass.primary pass.ref pass.cand pass.cmp pass.cond pass.differ pass.mask pass.prim pass.sum pass.term pass.union;
-    term = fold-roll-RawTerm A A A A A A A A A A A A pass.expr pass.primary pass.ref pass.cand pass.cmp pass.cond pass.differ pass.mask pass.prim pass.sum pass.term pass.union;
-    union = fold-roll-RawUnion A A A A A A A A A A A A pass.expr pass.primary pass.ref pass.cand pass.cmp pass.cond pass.differ pass.mask pass.prim pass.sum pass.term pass.union;
-  }
+  -- it is, where it is so of each layer of such trees
+  module _ (expression : (y : ExprParts related) → R (expr_layered first (expr_layer related y)) (expr_layered second (expr_layer related y))) (primary : (y : PrimaryParts related) → R (primary_layered first (primary_layer related y)) (primary_layered second (primary_layer related y))) (reference : (y : RefParts related) → R (ref_layered first (ref_layer related y)) (ref_layered second (ref_layer related y))) (conjunction : (y : CandParts related) → R (cand_layered first (cand_layer related y)) (cand_layered second (cand_layer related y))) (comparison : (y : CmpParts related) → R (cmp_layered first (cmp_layer related y)) (cmp_layered second (cmp_layer related y))) (condition : (y : CondParts related) → R (cond_layered first (cond_layer related y)) (cond_layered second (cond_layer related y))) (differ : (y : DifferParts related) → R (differ_layered first (differ_layer related y)) (differ_layered second (differ_layer related y))) (mask : (y : MaskParts related) → R (mask_layered first (mask_layer related y)) (mask_layered second (mask_layer related y))) (prim : (y : PrimParts related) → R (prim_layered first (prim_layer related y)) (prim_layered second (prim_layer related y))) (sum : (y : SumParts related) → R (sum_layered first (sum_layer related y)) (sum_layered second (sum_layer related y))) (term : (y : TermParts related) → R (term_layered first (term_layer related y)) (term_layered second (term_layer related y))) (union : (y : UnionParts related) → R (union_layered first (union_layer related y)) (union_layered second (union_layer related y))) where
+    pub related_rules : Rules related
+    related_rules = record {
+      expr = λ y. subst₂ R (sym (expr_rolled first (expr_layer related y))) (sym (expr_rolled second (expr_layer related y))) (expression y);
+      primary = λ y. subst₂ R (sym (primary_rolled first (primary_layer related y))) (sym (primary_rolled second (primary_layer related y))) (primary y);
+      ref = λ y. subst₂ R (sym (ref_rolled first (ref_layer related y))) (sym (ref_rolled second (ref_layer related y))) (reference y);
+      cand = λ y. subst₂ R (sym (cand_rolled first (cand_layer related y))) (sym (cand_rolled second (cand_layer related y))) (conjunction y);
+      cmp = λ y. subst₂ R (sym (cmp_rolled first (cmp_layer related y))) (sym (cmp_rolled second (cmp_layer related y))) (comparison y);
+      cond = λ y. subst₂ R (sym (cond_rolled first (cond_layer related y))) (sym (cond_rolled second (cond_layer related y))) (condition y);
+      differ = λ y. subst₂ R (sym (differ_rolled first (differ_layer related y))) (sym (differ_rolled second (differ_layer related y))) (differ y);
+      mask = λ y. subst₂ R (sym (mask_rolled first (mask_layer related y))) (sym (mask_rolled second (mask_layer related y))) (mask y);
+      prim = λ y. subst₂ R (sym (prim_rolled first (prim_layer related y))) (sym (prim_rolled second (prim_layer related y))) (prim y);
+      sum = λ y. subst₂ R (sym (sum_rolled first (sum_layer related y))) (sym (sum_rolled second (sum_layer related y))) (sum y);
+      term = λ y. subst₂ R (sym (term_rolled first (term_layer related y))) (sym (term_rolled second (term_layer related y))) (term y);
+      union = λ y. subst₂ R (sym (union_rolled first (union_layer related y))) (sym (union_rolled second (union_layer related y))) (union y);
+    }

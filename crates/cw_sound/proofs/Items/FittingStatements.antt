@@ -33,34 +33,18 @@ use Rattle.cw_sound.proofs.Statements.Keeping.{all_keep, elements_keep, declarat
 use Rattle.cw_sound.proofs.Expressions.Judging.{Keeps, keeps_fine, keeps_both, both_free}
 use Rattle.cw_sound.proofs.Items.Keeping.{keeps_declared}
 use Rattle.cw_sound.proofs.Statements.Layers.{Known, WithDecl, WithStmt, DeclParts, FormParts, SimpleParts, BlockParts, ProcParts, StmtParts, decl_layer, form_layer, simple_layer, block_layer, proc_layer, stmt_layer, Rules, each_block}
-use Rattle.cw_sound.proofs.Statements.Passes.{layered, rolls}
+use Rattle.cw_sound.proofs.Statements.Passes.{whole, layered, rolls, LayersKnown, related, related_layers, related_rolls, rules_of}
 use Rattle.cw_sound.proofs.Statements.Folds.{things_pass, rows_pass, judged_pass}
-use Rattle.cw_sound.proofs.Items.Lists.{moved_three}
 
 module _ (named : Named) (sites : List (Row Site)) where
   abbrev pub Parts : Things → Rows → Judgement → Type 0
   Parts ts rows j = (o : Option Owner) → j None ≡ None → RowsFit (ts o) rows
 
-  abbrev RawDeclFits : RawDecl → Type 0
-  RawDeclFits x = Parts (declaration_things named x) (declaration_rows x) (declaration_judged named sites x)
-
-  abbrev RawFormFits : RawForm → Type 0
-  RawFormFits x = Parts (form_things named x) (form_rows x) (form_judged named sites x)
-
-  abbrev RawSimpleFits : RawSimple → Type 0
-  RawSimpleFits x = Parts (simple_things named x) (simple_rows x) (simple_judged named sites x)
-
-  abbrev RawBlockFits : RawBlock → Type 0
-  RawBlockFits x = Parts (block_things named x) (block_rows x) (block_judged named sites x)
-
-  abbrev RawProcFits : RawProc → Type 0
-  RawProcFits x = Parts (procedure_things named x) (procedure_rows x) (procedure_judged named sites x)
-
-  abbrev RawStmtFits : RawStmt → Type 0
-  RawStmtFits x = Parts (statement_things named x) (statement_rows x) (statement_judged named sites x)
-
   abbrev known : Known
-  known = record { Decl = RawDeclFits; Form = RawFormFits; Simple = RawSimpleFits; Block = RawBlockFits; Proc = RawProcFits; Stmt = RawStmtFits }
+  known = related Parts Parts (whole (things_pass named)) (whole rows_pass) (whole (judged_pass named sites))
+
+  abbrev layers_fit : LayersKnown
+  layers_fit = related_layers Parts Parts (layered (things_pass named)) (layered rows_pass) (layered (judged_pass named sites))
 
   two : (ts ss : Things) (rs qs : Rows) (j k : Judgement) → Keeps k → Parts ts rs j → Parts ss qs k → Parts (λ o. ts o ++ ss o) (rs ++ qs) (both j k)
   two ts ss rs qs j k keeps h g o free =
@@ -97,13 +81,13 @@ module _ (named : Named) (sites : List (Row Site)) where
   abbrev nothing : Things
   nothing o = []
 
-  declaration-fits : (y : DeclParts known) → Parts ((layered (things_pass named)).decl (decl_layer known y)) ((layered rows_pass).decl (decl_layer known y)) ((layered (judged_pass named sites)).decl (decl_layer known y))
+  declaration-fits : (y : DeclParts known) → layers_fit.Decl (decl_layer known y)
   declaration-fits (layer.Data d) o free = declared-fits sites o None d free
   declaration-fits (layer.Overlay at b d) o free = overlay-fits o b d free
   declaration-fits (layer.Switch at n labels) o free = tt
   declaration-fits (layer.Proc p) o free = p.1 o free
 
-  form-fits : (y : FormParts known) → Parts ((layered (things_pass named)).form (form_layer known y)) ((layered rows_pass).form (form_layer known y)) ((layered (judged_pass named sites)).form (form_layer known y))
+  form-fits : (y : FormParts known) → layers_fit.Form (form_layer known y)
   form-fits (layer.Simple x) o free = x.1 o free
   form-fits (layer.If at test labels first None) o free =
       two (λ o. texts o (condition_uses test reading.Value)) (λ o. simple_things named first.0 o ++ nothing o) (condition_rows test) (simple_rows first.0 ++ []) (condition_judged named test) (both (simple_judged named sites first.0) fine)
@@ -122,7 +106,7 @@ module _ (named : Named) (sites : List (Row Site)) where
       (fit-both (texts o (reference_uses variable reading.Whole)) (felems_things elems o ++ statement_things named body.0 o) (reference_rows variable) (felems_rows elems ++ statement_rows body.0) (reference_fits variable o reading.Whole)
       (fit-both (felems_things elems o) (statement_things named body.0 o) (felems_rows elems) (statement_rows body.0) (felems-fit elems o) (body.1 o last.1)))
 
-  simple-fits : (y : SimpleParts known) → Parts ((layered (things_pass named)).simple (simple_layer known y)) ((layered rows_pass).simple (simple_layer known y)) ((layered (judged_pass named sites)).simple (simple_layer known y))
+  simple-fits : (y : SimpleParts known) → layers_fit.Simple (simple_layer known y)
   simple-fits layer.Empty o free = tt
   simple-fits (layer.Assign r e) o free = fit-texts o (reference_uses r reading.Target) (expression_uses e reading.Value) (reference_rows r) (expression_rows e) (reference_fits r o reading.Target) (expression_fits e o reading.Value)
   simple-fits (layer.AssignBits bits r e) o free = fit-texts o (reference_uses r reading.Whole) (expression_uses e reading.Value) (reference_rows r) (expression_rows e) (reference_fits r o reading.Whole) (expression_fits e o reading.Value)
@@ -132,31 +116,26 @@ module _ (named : Named) (sites : List (Row Site)) where
   simple-fits (layer.Answer at e) o free = expression_fits e o reading.Value
   simple-fits (layer.Block b) o free = b.1 o free
 
-  block-fits : (y : BlockParts known) → Parts ((layered (things_pass named)).block (block_layer known y)) ((layered rows_pass).block (block_layer known y)) ((layered (judged_pass named sites)).block (block_layer known y))
+  block-fits : (y : BlockParts known) → layers_fit.Block (block_layer known y)
   block-fits b =
       let ds = map (λ e. e.0) b.decls in
       let ss = map (λ e. e.0) b.stmts in
       two (joined_things (map (declaration_things named) ds)) (joined_things (map (statement_things named) ss)) (joined (map declaration_rows ds)) (joined (map statement_rows ss))
       (all_judged (map (declaration_judged named sites) ds)) (all_judged (map (statement_judged named sites) ss)) (all_keep (statement_judged named sites) (statement_keeps named sites) ss) (declarations-fit b.decls) (statements-fit b.stmts)
 
-  procedure-fits : (y : ProcParts known) → Parts ((layered (things_pass named)).proc (proc_layer known y)) ((layered rows_pass).proc (proc_layer known y)) ((layered (judged_pass named sites)).proc (proc_layer known y))
+  procedure-fits : (y : ProcParts known) → layers_fit.Proc (proc_layer known y)
   procedure-fits p o free =
       let v : Owner = record { token = p.name.at.token; recursive = is_recursive p.tag } in
       fit-behind (parameters_things (Some v) p.params) (statement_things named p.body.0 (Some v)) (statement_rows p.body.0)
       (p.body.1 (Some v) (both_free (heading_judged named p.answer p.name p.params) (statement_judged named sites p.body.0) (statement_keeps named sites p.body.0) free).1)
 
-  statement-fits : (y : StmtParts known) → Parts ((layered (things_pass named)).stmt (stmt_layer known y)) ((layered rows_pass).stmt (stmt_layer known y)) ((layered (judged_pass named sites)).stmt (stmt_layer known y))
+  statement-fits : (y : StmtParts known) → layers_fit.Stmt (stmt_layer known y)
   statement-fits x o free = x.form.1 o free
 
   rules : Rules known
-  rules = record {
-    decl = λ y. moved_three Parts ((rolls (things_pass named)).decl (decl_layer known y)) ((rolls rows_pass).decl (decl_layer known y)) ((rolls (judged_pass named sites)).decl (decl_layer known y)) (declaration-fits y);
-    form = λ y. moved_three Parts ((rolls (things_pass named)).form (form_layer known y)) ((rolls rows_pass).form (form_layer known y)) ((rolls (judged_pass named sites)).form (form_layer known y)) (form-fits y);
-    simple = λ y. moved_three Parts ((rolls (things_pass named)).simple (simple_layer known y)) ((rolls rows_pass).simple (simple_layer known y)) ((rolls (judged_pass named sites)).simple (simple_layer known y)) (simple-fits y);
-    block = λ y. moved_three Parts ((rolls (things_pass named)).block (block_layer known y)) ((rolls rows_pass).block (block_layer known y)) ((rolls (judged_pass named sites)).block (block_layer known y)) (block-fits y);
-    proc = λ y. moved_three Parts ((rolls (things_pass named)).proc (proc_layer known y)) ((rolls rows_pass).proc (proc_layer known y)) ((rolls (judged_pass named sites)).proc (proc_layer known y)) (procedure-fits y);
-    stmt = λ y. moved_three Parts ((rolls (things_pass named)).stmt (stmt_layer known y)) ((rolls rows_pass).stmt (stmt_layer known y)) ((rolls (judged_pass named sites)).stmt (stmt_layer known y)) (statement-fits y);
-  }
+  rules =
+      rules_of (related_rolls Parts Parts (rolls (things_pass named)) (rolls rows_pass) (rolls (judged_pass named sites)))
+      (record { decl = declaration-fits; form = form-fits; simple = simple-fits; block = block-fits; proc = procedure-fits; stmt = statement-fits })
 
   pub block_fits : (x : RawBlock) → Parts (block_things named x) (block_rows x) (block_judged named sites x)
   block_fits = each_block known rules

@@ -87,19 +87,12 @@ module _ (named : Named) (sites : List (Row Site)) (all : List Thing) where
   texts-based : (facts fs : List Fact) (j : Judgement) → Parts facts (λ o. texts o fs) j
   texts-based facts fs j env o s seen free all_in = texts-baseless all o fs
 
-  declarations-based : (xs : List (WithDecl known)) → Parts (joined (map declaration_facts (map (λ e. e.0) xs))) (joined_things (map (declaration_things named) (map (λ e. e.0) xs))) (all_judged (map (declaration_judged named sites) (map (λ e. e.0) xs)))
-  declarations-based [] env o s seen free all_in = tt
-  declarations-based (x ∷ xs) env o s seen free all_in =
-      two (declaration_facts x.0) (joined (map declaration_facts (map (λ e. e.0) xs))) (declaration_things named x.0) (joined_things (map (declaration_things named) (map (λ e. e.0) xs)))
-      (declaration_judged named sites x.0) (all_judged (map (declaration_judged named sites) (map (λ e. e.0) xs)))
-      (all_keep (declaration_judged named sites) (declaration_keeps named sites) (map (λ e. e.0) xs)) x.1 (declarations-based xs) env o s seen free all_in
-
-  statements-based : (xs : List (WithStmt known)) → Parts (joined (map statement_facts (map (λ e. e.0) xs))) (joined_things (map (statement_things named) (map (λ e. e.0) xs))) (all_judged (map (statement_judged named sites) (map (λ e. e.0) xs)))
-  statements-based [] env o s seen free all_in = tt
-  statements-based (x ∷ xs) env o s seen free all_in =
-      two (statement_facts x.0) (joined (map statement_facts (map (λ e. e.0) xs))) (statement_things named x.0) (joined_things (map (statement_things named) (map (λ e. e.0) xs)))
-      (statement_judged named sites x.0) (all_judged (map (statement_judged named sites) (map (λ e. e.0) xs)))
-      (all_keep (statement_judged named sites) (statement_keeps named sites) (map (λ e. e.0) xs)) x.1 (statements-based xs) env o s seen free all_in
+  all-based : {X : Type 0} (facts : X → List Fact) (things : X → Things) (judged : X → Judgement) (keeps : (x : X) → Keeps (judged x)) (xs : List ((x : X) × Parts (facts x) (things x) (judged x)))
+      → Parts (joined (map facts (map (λ e. e.0) xs))) (joined_things (map things (map (λ e. e.0) xs))) (all_judged (map judged (map (λ e. e.0) xs)))
+  all-based facts things judged keeps [] env o s seen free all_in = tt
+  all-based facts things judged keeps (x ∷ xs) env o s seen free all_in =
+      two (facts x.0) (joined (map facts (map (λ e. e.0) xs))) (things x.0) (joined_things (map things (map (λ e. e.0) xs))) (judged x.0) (all_judged (map judged (map (λ e. e.0) xs)))
+      (all_keep judged keeps (map (λ e. e.0) xs)) x.1 (all-based facts things judged keeps xs) env o s seen free all_in
 
   enclosed-based : (b : Bool) (facts : List Fact) (ts : Things) (j : Judgement) → ((o : Option Owner) → Stores (λ x. Unit {0}) [] o facts (ts o)) → Parts facts ts j → Parts (enclosed b facts) ts j
   enclosed-based true facts ts j stores h env o s seen free all_in =
@@ -162,7 +155,7 @@ module _ (named : Named) (sites : List (Row Site)) (all : List Thing) where
       (inner-stores (λ x. Unit {0}) [] named ds ss)
       (two (joined (map declaration_facts ds)) (joined (map statement_facts ss)) (joined_things (map (declaration_things named) ds)) (joined_things (map (statement_things named) ss))
       (all_judged (map (declaration_judged named sites) ds)) (all_judged (map (statement_judged named sites) ss))
-      (all_keep (statement_judged named sites) (statement_keeps named sites) ss) (declarations-based b.decls) (statements-based b.stmts))
+      (all_keep (statement_judged named sites) (statement_keeps named sites) ss) (all-based {X = RawDecl} declaration_facts (declaration_things named) (declaration_judged named sites) (declaration_keeps named sites) b.decls) (all-based {X = RawStmt} statement_facts (statement_things named) (statement_judged named sites) (statement_keeps named sites) b.stmts))
 
   procedure-based : (y : ProcParts known) → Parts ((layered facts_pass).proc (proc_layer known y)) ((layered (things_pass named)).proc (proc_layer known y)) ((layered (judged_pass named sites)).proc (proc_layer known y))
   procedure-based p env o s seen free all_in =

@@ -13,6 +13,7 @@ use Rattle.cw_sound.specs.Items.Derived.{IsRising, fact_tokens, facts_tokens, to
 use Rattle.cw_sound.proofs.Items.Lists.{In, from-in, not-below, Within, nothing, with, none-within, within-append}
 use Rattle.cw_sound.proofs.Items.Numbering.{found-here, found-later}
 use Rattle.cw_macro.specs.Premises.{Each}
+use Rattle.cw_sound.proofs.Names.FactFolds.{RelatedLayer, each_related}
 
 abbrev pub row_tokens : {T : Type 0} → List (Row T) → List ℕ
 row_tokens rs = map (λ r. r.token) rs
@@ -38,7 +39,7 @@ use-row : (o : Option Declaration) (u : Use) → Within (row_tokens (resolutions
 use-row None u = none-within (u.name.at.token ∷ [])
 use-row (Some d) u = with nothing
 
-layer-rows : (y : Fact-F ((f : Fact) × FactRows f)) → RowsOf (said_step (map-Fact Fact Said said (map-Fact ((f : Fact) × FactRows f) Fact (λ e. e.0) y))) (tokens_step (map-Fact Fact (List ℕ) fact_tokens (map-Fact ((f : Fact) × FactRows f) Fact (λ e. e.0) y)))
+layer-rows : (y : Fact-F ((f : Fact) × FactRows f)) → RelatedLayer said_step tokens_step RowsOf (map-Fact ((f : Fact) × FactRows f) Fact (λ e. e.0) y)
 layer-rows (layer.Declares d) env = none-within (declared_token d.kind d.name.at.token)
 layer-rows (layer.Uses u) env = use-row (declaration_of env u.name.name) u
 layer-rows (layer.Specifies token s) env = nothing
@@ -47,10 +48,7 @@ layer-rows (layer.Text at n) env = none-within (at.token ∷ [])
 layer-rows (layer.Block owner es) env = all-rows es (within env (map said (map (λ e. e.0) es)))
 
 fact-rows : (f : Fact) → FactRows f
-fact-rows = ind-Fact FactRows (λ x y is.
-    subst (λ s. RowsOf s (fact_tokens (roll-Fact x))) (sym (fold-roll-Fact Said said_step x))
-    (subst (λ ts. RowsOf (said_step (map-Fact Fact Said said x)) ts) (sym (fold-roll-Fact (List ℕ) tokens_step x))
-    (subst (λ z. RowsOf (said_step (map-Fact Fact Said said z)) (tokens_step (map-Fact Fact (List ℕ) fact_tokens z))) is (layer-rows y))))
+fact-rows = each_related said_step tokens_step RowsOf layer-rows
 
 pub facts-rows : (facts : List Fact) (env : Environment) → Within (row_tokens (all_resolved env (map said facts))) (facts_tokens facts)
 facts-rows [] env = nothing

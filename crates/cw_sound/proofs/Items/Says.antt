@@ -103,9 +103,6 @@ says-each k (n ∷ ns) h = says-both (declares n k ∷ []) (each_declares k ns) 
 
 -- ---- the rows of declarations
 
-abbrev HasRow : Declaration → Fact → Said → Type 0
-HasRow d f s = In d s.declared → In (record { token = d.name.at.token; item = d }) (fact_declarations f)
-
 row-in-layer : (d : Declaration) (y : Fact-F Fact) → In d (said_step (map-Fact Fact Said said y)).declared → In (record { token = d.name.at.token; item = d }) (declarations_step (map-Fact Fact (List (Row Declaration)) fact_declarations y))
 row-in-layer d (layer.Declares c) (inl e) = inl (ap (λ (x : Declaration). record { token = x.name.at.token; item = x }) e)
 row-in-layer d (layer.Declares c) (inr i) = absurd i

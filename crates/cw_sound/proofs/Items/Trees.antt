@@ -25,7 +25,8 @@ use Rattle.cw_make_items.specs.Lookup.{Numbers}
 use Rattle.cw_sound.specs.Items.Bodies.{Stored}
 use Rattle.cw_sound.proofs.Items.Lists.{each-append, moved_two}
 use Rattle.cw_sound.proofs.Items.Leaf.{IsLeaf}
-use Rattle.cw_sound.proofs.Items.Leaves.{expression_leaves, condition_leaves, reference_leaves, argument_leaves}
+use Rattle.cw_sound.proofs.Expressions.Facts.{expression_facts, condition_facts, reference_facts, argument_facts}
+use Rattle.cw_sound.proofs.Items.Leaves.{Leaves, leaves}
 use Rattle.cw_sound.proofs.Items.Stores.{Stores, stores-both, stores-none, stores-other, stores-others, stores-use, stores-uses, stores-specification, stores-loop, stores-block, stores-procedure, stores-data, stores-overlay, stores-parameters, stores-answer, stores-texts}
 use Rattle.cw_macro.specs.Premises.{Each}
 use Rattle.cw_sound.proofs.Statements.Layers.{Known, WithDecl, WithStmt, DeclParts, FormParts, SimpleParts, BlockParts, ProcParts, StmtParts, decl_layer, form_layer, simple_layer, block_layer, proc_layer, stmt_layer, Rules, each_decl, each_block, each_stmt}
@@ -71,11 +72,11 @@ module _ (H : Stored → Type 0) (numbers : Numbers) (named : Named) where
   two-texts a b h k o = stores-texts H numbers o (a ++ b) (each-append IsLeaf a b h k)
 
   felem-stores : (e : RawFelem) → Parts (felem_facts e) (felem_things e)
-  felem-stores (felem.One e) o = stores-texts H numbers o (expression_uses e reading.Value) (expression_leaves e reading.Value)
-  felem-stores (felem.While e c) o = two-texts (expression_uses e reading.Value) (condition_uses c reading.Value) (expression_leaves e reading.Value) (condition_leaves c reading.Value) o
+  felem-stores (felem.One e) o = stores-texts H numbers o (expression_uses e reading.Value) (expression_facts Leaves leaves e reading.Value)
+  felem-stores (felem.While e c) o = two-texts (expression_uses e reading.Value) (condition_uses c reading.Value) (expression_facts Leaves leaves e reading.Value) (condition_facts Leaves leaves c reading.Value) o
   felem-stores (felem.Step a b c) o =
-      two-texts (expression_uses a reading.Value) (expression_uses b reading.Value ++ expression_uses c reading.Value) (expression_leaves a reading.Value)
-      (each-append IsLeaf (expression_uses b reading.Value) (expression_uses c reading.Value) (expression_leaves b reading.Value) (expression_leaves c reading.Value)) o
+      two-texts (expression_uses a reading.Value) (expression_uses b reading.Value ++ expression_uses c reading.Value) (expression_facts Leaves leaves a reading.Value)
+      (each-append IsLeaf (expression_uses b reading.Value) (expression_uses c reading.Value) (expression_facts Leaves leaves b reading.Value) (expression_facts Leaves leaves c reading.Value)) o
 
   felems-store : (es : List RawFelem) → Parts (felems_facts es) (felems_things es)
   felems-store [] o = stores-none H numbers o
@@ -95,32 +96,32 @@ module _ (H : Stored → Type 0) (numbers : Numbers) (named : Named) where
   form-stores (layer.Simple s) o = s.1 o
   form-stores (layer.If at test labels first None) o =
       stores-both H numbers o (condition_uses test reading.Value) (each_declares kind.Label labels ++ (simple_facts first.0 ++ [])) (texts o (condition_uses test reading.Value)) (simple_things named first.0 o ++ [])
-      (stores-texts H numbers o (condition_uses test reading.Value) (condition_leaves test reading.Value))
+      (stores-texts H numbers o (condition_uses test reading.Value) (condition_facts Leaves leaves test reading.Value))
       (stores-both H numbers o (each_declares kind.Label labels) (simple_facts first.0 ++ []) [] (simple_things named first.0 o ++ []) (stores-others H numbers o kind.Label labels ((λ who token. tt), refl))
       (stores-both H numbers o (simple_facts first.0) [] (simple_things named first.0 o) [] (first.1 o) (stores-none H numbers o)))
   form-stores (layer.If at test labels first (Some s)) o =
       stores-both H numbers o (condition_uses test reading.Value) (each_declares kind.Label labels ++ (simple_facts first.0 ++ statement_facts s.0)) (texts o (condition_uses test reading.Value)) (simple_things named first.0 o ++ statement_things named s.0 o)
-      (stores-texts H numbers o (condition_uses test reading.Value) (condition_leaves test reading.Value))
+      (stores-texts H numbers o (condition_uses test reading.Value) (condition_facts Leaves leaves test reading.Value))
       (stores-both H numbers o (each_declares kind.Label labels) (simple_facts first.0 ++ statement_facts s.0) [] (simple_things named first.0 o ++ statement_things named s.0 o) (stores-others H numbers o kind.Label labels ((λ who token. tt), refl))
       (stores-both H numbers o (simple_facts first.0) (statement_facts s.0) (simple_things named first.0 o) (statement_things named s.0 o) (first.1 o) (s.1 o)))
   form-stores (layer.For at variable elems body) o =
       stores-both H numbers o (fact.Loop at ∷ []) (reference_uses variable reading.Whole ++ (felems_facts elems ++ statement_facts body.0)) (thing sort.Loop at o None 4 ∷ []) (texts o (reference_uses variable reading.Whole) ++ (felems_things elems o ++ statement_things named body.0 o))
       (stores-loop H numbers o at)
       (stores-both H numbers o (reference_uses variable reading.Whole) (felems_facts elems ++ statement_facts body.0) (texts o (reference_uses variable reading.Whole)) (felems_things elems o ++ statement_things named body.0 o)
-      (stores-texts H numbers o (reference_uses variable reading.Whole) (reference_leaves variable reading.Whole))
+      (stores-texts H numbers o (reference_uses variable reading.Whole) (reference_facts Leaves leaves variable reading.Whole))
       (stores-both H numbers o (felems_facts elems) (statement_facts body.0) (felems_things elems o) (statement_things named body.0 o) (felems-store elems o) (body.1 o)))
 
   simple-stores : (y : SimpleParts known) → Parts ((layered facts_pass).simple (simple_layer known y)) ((layered (things_pass named)).simple (simple_layer known y))
   simple-stores layer.Empty o = stores-none H numbers o
-  simple-stores (layer.Assign r e) o = two-texts (reference_uses r reading.Target) (expression_uses e reading.Value) (reference_leaves r reading.Target) (expression_leaves e reading.Value) o
-  simple-stores (layer.AssignBits bits r e) o = two-texts (reference_uses r reading.Whole) (expression_uses e reading.Value) (reference_leaves r reading.Whole) (expression_leaves e reading.Value) o
+  simple-stores (layer.Assign r e) o = two-texts (reference_uses r reading.Target) (expression_uses e reading.Value) (reference_facts Leaves leaves r reading.Target) (expression_facts Leaves leaves e reading.Value) o
+  simple-stores (layer.AssignBits bits r e) o = two-texts (reference_uses r reading.Whole) (expression_uses e reading.Value) (reference_facts Leaves leaves r reading.Whole) (expression_facts Leaves leaves e reading.Value) o
   simple-stores (layer.Goto at n) o = stores-use H numbers o n form.Goto
   simple-stores (layer.GotoSwitch at n e) o =
-      stores-both H numbers o (uses_of n form.GotoSwitch) (expression_uses e reading.Value) [] (texts o (expression_uses e reading.Value)) (stores-use H numbers o n form.GotoSwitch) (stores-texts H numbers o (expression_uses e reading.Value) (expression_leaves e reading.Value))
-  simple-stores (layer.Call n es) o = stores-both H numbers o (uses_of n form.Call) (argument_uses es) [] (texts o (argument_uses es)) (stores-use H numbers o n form.Call) (stores-texts H numbers o (argument_uses es) (argument_leaves es))
+      stores-both H numbers o (uses_of n form.GotoSwitch) (expression_uses e reading.Value) [] (texts o (expression_uses e reading.Value)) (stores-use H numbers o n form.GotoSwitch) (stores-texts H numbers o (expression_uses e reading.Value) (expression_facts Leaves leaves e reading.Value))
+  simple-stores (layer.Call n es) o = stores-both H numbers o (uses_of n form.Call) (argument_uses es) [] (texts o (argument_uses es)) (stores-use H numbers o n form.Call) (stores-texts H numbers o (argument_uses es) (argument_facts Leaves leaves es))
   simple-stores (layer.Answer at e) o =
       stores-both H numbers o (uses_of (answer_name at) form.Answer) (expression_uses e reading.Value) [] (texts o (expression_uses e reading.Value)) (stores-use H numbers o (answer_name at) form.Answer)
-      (stores-texts H numbers o (expression_uses e reading.Value) (expression_leaves e reading.Value))
+      (stores-texts H numbers o (expression_uses e reading.Value) (expression_facts Leaves leaves e reading.Value))
   simple-stores (layer.Block b) o = b.1 false o
 
   block-stores : (y : BlockParts known) (outermost : Bool) → Parts ((layered facts_pass).block (block_layer known y) outermost) ((layered (things_pass named)).block (block_layer known y))

@@ -33,13 +33,10 @@ use Rattle.cw_sound.proofs.Names.PartKinds.{is_data, data_say, uses_say, answers
 
 -- ---- what declares no label
 
-data_kind : (k : NameKind) → IsTrue (is_data k) → is_own_label k ≡ false
-data_kind kind.Label h = absurd (cc)
-data_kind _ h = refl
-
-parameter_kind : (k : NameKind) → IsTrue (is_parameter k) → is_own_label k ≡ false
-parameter_kind kind.Label h = absurd (cc)
-parameter_kind _ h = refl
+-- a label is neither data nor a parameter
+neither : (k : NameKind) → (IsTrue (is_data k) → is_own_label k ≡ false) × (IsTrue (is_parameter k) → is_own_label k ≡ false)
+neither kind.Label = (λ h. absurd (cc), λ h. absurd (cc))
+neither _ = (λ h. refl, λ h. refl)
 
 abbrev labels_in : List Here → List Here
 labels_in = pick (of_kind is_own_label)
@@ -83,7 +80,7 @@ module _ (named : Named) (numbers : Numbers) where
   plain {fs} h = none fs (λ q m i. plain_not is_own_label m.mention (h.mentions q m i).1)
 
   pub items : (d : RawData) → Counted (data_facts d) 0 []
-  items d = none (data_facts d) (λ q m i. data_not is_own_label data_kind m.mention (data_say numbers d q m i).1)
+  items d = none (data_facts d) (λ q m i. data_not is_own_label (λ k. (neither k).0) m.mention (data_say numbers d q m i).1)
 
   count-append : (fs gs : List Fact) (q : Option ℕ) → count (fs ++ gs) q ≡ count fs q + count gs q
   count-append fs gs q =
@@ -126,8 +123,8 @@ module _ (named : Named) (numbers : Numbers) where
         let ys = params named numbers p fs q in
         let zs = body named numbers p fs q in
         let shaped = ap (λ ms. length (labels_in ms)) (shape named numbers p fs q) in
-        let none_first = none_picked (of_kind is_own_label) xs (λ m i. parameter_not is_own_label parameter_kind m.mention (answer_says numbers (out-RawProc p).answer (within_it named numbers p fs q) m i).1) in
-        let none_second = none_picked (of_kind is_own_label) ys (λ m i. parameter_not is_own_label parameter_kind m.mention (parameters_say numbers (out-RawProc p).params (within_it named numbers p fs q) m i).1) in
+        let none_first = none_picked (of_kind is_own_label) xs (λ m i. parameter_not is_own_label (λ k. (neither k).1) m.mention (answer_says numbers (out-RawProc p).answer (within_it named numbers p fs q) m i).1) in
+        let none_second = none_picked (of_kind is_own_label) ys (λ m i. parameter_not is_own_label (λ k. (neither k).1) m.mention (parameters_say numbers (out-RawProc p).params (within_it named numbers p fs q) m i).1) in
         let inner : labels_in (xs ++ (ys ++ zs)) ≡ labels_in zs =
         pick_append (of_kind is_own_label) xs (ys ++ zs) ∙ ap₂ (λ a b. a ++ b) none_first (pick_append (of_kind is_own_label) ys zs ∙ ap (λ a. a ++ labels_in zs) none_second) in
         let within = a.in_body (within_it named numbers p fs q) in

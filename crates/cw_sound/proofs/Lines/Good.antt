@@ -11,7 +11,7 @@ use Rattle.cw_macro.specs.Premises.{Each}
 use Rattle.cw_sound.specs.Ready.Lined.{is_numbered, PositionsFit}
 use Rattle.cw_sound.proofs.Lines.Layers.{has_lines}
 use Rattle.cw_sound.proofs.Kept as kept
-use Rattle.cw_sound.proofs.Kept.{Ask, nothing, holds}
+use Rattle.cw_sound.proofs.Kept.{Ask, nothing, holds, AsItIs}
 
 -- a token that has a line, and a number that the tree can hold
 pub record Placed (t : Item) : Type 0 where
@@ -40,20 +40,17 @@ Of k t = Placed t
 abbrev Opened : (s : Sort) → Rule s → Item → Value s → Type 0
 Opened s r t x = Placed t × Good s x
 
-abbrev Behind : (s : Sort) → Grammar s → Value s → Type 0 → Type 0
-Behind s g x T = T
-
 abbrev pub Given : {s : Sort} → Grammar s → Value s → Type 0
-Given g x = kept.Given asked Of Opened Behind g x
+Given g x = kept.Given asked Of Opened AsItIs g x
 
 abbrev pub Keeps : {s : Sort} → Grammar s → Type 0
-Keeps g = kept.Keeps asked Of Opened Behind g
+Keeps g = kept.Keeps asked Of Opened AsItIs g
 
 pub given_good : {s : Sort} (g : Grammar s) (x : Value s) → Given g x → Good s x
-given_good g x h = kept.given_good asked Of Opened Behind (λ s r t x h. h.1) g x h
+given_good g x h = kept.given_good asked Of Opened AsItIs (λ s r t x h. h.1) g x h
 
 -- where each rule keeps it
 module _ (rules : (s : Sort) (r : Rule s) → Keeps (rule r)) (agains : (s : Sort) (a : Again s) → Keeps (again_rule a)) where
   pub good : {n : ℕ} {s : Sort} {g : Grammar s} {u : List Item} {x : Value s} → Derives n s g u x → Each Placed u → Keeps g → Good s x
   good {g = g} {x = x} d b q =
-      kept.good asked Of Opened Behind (λ s r t x h. h.1) Placed (λ n. Unit {0}) (λ n l. tt) (λ k t e h. h) (λ n s r t u x l d h k. (h, k)) (λ n s g u x T d i. i) rules agains d tt b q
+      kept.good asked Of Opened AsItIs (λ s r t x h. h.1) Placed (λ n. Unit {0}) (λ n l. tt) (λ k t e h. h) (λ n s r t u x l d h k. (h, k)) (λ n s g u x T d i. i) rules agains d tt b q

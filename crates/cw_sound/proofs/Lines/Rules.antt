@@ -103,8 +103,7 @@ pub again_keeps : {s : Sort} (a : Again s) → Keeps (again_rule a)
 unfolding again_rule
 again_keeps (labelled p) = stmt_keeps p
 again_keeps (labelled_simple p) = simple_keeps p
-again_keeps more_elems = tt
-again_keeps places = tt
+again_keeps _ = tt
 
 pub text_keeps : Keeps text
 unfolding text

@@ -47,8 +47,10 @@ use Rattle.cw_macro.specs.Premises.{Each}
 use Rattle.cw_macro.proofs.Lists.{each_append}
 use Rattle.cw_sound.specs.Ready.Lined as lined
 use Rattle.cw_sound.specs.Ready.Lined.{is_numbered, PositionsFit}
+use Rattle.cw_tree.proofs.Statements.{of_simple}
+use Rattle.cw_sound.proofs.Statements.Folds.{lined_pass}
 use Rattle.cw_sound.proofs.Lines.Layers.{BodyLined, HasLines, statement_opened, has_lines, rolled}
-use Rattle.cw_sound.proofs.Kept.{OfOption}
+use Rattle.cw_tokens.proofs.Kept.{OfOption}
 
 -- ---- references
 
@@ -110,14 +112,14 @@ if_lined at c ls s None h k l =
     subst has_lines.Form (form_tree.rolls-If at c ls s None)
     (rolled.form (layer.If at c ls s None)
     (record {
-      right = both (is_numbered at) (lined.is_lined_simple s && true) h (both (lined.is_lined_simple s) true k.right refl);
+      right = both (is_numbered at) (of_simple lined_pass s && true) h (both (of_simple lined_pass s) true k.right refl);
       inner = each_append BodyLined (bodies.simple_bodies s) [] k.inner tt;
     }))
 if_lined at c ls s (Some x) h k l =
     subst has_lines.Form (form_tree.rolls-If at c ls s (Some x))
     (rolled.form (layer.If at c ls s (Some x))
     (record {
-      right = both (is_numbered at) (lined.is_lined_simple s && lined.is_lined_statement x) h (both (lined.is_lined_simple s) (lined.is_lined_statement x) k.right l.right);
+      right = both (is_numbered at) (of_simple lined_pass s && lined.is_lined_statement x) h (both (of_simple lined_pass s) (lined.is_lined_statement x) k.right l.right);
       inner = each_append BodyLined (bodies.simple_bodies s) (bodies.statement_bodies x) k.inner l.inner;
     }))
 

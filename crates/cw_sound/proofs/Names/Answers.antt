@@ -22,7 +22,8 @@ use Rattle.cw_sound.proofs.Names.Rows.{mentions_append}
 use Rattle.cw_sound.proofs.Names.Sorts.{of_kind}
 use Rattle.cw_sound.proofs.Names.Parts as part
 use Rattle.cw_sound.proofs.Names.Parts.{Part, is_plain}
-use Rattle.cw_sound.proofs.Names.MentionsOf.{Says, says_nothing, says_both, says_declared, says_each, says_elements, declared_first, specified_first, block_alone}
+use Rattle.cw_sound.proofs.Names.MentionsOf.{Says, declared_first, block_alone}
+use Rattle.cw_sound.proofs.Names.InProcedure.{is_taken, all_say}
 use Rattle.cw_sound.proofs.Names.PartKinds.{IsData, is_data, data_say, uses_say, shape, answers, params, body, first_mention, within_it}
 
 -- the procedure of an answer, which is declared in the same part
@@ -67,6 +68,10 @@ other numbers ms q (stores token n) e = tt
 data_kind : (k : NameKind) → IsTrue (is_data k) → is_answer k ≡ false
 data_kind (kind.Answer t) h = absurd (cc)
 data_kind _ h = refl
+
+taken_kind : (k : NameKind) → IsTrue (is_taken k) → is_answer k ≡ false
+taken_kind (kind.Answer t) h = absurd (cc)
+taken_kind _ h = refl
 
 data_so : (m : Mention) → IsData m → of_kind is_answer m ≡ false
 data_so (declared d) h = data_kind d.kind h
@@ -115,19 +120,8 @@ module _ (named : Named) (numbers : Numbers) where
   abbrev NoAnswer : Mention → Type 0
   NoAnswer m = of_kind is_answer m ≡ false
 
-  one_says : (p : RawParam) → Says numbers NoAnswer (parameter_facts p)
-  one_says (raw.Value at t ns) = says_each numbers NoAnswer (kind.Value t) ns (λ n. refl)
-  one_says (raw.Location at t ns) = says_each numbers NoAnswer (kind.Location t) ns (λ n. refl)
-  one_says (raw.Array t ns) = says_each numbers NoAnswer (kind.ArrayParam t) ns (λ n. refl)
-  one_says (raw.Table t) = says_declared numbers NoAnswer t.name (kind.TableParam t.size) (elements_facts t.name t.elems) refl (says_elements numbers NoAnswer t.name t.elems (λ n e. refl))
-  one_says (raw.Label at ns) = says_each numbers NoAnswer kind.LabelParam ns (λ n. refl)
-  one_says (raw.Switch at ns) = says_each numbers NoAnswer kind.SwitchParam ns (λ n. refl)
-  one_says (raw.Proc answer at n ps) =
-      says_declared numbers NoAnswer n (kind.ProcParam answer) (specifies n.at.token answer (plain ps) ∷ []) refl (λ q m i. absurd (subst (In m) (specified_first numbers n.at.token answer (plain ps) [] q) i))
-
   params_say : (ps : List RawParam) → Says numbers NoAnswer (parameters_facts ps)
-  params_say [] = says_nothing numbers NoAnswer
-  params_say (p ∷ ps) = says_both numbers NoAnswer (parameter_facts p) (parameters_facts ps) (one_says p) (params_say ps)
+  params_say = all_say numbers NoAnswer (λ n k. taken_kind k)
 
   pub part_owned : {fs : List Fact} {ws : Option ℕ → List Switch} {ps : List Proc} {s : ℕ → Bool} → Part named numbers fs ws ps s → (q : Option ℕ) → AllOwned (facts_mentions numbers fs q)
   part_owned part.empty q = λ m i. absurd i

@@ -35,7 +35,7 @@ use Rattle.cw_number.specs.declared.numbered.Numbered.{Numbered}
 use Rattle.cw_number.specs.declared.numbered.Numbered.TheVariants as numbered
 use Rattle.cw_number.specs.Listed.{listed_of}
 use Rattle.cw_number.specs.Numbers.{item_rows, listed_rows, declared_rows, none_counted, built_in_number, own_number, begin_of, numbers_of}
-use Rattle.cw_make_expr.specs.Parts.{target_of}
+use Rattle.cw_make_expr.specs.Parts.{target_of, number_of}
 use Rattle.cw_make_items.specs.Lookup.{Numbers}
 use Rattle.cw_make_items.specs.Descriptors.{descs_of}
 use Rattle.cw_unit.specs.declared.unit.Unit.{Unit as SourceUnit}
@@ -43,7 +43,7 @@ use Rattle.cw_unit.specs.declared.descriptor.Desc.{Desc}
 use Rattle.cw_unit.specs.Scales.{answer_scale}
 use Rattle.cw_safety.specs.Kinds.{WordKind}
 use Rattle.cw_sound.specs.Uses.Mentions.{In, Here, here, declares as declared, facts_mentions, listed_mentions, text_mentions}
-use Rattle.cw_sound.specs.Uses.Stands.{StandsAs, kind_specified}
+use Rattle.cw_sound.specs.Uses.Stands.{StandsAs, Called, IsReader, IsWriter, kind_specified}
 use Rattle.cw_sound.specs.Names.Placed.{Placed, tokens, Each, Differ}
 use Rattle.cw_sound.specs.Names.Found.{Refers}
 use Rattle.cw_sound.specs.Names.Standing.{is_other, is_built_in, StandsIn, StandsFrom, Stand, ItemsStand}
@@ -228,33 +228,31 @@ module _ (named : Named) (numbers : Numbers) (u : SourceUnit) (resolves : Resolv
         subst (λ o. IsTrue (fits_built_in_if d.kind o)) (found named.signatures (record { token = d.name.at.token; item = s }) sigs_differ j)
         (is_fitting named numbers (text_things named named.raw.now) resolves placed owner d h i)
 
-    reads : d.kind ≡ kind.ReadByte → SpecialTold numbers named.signatures d.name → (who : Option ℕ) (n : RawName) → Refers named n d → StandsAs named numbers u who kind.ReadByte n
-    reads e t who n r =
-        let fit = subst (λ k. IsTrue (fits_built_in k (record { answer = t.0; params = t.1 }))) e (fits_here (record { answer = t.0; params = t.1 }) t.2) in
-        let p = and_parts (answers_integer t.0) (takes_nothing t.1) fit in
-        let number = number_here named numbers u n d r ∙ number_is numbered.ReadByte (ap built_in_number e) (ap is_other e) in (
+    -- a built-in procedure that is told as its kind wants it
+    called : (k : NameKind) (number : Numbered) (who : Option ℕ) (Is : List RawPs → Option Numbered → Type 0) → d.kind ≡ k → built_in_number k ≡ Some number → IsTrue (is_other k) → (t : SpecialTold numbers named.signatures d.name) (n : RawName) → Refers named n d
+        → (IsTrue (fits_built_in k (record { answer = t.0; params = t.1 })) → (number_of named numbers n ≡ Some number → Is t.1 (number_of named numbers n)) × (answer_scale u (target_of (kind_of named n) (Some number)) ≡ answer_fraction t.0))
+        → (answer : Option RawType) × Called named numbers u who n answer Is
+    called k number who Is e numbered_so other t n r so =
+        let fit = so (subst (λ z. IsTrue (fits_built_in z (record { answer = t.0; params = t.1 }))) e (fits_here (record { answer = t.0; params = t.1 }) t.2)) in
+        let is_number = number_here named numbers u n d r ∙ number_is number (ap built_in_number e ∙ numbered_so) (ap is_other e ∙ other) in (
           t.0,
           record {
             params = t.1;
             signature = signature_here named numbers u n d (record { answer = t.0; params = t.1 }) sigs_differ r t.2;
-            is = (no_params t.1 p.1, number);
-            scale = ap (λ o. answer_scale u (target_of (kind_of named n) o)) number ∙ sym (integer_answer t.0 p.0);
+            is = fit.0 is_number;
+            scale = ap (λ o. answer_scale u (target_of (kind_of named n) o)) is_number ∙ fit.1;
           },
         )
 
+    reads : d.kind ≡ kind.ReadByte → SpecialTold numbers named.signatures d.name → (who : Option ℕ) (n : RawName) → Refers named n d → StandsAs named numbers u who kind.ReadByte n
+    reads e t who n r =
+        called kind.ReadByte numbered.ReadByte who (IsReader named numbers u who) e refl refl t n r
+        (λ fit. let p = and_parts (answers_integer t.0) (takes_nothing t.1) fit in (λ is. (no_params t.1 p.1, is), sym (integer_answer t.0 p.0)))
+
     writes : d.kind ≡ kind.WriteByte → SpecialTold numbers named.signatures d.name → (who : Option ℕ) (n : RawName) → Refers named n d → StandsAs named numbers u who kind.WriteByte n
     writes e t who n r =
-        let fit = subst (λ k. IsTrue (fits_built_in k (record { answer = t.0; params = t.1 }))) e (fits_here (record { answer = t.0; params = t.1 }) t.2) in
-        let p = and_parts (answers_nothing t.0) (takes_integer t.1) fit in
-        let number = number_here named numbers u n d r ∙ number_is numbered.WriteByte (ap built_in_number e) (ap is_other e) in (
-          t.0,
-          record {
-            params = t.1;
-            signature = signature_here named numbers u n d (record { answer = t.0; params = t.1 }) sigs_differ r t.2;
-            is = (one_word t.1 p.1, number);
-            scale = ap (λ o. answer_scale u (target_of (kind_of named n) o)) number ∙ sym (no_answer t.0 p.0);
-          },
-        )
+        called kind.WriteByte numbered.WriteByte who (IsWriter named numbers u who) e refl refl t n r
+        (λ fit. let p = and_parts (answers_nothing t.0) (takes_integer t.1) fit in (λ is. (one_word t.1 p.1, is), sym (no_answer t.0 p.0)))
 
     by_kind : (k : NameKind) → d.kind ≡ k → IsTrue (is_built_in k) → ToldKind numbers named.signatures rows (descs_of numbers rows (text_things named named.raw.now) named.raw.now.comms) d.name k → (who : Option ℕ) → StandsIn named numbers u who d
     by_kind kind.ReadByte e b t who n r = subst (λ z. StandsAs named numbers u who z n) (sym e) (reads e t who n r)

@@ -146,9 +146,6 @@ module _ (numbers : Numbers) where
 
 -- ---- a block declares none of them
 
-abbrev pub no_special : Mention → Bool
-no_special m = not (of_kind is_special m)
-
 pub data_kind : (k : NameKind) → IsTrue (is_data k) → is_special k ≡ false
 data_kind kind.ReadByte h = absurd (cc)
 data_kind kind.WriteByte h = absurd (cc)

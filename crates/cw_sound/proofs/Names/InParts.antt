@@ -59,11 +59,6 @@ parameter_quiet kind.SwitchParam h e = absurd (cc)
 parameter_quiet (kind.ProcParam t) h e = absurd (cc)
 parameter_quiet _ h e = refl
 
-parameter_mention : (m : Mention) → IsParameter m → of_kind is_control m ≡ false → IsTrue (is_quiet_mention m)
-parameter_mention (declared d) h e = parameter_quiet d.kind h e
-parameter_mention (uses x) h e = refl
-parameter_mention (stores token n) h e = refl
-
 answer_quiet : (numbers : Numbers) (o : Option RawType) (q : Option ℕ) (m : Here) → In m (facts_mentions numbers (answer_facts o) q) → IsTrue (is_quiet_mention m.mention)
 answer_quiet numbers None q m i = absurd i
 answer_quiet numbers (Some t) q m i = by_side (subst (In m) (declared_first numbers (answer_name (type_position t)) (kind.Answer t) [] q) i)

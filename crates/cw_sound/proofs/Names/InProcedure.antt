@@ -1,6 +1,7 @@
 -- What the parameters of a procedure stand for, by their places among all mentions of the outermost block.
 use Rattle.std.proofs.Common.{◌≡◌, ◌⊎◌, inl, inr, ℕ, suc, ◌+◌, ◌≤◌, List, [], ◌∷◌, ◌++◌, map, length, Bool, true, false, cond, IsTrue, Option, Some, None, slice_get, refl, sym, ap, subst, ◌∙◌, arith, length-append}
 use Rattle.cw_table.specs.declared.table.Row.{Row}
+use Rattle.cw_tree.specs.declared.leaf.RawName.{RawName}
 use Rattle.cw_tree.specs.declared.leaf.RawType.{RawType}
 use Rattle.cw_tree.specs.declared.statement.RawParam.{RawParam}
 use Rattle.cw_tree.specs.declared.statement.RawParam.TheVariants as raw
@@ -27,36 +28,49 @@ use Rattle.cw_sound.proofs.Names.Params.{kinds_as_specified, controls, ControlOf
 
 -- ---- what parameters and answers are
 
+abbrev pub is_taken : NameKind → Bool
+is_taken (kind.Value t) = true
+is_taken (kind.Location t) = true
+is_taken (kind.ArrayParam t) = true
+is_taken (kind.TableParam s) = true
+is_taken (kind.Element t e) = true
+is_taken kind.LabelParam = true
+is_taken kind.SwitchParam = true
+is_taken (kind.ProcParam t) = true
+is_taken _ = false
+
 abbrev pub is_parameter : NameKind → Bool
-is_parameter (kind.Value t) = true
-is_parameter (kind.Location t) = true
-is_parameter (kind.ArrayParam t) = true
-is_parameter (kind.TableParam s) = true
-is_parameter (kind.Element t e) = true
-is_parameter kind.LabelParam = true
-is_parameter kind.SwitchParam = true
-is_parameter (kind.ProcParam t) = true
 is_parameter (kind.Answer t) = true
-is_parameter _ = false
+is_parameter k = is_taken k
 
 abbrev pub IsParameter : Mention → Type 0
 IsParameter m = IsTrue (of_kind is_parameter m)
 
 module _ (numbers : Numbers) where
-  one_says : (p : RawParam) → Says numbers IsParameter (parameter_facts p)
-  one_says (raw.Value at t ns) = says_each numbers IsParameter (kind.Value t) ns (λ n. refl)
-  one_says (raw.Location at t ns) = says_each numbers IsParameter (kind.Location t) ns (λ n. refl)
-  one_says (raw.Array t ns) = says_each numbers IsParameter (kind.ArrayParam t) ns (λ n. refl)
-  one_says (raw.Table t) = says_declared numbers IsParameter t.name (kind.TableParam t.size) (elements_facts t.name t.elems) refl (says_elements numbers IsParameter t.name t.elems (λ n e. refl))
-  one_says (raw.Label at ns) = says_each numbers IsParameter kind.LabelParam ns (λ n. refl)
-  one_says (raw.Switch at ns) = says_each numbers IsParameter kind.SwitchParam ns (λ n. refl)
-  one_says (raw.Proc answer at n params) =
-      says_declared numbers IsParameter n (kind.ProcParam answer) (specifies n.at.token answer (plain params) ∷ []) refl
-      (λ q m i. absurd (subst (In m) (specified_first numbers n.at.token answer (plain params) [] q) i))
+  -- what is so of all that parameters declare
+  module _ (P : Mention → Type 0) (so : (n : RawName) (k : NameKind) → IsTrue (is_taken k) → P (declared (record { name = n; kind = k }))) where
+    one_says : (p : RawParam) → Says numbers P (parameter_facts p)
+    one_says (raw.Value at t ns) = says_each numbers P (kind.Value t) ns (λ n. so n (kind.Value t) refl)
+    one_says (raw.Location at t ns) = says_each numbers P (kind.Location t) ns (λ n. so n (kind.Location t) refl)
+    one_says (raw.Array t ns) = says_each numbers P (kind.ArrayParam t) ns (λ n. so n (kind.ArrayParam t) refl)
+    one_says (raw.Table t) =
+        says_declared numbers P t.name (kind.TableParam t.size) (elements_facts t.name t.elems) (so t.name (kind.TableParam t.size) refl) (says_elements numbers P t.name t.elems (λ n e. so n (kind.Element t.name e) refl))
+    one_says (raw.Label at ns) = says_each numbers P kind.LabelParam ns (λ n. so n kind.LabelParam refl)
+    one_says (raw.Switch at ns) = says_each numbers P kind.SwitchParam ns (λ n. so n kind.SwitchParam refl)
+    one_says (raw.Proc answer at n params) =
+        says_declared numbers P n (kind.ProcParam answer) (specifies n.at.token answer (plain params) ∷ []) (so n (kind.ProcParam answer) refl)
+        (λ q m i. absurd (subst (In m) (specified_first numbers n.at.token answer (plain params) [] q) i))
+
+    pub all_say : (params : List RawParam) → Says numbers P (parameters_facts params)
+    all_say [] = says_nothing numbers P
+    all_say (p ∷ more) = says_both numbers P (parameter_facts p) (parameters_facts more) (one_says p) (all_say more)
+
+  is_kind : (k : NameKind) → IsTrue (is_taken k) → IsTrue (is_parameter k)
+  is_kind (kind.Answer t) h = refl
+  is_kind _ h = h
 
   pub parameters_say : (params : List RawParam) → Says numbers IsParameter (parameters_facts params)
-  parameters_say [] = says_nothing numbers IsParameter
-  parameters_say (p ∷ more) = says_both numbers IsParameter (parameter_facts p) (parameters_facts more) (one_says p) (parameters_say more)
+  parameters_say = all_say IsParameter (λ n k. is_kind k)
 
   pub answer_says : (answer : Option RawType) → Says numbers IsParameter (answer_facts answer)
   answer_says None = says_nothing numbers IsParameter

@@ -1,7 +1,6 @@
 -- The labels of a text, beside their declarations: each has the procedure in whose body it is declared.
 use Rattle.std.proofs.Common.{◌≡◌, ℕ, List, [], ◌∷◌, ◌++◌, map, cond, Option, refl, sym, subst}
-use Rattle.cw_facts.specs.declared.fact.Fact.{Fact, Fact-F, map-Fact, roll-Fact}
-use Rattle.cw_facts.specs.declared.fact.Fact.TheFolds.{fold-roll-Fact, ind-Fact}
+use Rattle.cw_facts.specs.declared.fact.Fact.{Fact, Fact-F, map-Fact}
 use Rattle.cw_facts.specs.declared.fact.Fact.TheOpen as layer
 use Rattle.cw_facts.specs.declared.fact.Declaration.{Declaration}
 use Rattle.cw_facts.specs.declared.fact.Kind.{Kind as NameKind}
@@ -13,6 +12,7 @@ use Rattle.cw_unit.specs.declared.unit.Label.{Label}
 use Rattle.cw_sound.specs.Uses.Mentions.{Here, here, declares, Mentions, mentions_step, fact_mentions, facts_mentions}
 use Rattle.cw_sound.proofs.Names.Picking.{pick, pick_append, Zip, zip_both}
 use Rattle.cw_sound.proofs.Names.Sorts.{of_kind}
+use Rattle.cw_sound.proofs.Names.FactFolds.{RelatedLayer, each_related}
 
 -- the label of a declaration
 abbrev pub LabelOf : Here → Label → Type 0
@@ -39,17 +39,13 @@ module _ (numbers : Numbers) where
   of_declaration q d line kind.Label = (refl, tt)
   of_declaration q d line _ = tt
 
-  has_labels : (y : Fact-F ((f : Fact) × FactHasLabels f)) → let x : Fact-F Fact = map-Fact ((f : Fact) × FactHasLabels f) Fact (λ e. e.0) y in HasLabels (mentions_step numbers (map-Fact Fact Mentions (fact_mentions numbers) x)) (labels_step numbers (map-Fact Fact Labels (fact_labels numbers) x))
+  has_labels : (y : Fact-F ((f : Fact) × FactHasLabels f)) → RelatedLayer (mentions_step numbers) (labels_step numbers) HasLabels (map-Fact ((f : Fact) × FactHasLabels f) Fact (λ e. e.0) y)
   has_labels (layer.Declares d) q = of_declaration q d (line_of d.name.at) d.kind
   has_labels (layer.Block owner es) q = all_labels es (proc_within numbers owner q)
   has_labels _ q = tt
 
   fact_has_labels : (f : Fact) → FactHasLabels f
-  fact_has_labels = ind-Fact FactHasLabels (λ x y is.
-      let at : HasLabels (mentions_step numbers (map-Fact Fact Mentions (fact_mentions numbers) x)) (labels_step numbers (map-Fact Fact Labels (fact_labels numbers) x)) =
-      subst (λ z. HasLabels (mentions_step numbers (map-Fact Fact Mentions (fact_mentions numbers) z)) (labels_step numbers (map-Fact Fact Labels (fact_labels numbers) z))) is (has_labels y) in
-      subst (λ ms. HasLabels ms (fact_labels numbers (roll-Fact x))) (sym (fold-roll-Fact Mentions (mentions_step numbers) x))
-      (subst (HasLabels (mentions_step numbers (map-Fact Fact Mentions (fact_mentions numbers) x))) (sym (fold-roll-Fact Labels (labels_step numbers) x)) at))
+  fact_has_labels = each_related (mentions_step numbers) (labels_step numbers) HasLabels has_labels
 
   pub facts_have_labels : (fs : List Fact) (q : Option ℕ) → Zip LabelOf (pick (of_kind is_own_label) (facts_mentions numbers fs q)) (facts_labels numbers fs q)
   facts_have_labels [] q = tt

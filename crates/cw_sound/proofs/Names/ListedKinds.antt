@@ -22,18 +22,13 @@ use Rattle.cw_make_items.specs.Lookup.{Numbers}
 use Rattle.cw_sound.specs.Uses.Mentions.{In, Mention, Here, here, declares as declared, uses, stores, facts_mentions}
 use Rattle.cw_sound.proofs.Names.Sorts.{of_kind}
 use Rattle.cw_sound.proofs.Names.MentionsOf.{Says, says_nothing, says_both, says_declared, says_each, says_elements, says_use, specified_first}
+use Rattle.std.specs.Prelude.{not}
+use Rattle.cw_sound.proofs.Names.InProcedure.{is_parameter}
 use Rattle.cw_sound.proofs.Names.PartKinds.{IsData, is_data, data_say}
 
 abbrev pub is_listed : NameKind → Bool
-is_listed (kind.Value t) = false
-is_listed (kind.Location t) = false
-is_listed (kind.ArrayParam t) = false
-is_listed (kind.TableParam s) = false
-is_listed kind.LabelParam = false
-is_listed kind.SwitchParam = false
-is_listed (kind.ProcParam t) = false
-is_listed (kind.Answer t) = false
-is_listed _ = true
+is_listed (kind.Element t e) = true
+is_listed k = not (is_parameter k)
 
 abbrev pub IsListed : Mention → Type 0
 IsListed (declared d) = IsTrue (is_listed d.kind)

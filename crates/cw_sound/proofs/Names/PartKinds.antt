@@ -70,13 +70,10 @@ plain_not is _ h = refl
 
 -- ---- none of these is a procedure
 
-data_kind : (k : NameKind) → IsTrue (is_data k) → is_own_procedure k ≡ false
-data_kind (kind.Proc t) h = absurd (cc)
-data_kind _ h = refl
-
-parameter_kind : (k : NameKind) → IsTrue (is_parameter k) → is_own_procedure k ≡ false
-parameter_kind (kind.Proc t) h = absurd (cc)
-parameter_kind _ h = refl
+-- a procedure is neither data nor a parameter
+neither : (k : NameKind) → (IsTrue (is_data k) → is_own_procedure k ≡ false) × (IsTrue (is_parameter k) → is_own_procedure k ≡ false)
+neither (kind.Proc t) = (λ h. absurd (cc), λ h. absurd (cc))
+neither _ = (λ h. refl, λ h. refl)
 
 abbrev pub procs_in : List Here → List Here
 procs_in = pick (of_kind is_own_procedure)
@@ -116,8 +113,8 @@ module _ (named : Named) (numbers : Numbers) where
     no_procs_before =
         pick_append (of_kind is_own_procedure) answers params
         ∙ ap₂ (λ a b. a ++ b)
-        (none_picked (of_kind is_own_procedure) answers (λ m i. parameter_not is_own_procedure parameter_kind m.mention (answer_says numbers (out-RawProc p).answer within_it m i).1))
-        (none_picked (of_kind is_own_procedure) params (λ m i. parameter_not is_own_procedure parameter_kind m.mention (parameters_say numbers (out-RawProc p).params within_it m i).1))
+        (none_picked (of_kind is_own_procedure) answers (λ m i. parameter_not is_own_procedure (λ k. (neither k).1) m.mention (answer_says numbers (out-RawProc p).answer within_it m i).1))
+        (none_picked (of_kind is_own_procedure) params (λ m i. parameter_not is_own_procedure (λ k. (neither k).1) m.mention (parameters_say numbers (out-RawProc p).params within_it m i).1))
 
     pub inner_procs : procs_in (answers ++ (params ++ body)) ≡ procs_in body
     inner_procs =
@@ -132,7 +129,7 @@ module _ (named : Named) (numbers : Numbers) where
       ∙ length-append (procs_in (facts_mentions numbers fs q)) (procs_in (facts_mentions numbers gs q))
       ∙ ap₂ (λ m n. m + n) (part_procs a q) (part_procs b q) ∙ sym (length-append ps qs)
   part_procs (plain {fs} h) q = ap length (none_picked (of_kind is_own_procedure) (facts_mentions numbers fs q) (λ m i. plain_not is_own_procedure m.mention (h.mentions q m i).1))
-  part_procs (data_items d) q = ap length (none_picked (of_kind is_own_procedure) (facts_mentions numbers (data_facts d) q) (λ m i. data_not is_own_procedure data_kind m.mention (data_say numbers d q m i).1))
+  part_procs (data_items d) q = ap length (none_picked (of_kind is_own_procedure) (facts_mentions numbers (data_facts d) q) (λ m i. data_not is_own_procedure (λ k. (neither k).0) m.mention (data_say numbers d q m i).1))
   part_procs (label n) q = ap (λ ms. length (procs_in ms)) (declared_first numbers n kind.Label [] q)
   part_procs (switch n labels) q =
       ap (λ ms. length (procs_in ms)) (declared_first numbers n kind.Switch (each_uses labels) q)

@@ -14,6 +14,7 @@ use Rattle.cw_make.specs.Labels.{proc_within}
 use Rattle.cw_sound.specs.Uses.Mentions.{In, Mention, Here, here, declares, uses, stores, Mentions, mentions_step, fact_mentions, facts_mentions}
 use Rattle.cw_sound.specs.Names.Placed.{tokens, all_tokens, used_step, fact_used, text_used}
 use Rattle.cw_sound.proofs.Names.NoFaults.{parts, facts_keep}
+use Rattle.cw_sound.proofs.Names.FactFolds.{RelatedLayer, each_related}
 
 -- ---- declarations
 
@@ -54,16 +55,12 @@ module _ (numbers : Numbers) where
   all_have [] q = refl
   all_have (e ∷ es) q = rows_append (fact_mentions numbers e.0 q) (facts_mentions numbers (map (λ z. z.0) es) q) ∙ ap₂ (λ a b. a ++ b) (e.1 q) (all_have es q)
 
-  have_rows : (y : Fact-F ((f : Fact) × FactRows f)) → let x : Fact-F Fact = map-Fact ((f : Fact) × FactRows f) Fact (λ e. e.0) y in HasRows (mentions_step numbers (map-Fact Fact Mentions (fact_mentions numbers) x)) (declarations_step (map-Fact Fact (List (Row Declaration)) fact_declarations x))
+  have_rows : (y : Fact-F ((f : Fact) × FactRows f)) → RelatedLayer (mentions_step numbers) declarations_step HasRows (map-Fact ((f : Fact) × FactRows f) Fact (λ e. e.0) y)
   have_rows (layer.Block owner es) q = all_have es (proc_within numbers owner q)
   have_rows _ q = refl
 
   fact_rows : (f : Fact) → FactRows f
-  fact_rows = ind-Fact FactRows (λ x y is.
-      let at : HasRows (mentions_step numbers (map-Fact Fact Mentions (fact_mentions numbers) x)) (declarations_step (map-Fact Fact (List (Row Declaration)) fact_declarations x)) =
-      subst (λ z. HasRows (mentions_step numbers (map-Fact Fact Mentions (fact_mentions numbers) z)) (declarations_step (map-Fact Fact (List (Row Declaration)) fact_declarations z))) is (have_rows y) in
-      subst (λ ms. HasRows ms (fact_declarations (roll-Fact x))) (sym (fold-roll-Fact Mentions (mentions_step numbers) x))
-      (subst (HasRows (mentions_step numbers (map-Fact Fact Mentions (fact_mentions numbers) x))) (sym (fold-roll-Fact (List (Row Declaration)) declarations_step x)) at))
+  fact_rows = each_related (mentions_step numbers) declarations_step HasRows have_rows
 
   pub facts_rows : (facts : List Fact) (q : Option ℕ) → rows_in (facts_mentions numbers facts q) ≡ text_declarations facts
   facts_rows [] q = refl

@@ -35,13 +35,10 @@ use Rattle.cw_sound.proofs.Names.PartKinds.{is_data, data_say, uses_say, shape, 
 
 -- ---- none of these is a switch
 
-data_kind : (k : NameKind) → IsTrue (is_data k) → is_own_switch k ≡ false
-data_kind kind.Switch h = absurd (cc)
-data_kind _ h = refl
-
-parameter_kind : (k : NameKind) → IsTrue (is_parameter k) → is_own_switch k ≡ false
-parameter_kind kind.Switch h = absurd (cc)
-parameter_kind _ h = refl
+-- a switch is neither data nor a parameter
+neither : (k : NameKind) → (IsTrue (is_data k) → is_own_switch k ≡ false) × (IsTrue (is_parameter k) → is_own_switch k ≡ false)
+neither kind.Switch = (λ h. absurd (cc), λ h. absurd (cc))
+neither _ = (λ h. refl, λ h. refl)
 
 abbrev pub switches_in : List Here → List Here
 switches_in = pick (of_kind is_own_switch)
@@ -122,7 +119,7 @@ module _ (named : Named) (numbers : Numbers) (u : SourceUnit) where
       subst (λ zs. Zip SwitchOf zs (ws q ++ xs q)) (sym (ap switches_in (mentions_append numbers fs gs q) ∙ pick_append (of_kind is_own_switch) f g))
       (zip_both SwitchOf (switches_in f) (switches_in g) (ws q) (xs q) (in_switches a q (λ m i. parted m (in_left m f g i))) (in_switches b q (λ m i. parted m (in_right m f g i))))
   in_switches (plain {fs} p) q h = none_here (facts_mentions numbers fs q) (none_picked (of_kind is_own_switch) (facts_mentions numbers fs q) (λ m i. plain_not is_own_switch m.mention (p.mentions q m i).1))
-  in_switches (data_items d) q h = none_here (facts_mentions numbers (data_facts d) q) (none_picked (of_kind is_own_switch) (facts_mentions numbers (data_facts d) q) (λ m i. data_not is_own_switch data_kind m.mention (data_say numbers d q m i).1))
+  in_switches (data_items d) q h = none_here (facts_mentions numbers (data_facts d) q) (none_picked (of_kind is_own_switch) (facts_mentions numbers (data_facts d) q) (λ m i. data_not is_own_switch (λ k. (neither k).0) m.mention (data_say numbers d q m i).1))
   in_switches (label n) q h = subst (λ ms. Zip SwitchOf (switches_in ms) []) (sym (declared_first numbers n kind.Label [] q)) tt
   in_switches (switch n labels) q h =
       let parted = subst AllMentionsReached (declared_first numbers n kind.Switch (each_uses labels) q) h in
@@ -134,8 +131,8 @@ module _ (named : Named) (numbers : Numbers) (u : SourceUnit) where
       let who : Option ℕ = within_it named numbers p fs q in
       let rest : List Here = params named numbers p fs q ++ body named numbers p fs q in
       let parted = subst AllMentionsReached (shape named numbers p fs q) h in
-      let no_answers = none_picked (of_kind is_own_switch) (answers named numbers p fs q) (λ m i. parameter_not is_own_switch parameter_kind m.mention (answer_says numbers (out-RawProc p).answer who m i).1) in
-      let no_params = none_picked (of_kind is_own_switch) (params named numbers p fs q) (λ m i. parameter_not is_own_switch parameter_kind m.mention (parameters_say numbers (out-RawProc p).params who m i).1) in
+      let no_answers = none_picked (of_kind is_own_switch) (answers named numbers p fs q) (λ m i. parameter_not is_own_switch (λ k. (neither k).1) m.mention (answer_says numbers (out-RawProc p).answer who m i).1) in
+      let no_params = none_picked (of_kind is_own_switch) (params named numbers p fs q) (λ m i. parameter_not is_own_switch (λ k. (neither k).1) m.mention (parameters_say numbers (out-RawProc p).params who m i).1) in
       let same : switches_in (answers named numbers p fs q ++ rest) ≡ switches_in (body named numbers p fs q) =
       pick_append (of_kind is_own_switch) (answers named numbers p fs q) rest ∙ ap (λ zs. zs ++ switches_in rest) no_answers
       ∙ pick_append (of_kind is_own_switch) (params named numbers p fs q) (body named numbers p fs q) ∙ ap (λ zs. zs ++ switches_in (body named numbers p fs q)) no_params in

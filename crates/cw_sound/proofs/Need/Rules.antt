@@ -14,6 +14,7 @@ use Rattle.cw_unit.specs.declared.unit.Expr.{Expr}
 use Rattle.cw_unit.specs.declared.unit.CompareOp.TheVariants as compare
 use Rattle.cw_unit.specs.declared.unit.Arg.TheOpen as layer
 use Rattle.cw_unit.specs.StackBound.{operand_depth, condition_depth, address_depth, two_depth}
+use Rattle.cw_sound.proofs.Expressions.Chains.{Chain, factor_joined, term_joined, factors, terms}
 use Rattle.cw_sound.proofs.Need.Nodes.{expression_rolled, condition_rolled, two_within, added_depth, multiplied_depth, nothing_depth, part_within, Given, given_of}
 
 -- ---- what is made, with at most so many words in hand
@@ -68,26 +69,26 @@ logic_shallow op k (x ∷ xs) s = record {
   handed = handed_small (length xs == 0) x.handed s.0.handed;
 }
 
-factors_depth : (k : ℕ) (e : Expr) (xs : List Made) (signs : List RawFactorSign) → operand_depth e ≤ suc k → Each (Shallow k) xs → operand_depth (factors_from e xs signs) ≤ suc k
-factors_depth k e [] signs h s = h
-factors_depth k e (x ∷ xs) [] h s = h
-factors_depth k e (x ∷ xs) (z ∷ signs) h s =
-    factors_depth k (multiplied z.op e (x.made true)) xs signs
-    (subst (λ (d : ℕ). d ≤ suc k) (sym (multiplied_depth z.op e (x.made true))) (two_within (operand_depth e) (operand_depth (x.made true)) k h (s.0.made true))) s.1
+chain_depth : {S : Type 0} {from : Expr → List Made → List S → Expr} {joined : S → Expr → Made → Expr} → Chain from joined → (k : ℕ)
+    → ((z : S) (e : Expr) (x : Made) → operand_depth e ≤ suc k → Shallow k x → operand_depth (joined z e x) ≤ suc k)
+    → (e : Expr) (xs : List Made) (signs : List S) → operand_depth e ≤ suc k → Each (Shallow k) xs → operand_depth (from e xs signs) ≤ suc k
+chain_depth c k within e [] signs h s = subst (λ (d : Expr). operand_depth d ≤ suc k) (sym (c.no_operand e signs)) h
+chain_depth c k within e (x ∷ xs) [] h s = subst (λ (d : Expr). operand_depth d ≤ suc k) (sym (c.no_operator e x xs)) h
+chain_depth {joined = joined} c k within e (x ∷ xs) (z ∷ signs) h s =
+    subst (λ (d : Expr). operand_depth d ≤ suc k) (sym (c.one_more e x xs z signs)) (chain_depth c k within (joined z e x) xs signs (within z e x h s.0) s.1)
+
+factor_depth : (k : ℕ) (z : RawFactorSign) (e : Expr) (x : Made) → operand_depth e ≤ suc k → Shallow k x → operand_depth (factor_joined z e x) ≤ suc k
+factor_depth k z e x h s = subst (λ (d : ℕ). d ≤ suc k) (sym (multiplied_depth z.op e (x.made true))) (two_within (operand_depth e) (operand_depth (x.made true)) k h (s.made true))
 
 pub term_shallow : (k : ℕ) (xs : List Made) (signs : List RawFactorSign) → Each (Shallow k) xs → Shallow (suc k) (term_of xs signs)
 term_shallow k [] signs s = nothing_shallow (suc k) (omega arith)
 term_shallow k (x ∷ xs) signs s = record {
-  made = λ operand. factors_depth k (x.made (operand_for (length xs == 0) operand)) xs signs (up k (operand_depth (x.made (operand_for (length xs == 0) operand))) (s.0.made (operand_for (length xs == 0) operand))) s.1;
+  made = λ operand. chain_depth factors k (factor_depth k) (x.made (operand_for (length xs == 0) operand)) xs signs (up k (operand_depth (x.made (operand_for (length xs == 0) operand))) (s.0.made (operand_for (length xs == 0) operand))) s.1;
   handed = handed_small (length xs == 0) x.handed s.0.handed;
 }
 
-terms_depth : (k : ℕ) (e : Expr) (xs : List Made) (signs : List RawSign) → operand_depth e ≤ suc k → Each (Shallow k) xs → operand_depth (terms_from e xs signs) ≤ suc k
-terms_depth k e [] signs h s = h
-terms_depth k e (x ∷ xs) [] h s = h
-terms_depth k e (x ∷ xs) (z ∷ signs) h s =
-    terms_depth k (added z.op e (x.made false)) xs signs
-    (subst (λ (d : ℕ). d ≤ suc k) (sym (added_depth z.op e (x.made false))) (two_within (operand_depth e) (operand_depth (x.made false)) k h (s.0.made false))) s.1
+term_depth : (k : ℕ) (z : RawSign) (e : Expr) (x : Made) → operand_depth e ≤ suc k → Shallow k x → operand_depth (term_joined z e x) ≤ suc k
+term_depth k z e x h s = subst (λ (d : ℕ). d ≤ suc k) (sym (added_depth z.op e (x.made false))) (two_within (operand_depth e) (operand_depth (x.made false)) k h (s.made false))
 
 negated : (b : Bool) (k : ℕ) (e : Expr) → operand_depth e ≤ k → operand_depth (if b then minus e else e) ≤ k
 negated true k e h = subst (λ (d : ℕ). d ≤ k) (sym (expression_rolled (layer.Minus e))) h
@@ -97,7 +98,7 @@ sum_depth : (alone operand : Bool) (sign : Option RawSign) (k : ℕ) (x : Made) 
 sum_depth true operand sign k x xs signs s h = up k (operand_depth (x.made operand)) (s.made operand)
 sum_depth false operand sign k x xs signs s h =
     part_within operand (terms_from (signed_term sign (x.made false)) xs signs) (suc k)
-    (terms_depth k (signed_term sign (x.made false)) xs signs (negated (is_negative sign) (suc k) (x.made false) (up k (operand_depth (x.made false)) (s.made false))) h)
+    (chain_depth terms k (term_depth k) (signed_term sign (x.made false)) xs signs (negated (is_negative sign) (suc k) (x.made false) (up k (operand_depth (x.made false)) (s.made false))) h)
 
 pub sum_shallow : (k : ℕ) (sign : Option RawSign) (xs : List Made) (signs : List RawSign) → Each (Shallow k) xs → Shallow (suc k) (sum_of sign xs signs)
 sum_shallow k sign [] signs s = nothing_shallow (suc k) (omega arith)

@@ -24,14 +24,13 @@ use Rattle.cw_tree.specs.declared.expression.RawExpr.TheVariants as expr_tree
 use Rattle.cw_tree.specs.declared.expression.RawPrimary.TheVariants as primary_tree
 use Rattle.cw_tree.specs.declared.expression.RawRef.TheVariants as ref_tree
 use Rattle.cw_tree.specs.declared.expression.RawExpr.TheOpen as layer
-use Rattle.cw_tree.specs.declared.expression.RawExpr.TheFolds.{fold-roll-RawCand, fold-roll-RawCmp, fold-roll-RawCond, fold-roll-RawDiffer, fold-roll-RawMask, fold-roll-RawPrim, fold-roll-RawSum, fold-roll-RawTerm, fold-roll-RawUnion}
 use Rattle.cw_tree.specs.declared.statement.RawDecl.TheOpen as shape
 use Rattle.cw_tree.specs.declared.statement.RawDecl.TheVariants as decl_tree
 use Rattle.cw_tree.specs.declared.statement.RawForm.TheVariants as form_tree
 use Rattle.cw_tree.specs.declared.statement.RawSimple.TheVariants as simple_tree
 use Rattle.cw_tree.specs.declared.statement.RawFelem.{RawFelem}
 use Rattle.cw_grammar.specs.Grammar.{Sort, a_pair, a_list, a_position, a_sign, a_factor_sign, an_expr, a_cond, a_cand, a_cmp, a_sum, a_term, a_differ, a_union, a_mask, a_prim, a_primary, a_ref, a_stmt, a_form, a_simple, a_felem, a_block, a_decl, Value}
-use Rattle.cw_grammar.specs.Trees.{extended, mask_tree, union_tree, differ_tree, term_tree, cand_tree, cond_tree, comparison_tree, sum_tree, more_terms}
+use Rattle.cw_grammar.specs.Trees.{Operands, extended, mask_tree, union_tree, differ_tree, term_tree, cand_tree, cond_tree, comparison_tree, sum_tree, more_terms}
 use Rattle.cw_grammar.specs.Statements.{proc_tree}
 use Rattle.cw_derived.specs.NormalForm as normal
 use Rattle.cw_derived.specs.NormalForm.{IsNormal}
@@ -43,7 +42,7 @@ use Rattle.cw_number.specs.declared.numbered.Numbered.{Numbered}
 use Rattle.cw_make_expr.specs.Parts.{Numbers, within, item_here, number_of}
 use Rattle.cw_make_expr.specs.Nodes.{call, choice, comparator, comparison, constant, force, locate, number, string}
 use Rattle.cw_make_expr.specs.Made as made
-use Rattle.cw_make_expr.specs.Made.{Made, Placed, expression_of, reference_of, arguments, target}
+use Rattle.cw_make_expr.specs.Made.{Made, Placed, expression_of, reference_of, arguments, target, logic_of, term_of, all_of, any_of}
 use Rattle.cw_make_stmt.specs.Made as statements
 use Rattle.cw_make_stmt.specs.Made.{line_of, ref_position, goal_of, switch_of, labels_of, mark, felem_of}
 use Rattle.cw_unit.specs.declared.unit.Cond.{Cond}
@@ -55,6 +54,8 @@ use Rattle.cw_unit.specs.declared.unit.CompareOp.{CompareOp}
 use Rattle.cw_unit.specs.declared.unit.LogicOp.TheVariants as logic_op
 use Rattle.cw_unit.specs.declared.unit.Arg.TheOpen as node
 use Rattle.cw_unit.specs.StackBound.{operand_depth, argument_depth, arguments_depth, condition_depth, address_depth, body_depth, jump_depth, element_depth, elements_depth, largest, two_depth}
+use Rattle.cw_sound.proofs.Expressions.Folds.{made_steps}
+use Rattle.cw_tokens.proofs.Passes.{cand_rolled, cmp_rolled, cond_rolled, differ_rolled, mask_rolled, prim_rolled, sum_rolled, term_rolled, union_rolled}
 use Rattle.cw_sound.specs.Statements.Bodies.{Body, Bodies}
 use Rattle.cw_sound.specs.Statements.Bodies as bodies
 use Rattle.cw_sound.specs.Names.Standing.{FewParameters}
@@ -300,70 +301,46 @@ module _ (named : Named) (numbers : Numbers) (few : FewParameters named) where
   operands_made : {X O M : Type 0} (P : M → Type 0) (made_of : X → M) (x : X) (rest : List (O × X)) → P (made_of x) → Each (λ z. Unit {0} × P (made_of z.1)) rest → Each P (map made_of (extended (x ∷ [], []) rest).0)
   operands_made P made_of x rest h k = each_map made_of P (extended (x ∷ [], []) rest).0 (each_operand (λ y. P (made_of y)) (x ∷ []) [] rest (h, tt) k)
 
+  operated : {X O M N : Type 0} (P : M → Type 0) (Q : N → Type 0) (of : X → M) (whole : Operands X O → N) (make : List M → List O → N)
+      → ((xs : List X) (os : List O) → whole (xs, os) ≡ make (map of xs) os) → ((ms : List M) (os : List O) → Each P ms → Q (make ms os))
+      → (x : X) (rest : List (O × X)) → P (of x) → Each (λ z. Unit {0} × P (of z.1)) rest → Q (whole (extended (x ∷ [], []) rest))
+  operated P Q of whole make is right x rest h k =
+      subst Q (sym (is (extended (x ∷ [], []) rest).0 (extended (x ∷ [], []) rest).1)) (right (map of (extended (x ∷ [], []) rest).0) (extended (x ∷ [], []) rest).1 (operands_made P of x rest h k))
+
   masks : (n : ℕ) (x : RawPrim) (rest : List (Position × RawPrim)) → Holds n a_prim x → Holds n (a_list (a_pair a_position a_prim)) rest → Holds n a_mask (mask_tree (extended (x ∷ [], []) rest))
-  masks n x rest h k =
-      let xs : List RawPrim = (extended (x ∷ [], []) rest).0 in
-      let os : List Position = (extended (x ∷ [], []) rest).1 in
-      let parts = operands_made (Shallow (primary_words n)) (made.prim_made named numbers) x rest h k in
-      subst (Shallow (mask_words n)) (sym (fold-roll-RawMask Made Made Placed Cond Cond Cond Made Made Made Made Made Made (made.expression_step named numbers) (made.primary_step named numbers) (made.reference_step named numbers) (made.conjunction_step named numbers) (made.comparison_step named numbers) (made.condition_step named numbers) (made.differ_step named numbers) (made.mask_step named numbers) (made.prim_step named numbers) (made.sum_step named numbers) (made.term_step named numbers) (made.union_step named numbers) (record { operands = xs; operators = os })))
-      (logic_shallow logic_op.Mask (primary_words n) (map (made.prim_made named numbers) xs) parts)
+  masks n = operated (Shallow (primary_words n)) (Shallow (mask_words n)) (made.prim_made named numbers) (λ ops. made.mask_made named numbers (mask_tree ops)) (λ ms os. logic_of logic_op.Mask ms) (λ xs os. mask_rolled (made_steps named numbers) (record { operands = xs; operators = os })) (λ ms os. logic_shallow logic_op.Mask (primary_words n) ms)
 
   unions : (n : ℕ) (x : RawMask) (rest : List (Position × RawMask)) → Holds n a_mask x → Holds n (a_list (a_pair a_position a_mask)) rest → Holds n a_union (union_tree (extended (x ∷ [], []) rest))
-  unions n x rest h k =
-      let xs : List RawMask = (extended (x ∷ [], []) rest).0 in
-      let os : List Position = (extended (x ∷ [], []) rest).1 in
-      let parts = operands_made (Shallow (mask_words n)) (made.mask_made named numbers) x rest h k in
-      subst (Shallow (union_words n)) (sym (fold-roll-RawUnion Made Made Placed Cond Cond Cond Made Made Made Made Made Made (made.expression_step named numbers) (made.primary_step named numbers) (made.reference_step named numbers) (made.conjunction_step named numbers) (made.comparison_step named numbers) (made.condition_step named numbers) (made.differ_step named numbers) (made.mask_step named numbers) (made.prim_step named numbers) (made.sum_step named numbers) (made.term_step named numbers) (made.union_step named numbers) (record { operands = xs; operators = os })))
-      (logic_shallow logic_op.Union (mask_words n) (map (made.mask_made named numbers) xs) parts)
+  unions n = operated (Shallow (mask_words n)) (Shallow (union_words n)) (made.mask_made named numbers) (λ ops. made.union_made named numbers (union_tree ops)) (λ ms os. logic_of logic_op.Union ms) (λ xs os. union_rolled (made_steps named numbers) (record { operands = xs; operators = os })) (λ ms os. logic_shallow logic_op.Union (mask_words n) ms)
 
   differs : (n : ℕ) (x : RawUnion) (rest : List (Position × RawUnion)) → Holds n a_union x → Holds n (a_list (a_pair a_position a_union)) rest → Holds n a_differ (differ_tree (extended (x ∷ [], []) rest))
-  differs n x rest h k =
-      let xs : List RawUnion = (extended (x ∷ [], []) rest).0 in
-      let os : List Position = (extended (x ∷ [], []) rest).1 in
-      let parts = operands_made (Shallow (union_words n)) (made.union_made named numbers) x rest h k in
-      subst (Shallow (differ_words n)) (sym (fold-roll-RawDiffer Made Made Placed Cond Cond Cond Made Made Made Made Made Made (made.expression_step named numbers) (made.primary_step named numbers) (made.reference_step named numbers) (made.conjunction_step named numbers) (made.comparison_step named numbers) (made.condition_step named numbers) (made.differ_step named numbers) (made.mask_step named numbers) (made.prim_step named numbers) (made.sum_step named numbers) (made.term_step named numbers) (made.union_step named numbers) (record { operands = xs; operators = os })))
-      (logic_shallow logic_op.Differ (union_words n) (map (made.union_made named numbers) xs) parts)
+  differs n = operated (Shallow (union_words n)) (Shallow (differ_words n)) (made.union_made named numbers) (λ ops. made.differ_made named numbers (differ_tree ops)) (λ ms os. logic_of logic_op.Differ ms) (λ xs os. differ_rolled (made_steps named numbers) (record { operands = xs; operators = os })) (λ ms os. logic_shallow logic_op.Differ (union_words n) ms)
 
   terms : (n : ℕ) (x : RawDiffer) (rest : List (RawFactorSign × RawDiffer)) → Holds n a_differ x → Holds n (a_list (a_pair a_factor_sign a_differ)) rest → Holds n a_term (term_tree (extended (x ∷ [], []) rest))
-  terms n x rest h k =
-      let xs : List RawDiffer = (extended (x ∷ [], []) rest).0 in
-      let os : List RawFactorSign = (extended (x ∷ [], []) rest).1 in
-      let parts = operands_made (Shallow (differ_words n)) (made.differ_made named numbers) x rest h k in
-      subst (Shallow (term_words n)) (sym (fold-roll-RawTerm Made Made Placed Cond Cond Cond Made Made Made Made Made Made (made.expression_step named numbers) (made.primary_step named numbers) (made.reference_step named numbers) (made.conjunction_step named numbers) (made.comparison_step named numbers) (made.condition_step named numbers) (made.differ_step named numbers) (made.mask_step named numbers) (made.prim_step named numbers) (made.sum_step named numbers) (made.term_step named numbers) (made.union_step named numbers) (record { operands = xs; operators = os })))
-      (term_shallow (differ_words n) (map (made.differ_made named numbers) xs) os parts)
+  terms n = operated (Shallow (differ_words n)) (Shallow (term_words n)) (made.differ_made named numbers) (λ ops. made.term_made named numbers (term_tree ops)) term_of (λ xs os. term_rolled (made_steps named numbers) (record { operands = xs; operators = os })) (λ ms os. term_shallow (differ_words n) ms os)
 
   cands : (n : ℕ) (x : RawCmp) (rest : List (Position × RawCmp)) → Holds n a_cmp x → Holds n (a_list (a_pair a_position a_cmp)) rest → Holds n a_cand (cand_tree (extended (x ∷ [], []) rest))
-  cands n x rest h k =
-      let xs : List RawCmp = (extended (x ∷ [], []) rest).0 in
-      let os : List Position = (extended (x ∷ [], []) rest).1 in
-      let parts = operands_made (ShallowTest (test_words n)) (made.comparison_made named numbers) x rest h k in
-      subst (ShallowTest (test_words n)) (sym (fold-roll-RawCand Made Made Placed Cond Cond Cond Made Made Made Made Made Made (made.expression_step named numbers) (made.primary_step named numbers) (made.reference_step named numbers) (made.conjunction_step named numbers) (made.comparison_step named numbers) (made.condition_step named numbers) (made.differ_step named numbers) (made.mask_step named numbers) (made.prim_step named numbers) (made.sum_step named numbers) (made.term_step named numbers) (made.union_step named numbers) (record { operands = xs; operators = os })))
-      (all_shallow (test_words n) (map (made.comparison_made named numbers) xs) (omega arith) parts)
+  cands n = operated (ShallowTest (test_words n)) (ShallowTest (test_words n)) (made.comparison_made named numbers) (λ ops. made.conjunction_made named numbers (cand_tree ops)) (λ ms os. all_of ms) (λ xs os. cand_rolled (made_steps named numbers) (record { operands = xs; operators = os })) (λ ms os. all_shallow (test_words n) ms (omega arith))
 
   conds : (n : ℕ) (x : RawCand) (rest : List (Position × RawCand)) → Holds n a_cand x → Holds n (a_list (a_pair a_position a_cand)) rest → Holds n a_cond (cond_tree (extended (x ∷ [], []) rest))
-  conds n x rest h k =
-      let xs : List RawCand = (extended (x ∷ [], []) rest).0 in
-      let os : List Position = (extended (x ∷ [], []) rest).1 in
-      let parts = operands_made (ShallowTest (test_words n)) (made.conjunction_made named numbers) x rest h k in
-      subst (ShallowTest (test_words n)) (sym (fold-roll-RawCond Made Made Placed Cond Cond Cond Made Made Made Made Made Made (made.expression_step named numbers) (made.primary_step named numbers) (made.reference_step named numbers) (made.conjunction_step named numbers) (made.comparison_step named numbers) (made.condition_step named numbers) (made.differ_step named numbers) (made.mask_step named numbers) (made.prim_step named numbers) (made.sum_step named numbers) (made.term_step named numbers) (made.union_step named numbers) (record { operands = xs; operators = os })))
-      (any_shallow (test_words n) (map (made.conjunction_made named numbers) xs) (omega arith) parts)
+  conds n = operated (ShallowTest (test_words n)) (ShallowTest (test_words n)) (made.conjunction_made named numbers) (λ ops. made.condition_made named numbers (cond_tree ops)) (λ ms os. any_of ms) (λ xs os. cond_rolled (made_steps named numbers) (record { operands = xs; operators = os })) (λ ms os. any_shallow (test_words n) ms (omega arith))
 
   sums : (n : ℕ) (sign : Option RawSign) (x : RawTerm) (rest : List (RawSign × RawTerm)) → Holds n a_term x → Holds n (a_list (a_pair a_sign a_term)) rest → Holds n a_sum (sum_tree (more_terms (sign, (x ∷ [], [])) rest))
   sums n sign x rest h k =
       let xs : List RawTerm = (extended (x ∷ [], []) rest).0 in
       let os : List RawSign = (extended (x ∷ [], []) rest).1 in
       let parts = operands_made (Shallow (term_words n)) (made.term_made named numbers) x rest h k in
-      subst (Shallow (sum_words n)) (sym (fold-roll-RawSum Made Made Placed Cond Cond Cond Made Made Made Made Made Made (made.expression_step named numbers) (made.primary_step named numbers) (made.reference_step named numbers) (made.conjunction_step named numbers) (made.comparison_step named numbers) (made.condition_step named numbers) (made.differ_step named numbers) (made.mask_step named numbers) (made.prim_step named numbers) (made.sum_step named numbers) (made.term_step named numbers) (made.union_step named numbers) (record { sign = sign; operands = xs; operators = os })))
+      subst (Shallow (sum_words n)) (sym (sum_rolled (made_steps named numbers) (record { sign = sign; operands = xs; operators = os })))
       (sum_shallow (term_words n) sign (map (made.term_made named numbers) xs) os parts)
 
   prims : (n : ℕ) (bits : List RawBits) (x : RawPrimary) → Holds n a_primary x → Holds n a_prim (roll-RawPrim (record { bits = bits; primary = x }))
   prims n bits x h =
-      subst (Shallow (primary_words n)) (sym (fold-roll-RawPrim Made Made Placed Cond Cond Cond Made Made Made Made Made Made (made.expression_step named numbers) (made.primary_step named numbers) (made.reference_step named numbers) (made.conjunction_step named numbers) (made.comparison_step named numbers) (made.condition_step named numbers) (made.differ_step named numbers) (made.mask_step named numbers) (made.prim_step named numbers) (made.sum_step named numbers) (made.term_step named numbers) (made.union_step named numbers) (record { bits = bits; primary = x })))
+      subst (Shallow (primary_words n)) (sym (prim_rolled (made_steps named numbers) (record { bits = bits; primary = x })))
       (prim_shallow (primary_words n) bits (made.primary_made named numbers x) h)
 
   comparisons : (n : ℕ) (x y : RawSum) (op : RawCompareSign) → Holds n a_sum x → Holds n a_sum y → Holds n a_cmp (comparison_tree x op y)
   comparisons n x y op h k =
-      subst (ShallowTest (test_words n)) (sym (fold-roll-RawCmp Made Made Placed Cond Cond Cond Made Made Made Made Made Made (made.expression_step named numbers) (made.primary_step named numbers) (made.reference_step named numbers) (made.conjunction_step named numbers) (made.comparison_step named numbers) (made.condition_step named numbers) (made.differ_step named numbers) (made.mask_step named numbers) (made.prim_step named numbers) (made.sum_step named numbers) (made.term_step named numbers) (made.union_step named numbers) (record { left = x; operator = op; right = y })))
+      subst (ShallowTest (test_words n)) (sym (cmp_rolled (made_steps named numbers) (record { left = x; operator = op; right = y })))
       (compared n (made.sum_made named numbers x) (made.sum_made named numbers y) (comparator op.op) h k)
 
   leaf : (n : ℕ) (e : Expr) → operand_depth e ≡ 1 → Shallow (primary_words n) (made.simply e)

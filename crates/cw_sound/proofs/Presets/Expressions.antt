@@ -18,10 +18,12 @@ use Rattle.cw_scope.specs.declared.resolve.Named.{Named}
 use Rattle.cw_items.specs.declared.families.Site.{Site}
 use Rattle.cw_preset.specs.Strings.{Rows, joined, expression_rows, primary_rows, reference_rows, conjunction_rows, comparison_rows, condition_rows, differ_rows, mask_rows, prim_rows, sum_rows, term_rows, union_rows}
 use Rattle.cw_sound.proofs.Presets.Small.{RowsSmall, rows_append, string_small, characters_bytes}
-use Rattle.cw_sound.proofs.Presets.Layers.{cand_made, cond_made, cmp_made, expr_choice, primary_number, primary_octal, primary_literal, primary_text, primary_location, primary_forced, primary_bracket, primary_ref, primary_call, ref_name, ref_one, ref_two, ref_bare}
+use Rattle.cw_tree.proofs.Expressions.{of_reference-Name, of_reference-One, of_reference-Two, of_reference-Bare, of_primary-Text, of_primary-Ref, of_primary-Call, of_expression-Choice, of_primary-Number, of_primary-Octal, of_primary-Literal, of_primary-Location, of_primary-Forced, of_primary-Bracket}
+use Rattle.cw_sound.proofs.Expressions.Folds.{rows_pass}
+use Rattle.cw_tokens.proofs.Passes.{cand_rolled, cond_rolled, cmp_rolled}
 use Rattle.cw_sound.proofs.Presets.Held.{joined_extended, mask_kept, union_kept, differ_kept, term_kept, sum_kept, expr_of_keeps, prim_of_keeps}
 use Rattle.cw_sound.proofs.Presets.Good.{IsOfBytes, Good, Given, Keeps, given_good}
-use Rattle.cw_sound.proofs.Kept.{OfOption, OfEither}
+use Rattle.cw_tokens.proofs.Kept.{OfOption, OfEither}
 use Rattle.cw_macro.specs.Premises.{Each}
 
 -- ---- trees
@@ -38,40 +40,40 @@ behind_small f [] h = tt
 behind_small f (z ∷ rest) h = rows_append (f z.1) (joined (map (λ y. f y.1) rest)) h.0.1 (behind_small f rest h.1)
 
 pub name_small : (f : RawName) → RowsSmall (reference_rows (ref_tree.Name f))
-name_small f = same (ref_name f) tt
+name_small f = same (of_reference-Name rows_pass f) tt
 
 pub index_small : (f : RawName) (x : RawExpr) (o : Option RawExpr) → RowsSmall (expression_rows x) → OfOption (λ y. RowsSmall (expression_rows y)) o → RowsSmall (reference_rows (indexed_name f x o))
-index_small f x None h k = same (ref_one f x) h
-index_small f x (Some y) h k = same (ref_two f x y) (rows_append (expression_rows x) (expression_rows y) h k)
+index_small f x None h k = same (of_reference-One rows_pass f x) h
+index_small f x (Some y) h k = same (of_reference-Two rows_pass f x y) (rows_append (expression_rows x) (expression_rows y) h k)
 
 pub bare_small : (at : Position) (x : RawExpr) → RowsSmall (expression_rows x) → RowsSmall (reference_rows (ref_tree.Bare at x))
-bare_small at x h = same (ref_bare at x) h
+bare_small at x h = same (of_reference-Bare rows_pass at x) h
 
 ref_small : (f : RawName) (o : Option (Item × (RawExpr × Option RawExpr))) → OfOption (λ x. Unit {0} × (RowsSmall (expression_rows x.1.0) × OfOption (λ y. RowsSmall (expression_rows y)) x.1.1)) o → RowsSmall (reference_rows (ref_behind f o))
 ref_small f None h = name_small f
 ref_small f (Some x) h = index_small f x.1.0 x.1.1 h.1.0 h.1.1
 
 text_small : (t : Item) → IsOfBytes t → RowsSmall (primary_rows (primary_tree.Text (position t) (characters t.kind t.text)))
-text_small t h = same (primary_text (position t) (characters t.kind t.text)) (string_small (characters t.kind t.text) (characters_bytes t.kind t.text h), tt)
+text_small t h = same (of_primary-Text rows_pass (position t) (characters t.kind t.text)) (string_small (characters t.kind t.text) (characters_bytes t.kind t.text h), tt)
 
 primary_small : (f : RawName) (o : Option (Either (RawExpr × Option RawExpr) (List RawExpr)))
     → OfOption (OfEither (λ x. RowsSmall (expression_rows x.0) × OfOption (λ y. RowsSmall (expression_rows y)) x.1) (Each (λ y. RowsSmall (expression_rows y)))) o → RowsSmall (primary_rows (primary_behind f o))
-primary_small f None h = same (primary_ref (ref_tree.Name f)) (name_small f)
-primary_small f (Some (left x)) h = same (primary_ref (indexed_name f x.0 x.1)) (index_small f x.0 x.1 h.0 h.1)
-primary_small f (Some (right xs)) h = same (primary_call f xs) (joined_small expression_rows xs h)
+primary_small f None h = same (of_primary-Ref rows_pass (ref_tree.Name f)) (name_small f)
+primary_small f (Some (left x)) h = same (of_primary-Ref rows_pass (indexed_name f x.0 x.1)) (index_small f x.0 x.1 h.0 h.1)
+primary_small f (Some (right xs)) h = same (of_primary-Call rows_pass f xs) (joined_small expression_rows xs h)
 
 choice_small : (at : Position) (c : RawCond) (x y : RawExpr) → RowsSmall (condition_rows c) → RowsSmall (expression_rows x) → RowsSmall (expression_rows y) → RowsSmall (expression_rows (expr_tree.Choice at c x y))
-choice_small at c x y h k l = same (expr_choice at c x y) (rows_append (condition_rows c) (expression_rows x ++ expression_rows y) h (rows_append (expression_rows x) (expression_rows y) k l))
+choice_small at c x y h k l = same (of_expression-Choice rows_pass at c x y) (rows_append (condition_rows c) (expression_rows x ++ expression_rows y) h (rows_append (expression_rows x) (expression_rows y) k l))
 
 cand_small : (x : RawCmp) (rest : List (Position × RawCmp)) → RowsSmall (comparison_rows x) → Each (λ (z : Position × RawCmp). Unit {0} × RowsSmall (comparison_rows z.1)) rest → RowsSmall (conjunction_rows (cand_tree (extended (x ∷ [], []) rest)))
 cand_small x rest h k =
     let ops : Operands RawCmp Position = extended (x ∷ [], []) rest in
-    same (cand_made ops.0 ops.1 ∙ joined_extended comparison_rows (x ∷ [], []) rest) (rows_append (comparison_rows x ++ []) (joined (map (λ z. comparison_rows z.1) rest)) (rows_append (comparison_rows x) [] h tt) (behind_small comparison_rows rest k))
+    same (cand_rolled rows_pass (record { operands = ops.0; operators = ops.1 }) ∙ joined_extended comparison_rows (x ∷ [], []) rest) (rows_append (comparison_rows x ++ []) (joined (map (λ z. comparison_rows z.1) rest)) (rows_append (comparison_rows x) [] h tt) (behind_small comparison_rows rest k))
 
 cond_small : (x : RawCand) (rest : List (Position × RawCand)) → RowsSmall (conjunction_rows x) → Each (λ (z : Position × RawCand). Unit {0} × RowsSmall (conjunction_rows z.1)) rest → RowsSmall (condition_rows (cond_tree (extended (x ∷ [], []) rest)))
 cond_small x rest h k =
     let ops : Operands RawCand Position = extended (x ∷ [], []) rest in
-    same (cond_made ops.0 ops.1 ∙ joined_extended conjunction_rows (x ∷ [], []) rest) (rows_append (conjunction_rows x ++ []) (joined (map (λ z. conjunction_rows z.1) rest)) (rows_append (conjunction_rows x) [] h tt) (behind_small conjunction_rows rest k))
+    same (cond_rolled rows_pass (record { operands = ops.0; operators = ops.1 }) ∙ joined_extended conjunction_rows (x ∷ [], []) rest) (rows_append (conjunction_rows x ++ []) (joined (map (λ z. conjunction_rows z.1) rest)) (rows_append (conjunction_rows x) [] h tt) (behind_small conjunction_rows rest k))
 
 -- ---- rules
 
@@ -89,17 +91,17 @@ module _ (names : Named) (sites : List (Row Site)) (absolute : List (Row ℕ)) w
   constant_keeps : Keep constant
   unfolding constant
   constant_keeps = (
-    (tt, λ x h _. same (primary_number x) tt),
-    ((tt, λ x h _. same (primary_octal x) tt), ((tt, λ t h _. same (primary_literal (raw_literal t)) tt), (tt, λ t h _. text_small t h))),
+    (tt, λ x h _. same (of_primary-Number rows_pass x) tt),
+    ((tt, λ x h _. same (of_primary-Octal rows_pass x) tt), ((tt, λ t h _. same (of_primary-Literal rows_pass (raw_literal t)) tt), (tt, λ t h _. text_small t h))),
   )
 
   worded_keeps : Keep worded
   unfolding worded
-  worded_keeps = (((tt, tt), λ x h _. same (primary_location (position x.0) x.1.1) h.1), ((tt, tt), λ x h _. same (primary_forced x.0 x.1.1) h.1))
+  worded_keeps = (((tt, tt), λ x h _. same (of_primary-Location rows_pass (position x.0) x.1.1) h.1), ((tt, tt), λ x h _. same (of_primary-Forced rows_pass x.0 x.1.1) h.1))
 
   enclosed_keeps : Keep enclosed
   unfolding enclosed
-  enclosed_keeps = ((tt, λ x h _. same (primary_bracket (position x.0) x.1) h), (tt, λ x h _. same (primary_ref (ref_tree.Bare (position x.0) x.1)) (bare_small (position x.0) x.1 h)))
+  enclosed_keeps = ((tt, λ x h _. same (of_primary-Bracket rows_pass (position x.0) x.1) h), (tt, λ x h _. same (of_primary-Ref rows_pass (ref_tree.Bare (position x.0) x.1)) (bare_small (position x.0) x.1 h)))
 
   named_keeps : Keep named
   unfolding named
@@ -113,38 +115,20 @@ module _ (names : Named) (sites : List (Row Site)) (absolute : List (Row ℕ)) w
   unfolding prim
   prim_keeps = ((tt, primary_keeps), λ x h _. same (prim_of_keeps x.0 x.1) (taken primary x.1 h.1))
 
-  mask_keeps : Keep mask
-  unfolding mask
-  mask_keeps =
-      ((prim_keeps, (tt, prim_keeps)), λ x h _. same (mask_kept x.0 x.1) (rows_append (prim_rows x.0) (joined (map (λ z. prim_rows z.1) x.1)) (taken prim x.0 h.0) (behind_small prim_rows x.1 h.1)))
-
-  union_keeps : Keep union
-  unfolding union
-  union_keeps =
-      ((mask_keeps, (tt, mask_keeps)), λ x h _. same (union_kept x.0 x.1) (rows_append (mask_rows x.0) (joined (map (λ z. mask_rows z.1) x.1)) (taken mask x.0 h.0) (behind_small mask_rows x.1 h.1)))
-
-  differ_keeps : Keep differ
-  unfolding differ
-  differ_keeps =
-      ((union_keeps, (tt, union_keeps)), λ x h _. same (differ_kept x.0 x.1) (rows_append (union_rows x.0) (joined (map (λ z. union_rows z.1) x.1)) (taken union x.0 h.0) (behind_small union_rows x.1 h.1)))
-
-  term_keeps : Keep term
-  unfolding term
-  term_keeps =
-      ((differ_keeps, (tt, differ_keeps)), λ x h _. same (term_kept x.0 x.1) (rows_append (differ_rows x.0) (joined (map (λ z. differ_rows z.1) x.1)) (taken differ x.0 h.0) (behind_small differ_rows x.1 h.1)))
-
   sum_keeps : Keep sum
-  unfolding sum
-  sum_keeps = (
-    (tt, (term_keeps, (tt, term_keeps))),
-    λ x h _. same (sum_kept x.0 x.1.0 x.1.1) (rows_append (term_rows x.1.0) (joined (map (λ z. term_rows z.1) x.1.1)) (taken term x.1.0 h.1.0) (behind_small term_rows x.1.1 h.1.1)),
-  )
+  unfolding mask union differ term sum
+  sum_keeps =
+      let mask_keeps : Keep mask = ((prim_keeps, (tt, prim_keeps)), λ x h _. same (mask_kept x.0 x.1) (rows_append (prim_rows x.0) (joined (map (λ z. prim_rows z.1) x.1)) (taken prim x.0 h.0) (behind_small prim_rows x.1 h.1))) in
+      let union_keeps : Keep union = ((mask_keeps, (tt, mask_keeps)), λ x h _. same (union_kept x.0 x.1) (rows_append (mask_rows x.0) (joined (map (λ z. mask_rows z.1) x.1)) (taken mask x.0 h.0) (behind_small mask_rows x.1 h.1))) in
+      let differ_keeps : Keep differ = ((union_keeps, (tt, union_keeps)), λ x h _. same (differ_kept x.0 x.1) (rows_append (union_rows x.0) (joined (map (λ z. union_rows z.1) x.1)) (taken union x.0 h.0) (behind_small union_rows x.1 h.1))) in
+      let term_keeps : Keep term = ((differ_keeps, (tt, differ_keeps)), λ x h _. same (term_kept x.0 x.1) (rows_append (differ_rows x.0) (joined (map (λ z. differ_rows z.1) x.1)) (taken differ x.0 h.0) (behind_small differ_rows x.1 h.1))) in
+      ((tt, (term_keeps, (tt, term_keeps))), λ x h _. same (sum_kept x.0 x.1.0 x.1.1) (rows_append (term_rows x.1.0) (joined (map (λ z. term_rows z.1) x.1.1)) (taken term x.1.0 h.1.0) (behind_small term_rows x.1.1 h.1.1)))
 
   cmp_keeps : Keep cmp
   unfolding cmp
   cmp_keeps = (
     (sum_keeps, (tt, sum_keeps)),
-    λ x h _. same (cmp_made x.0 x.1.0 x.1.1) (rows_append (sum_rows x.0) (sum_rows x.1.1) (taken sum x.0 h.0) (taken sum x.1.1 h.1.1)),
+    λ x h _. same (cmp_rolled rows_pass (record { left = x.0; operator = x.1.0; right = x.1.1 })) (rows_append (sum_rows x.0) (sum_rows x.1.1) (taken sum x.0 h.0) (taken sum x.1.1 h.1.1)),
   )
 
   cand_keeps : Keep cand

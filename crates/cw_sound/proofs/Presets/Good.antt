@@ -7,14 +7,16 @@ use Rattle.cw_tree.specs.declared.segment.RawCitem.{RawCitem}
 use Rattle.cw_tree.specs.declared.segment.RawComm.{RawComm}
 use Rattle.cw_lex.specs.declared.token.TokenKind.{TokenKind}
 use Rattle.cw_grammar.specs.Tokens.{Item}
-use Rattle.cw_grammar.specs.Grammar.{Sort, an_expr, a_cond, a_cand, a_cmp, a_sum, a_term, a_differ, a_union, a_mask, a_prim, a_primary, a_ref, a_group, a_data, a_stmt, a_form, a_simple, a_felem, a_block, a_decl, a_citem, a_comm, a_raw, Value, Rule, Again, Grammar, ◌·◌, ◌⇒◌}
+use Rattle.cw_grammar.specs.Grammar.{Sort, a_group, a_data, a_stmt, a_form, a_simple, a_felem, a_block, a_decl, a_citem, a_comm, a_raw, Value, Rule, Again, Grammar, ◌·◌, ◌⇒◌}
 use Rattle.cw_grammar.specs.Table.{rule, again_rule}
 use Rattle.cw_grammar.specs.Derives.{Derives, is_then, is_map}
 use Rattle.cw_scope.specs.declared.resolve.Named.{Named}
 use Rattle.cw_items.specs.declared.families.Site.{Site}
 use Rattle.cw_items.specs.Things.{citem_things, communicator_things, text_things}
 use Rattle.cw_judge.specs.Judged.{citem_judged, communicator_judged, communicators_judged, block_judged}
-use Rattle.cw_preset.specs.Strings.{expression_rows, primary_rows, reference_rows, conjunction_rows, comparison_rows, condition_rows, differ_rows, mask_rows, prim_rows, sum_rows, term_rows, union_rows}
+use Rattle.cw_preset.specs.Strings.{Rows}
+use Rattle.cw_sound.proofs.Expressions.Folds.{rows_pass}
+use Rattle.cw_sound.proofs.Expressions.Passes.{related}
 use Rattle.cw_preset.specs.Held.{felem_rows, citem_rows, communicator_rows, held_of}
 use Rattle.cw_sound.specs.Presets.Bytes.{AreBytes}
 use Rattle.cw_sound.proofs.Presets.Small.{RowsSmall}
@@ -22,11 +24,14 @@ use Rattle.cw_sound.proofs.Presets.Frames.{HasName, Told, Held, DataHeld}
 use Rattle.cw_sound.proofs.Presets.Trees.{DeclHeld, FormHeld, SimpleHeld, BlockHeld, StmtHeld}
 use Rattle.cw_macro.specs.Premises.{Each}
 use Rattle.cw_sound.proofs.Kept as kept
-use Rattle.cw_sound.proofs.Kept.{Ask, nothing, holds}
+use Rattle.cw_sound.proofs.Kept.{Ask, nothing, holds, of_expressions}
 
 -- a token of bytes
 abbrev pub IsOfBytes : Item → Type 0
 IsOfBytes t = AreBytes t.text
+
+abbrev SmallRows : Rows → Rows → Type 0
+SmallRows rows again = RowsSmall rows
 
 module _ (named : Named) (sites : List (Row Site)) (absolute : List (Row ℕ)) where
   abbrev pub CitemHeld : RawCitem → Type 0
@@ -39,31 +44,22 @@ module _ (named : Named) (sites : List (Row Site)) (absolute : List (Row ℕ)) w
   TextHeld x = communicators_judged named sites absolute x.comms None ≡ None → block_judged named sites x.block None ≡ None → Each (Told sites) (text_things named x) → Each (Held sites) (held_of x)
 
   -- what is asked of each sort with strings or data
+  abbrev others : (s : Sort) → Ask (Value s)
+  others a_group = holds (λ x. HasName x.names)
+  others a_data = holds (λ x. DataHeld sites x)
+  others a_stmt = holds (λ x. StmtHeld named sites x)
+  others a_form = holds (λ x. FormHeld named sites x)
+  others a_simple = holds (λ x. SimpleHeld named sites x)
+  others a_felem = holds (λ x. RowsSmall (felem_rows x))
+  others a_block = holds (λ x. BlockHeld named sites x)
+  others a_decl = holds (λ x. DeclHeld named sites x)
+  others a_citem = holds (λ x. CitemHeld x)
+  others a_comm = holds (λ x. CommHeld x)
+  others a_raw = holds (λ x. TextHeld x)
+  others _ = nothing
+
   abbrev asked : (s : Sort) → Ask (Value s)
-  asked an_expr = holds (λ x. RowsSmall (expression_rows x))
-  asked a_cond = holds (λ x. RowsSmall (condition_rows x))
-  asked a_cand = holds (λ x. RowsSmall (conjunction_rows x))
-  asked a_cmp = holds (λ x. RowsSmall (comparison_rows x))
-  asked a_sum = holds (λ x. RowsSmall (sum_rows x))
-  asked a_term = holds (λ x. RowsSmall (term_rows x))
-  asked a_differ = holds (λ x. RowsSmall (differ_rows x))
-  asked a_union = holds (λ x. RowsSmall (union_rows x))
-  asked a_mask = holds (λ x. RowsSmall (mask_rows x))
-  asked a_prim = holds (λ x. RowsSmall (prim_rows x))
-  asked a_primary = holds (λ x. RowsSmall (primary_rows x))
-  asked a_ref = holds (λ x. RowsSmall (reference_rows x))
-  asked a_group = holds (λ x. HasName x.names)
-  asked a_data = holds (λ x. DataHeld sites x)
-  asked a_stmt = holds (λ x. StmtHeld named sites x)
-  asked a_form = holds (λ x. FormHeld named sites x)
-  asked a_simple = holds (λ x. SimpleHeld named sites x)
-  asked a_felem = holds (λ x. RowsSmall (felem_rows x))
-  asked a_block = holds (λ x. BlockHeld named sites x)
-  asked a_decl = holds (λ x. DeclHeld named sites x)
-  asked a_citem = holds (λ x. CitemHeld x)
-  asked a_comm = holds (λ x. CommHeld x)
-  asked a_raw = holds (λ x. TextHeld x)
-  asked _ = nothing
+  asked = of_expressions (related rows_pass rows_pass SmallRows) others
 
   abbrev pub Good : (s : Sort) → Value s → Type 0
   Good s x = kept.Good asked s x

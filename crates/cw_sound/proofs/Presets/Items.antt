@@ -32,6 +32,7 @@ use Rattle.cw_sound.proofs.Items.Numbering.{tokens_of_things, made-of}
 use Rattle.cw_sound.proofs.Items.Room.{room-of, row-found, Orderly, orderly-first, orderly-next, site_at, site-found}
 use Rattle.cw_sound.proofs.Items.Storage.{site-root}
 use Rattle.cw_sound.proofs.Items.Standing.{things-rise, made}
+use Rattle.cw_sound.proofs.Storage.FramesFit.{frame_thing}
 use Rattle.cw_sound.proofs.Presets.Small.{Small}
 use Rattle.cw_sound.proofs.Presets.Frames.{IsApart, in_frame, Told, Held}
 use Rattle.cw_macro.specs.Premises.{Each}
@@ -41,15 +42,6 @@ small_all [] h = refl
 small_all (w ∷ ws) h = both (nat_lt w.1 65536) (list_all (λ (p : ℕ × ℕ). nat_lt p.1 65536) ws) (lt_true w.1 65536 h.0) (small_all ws h.1)
 
 -- what stands in a frame by its home has no base
-baseless : (numbers : Numbers) (t : Thing) (pl ad : Option ℕ) (b : Option Base) (f : Option ℕ) → t.base ≡ b → frame_of t.sort t.owner ≡ f → home_listed numbers pl ad t ≡ home.Frame → (t.base ≡ None) × (k : ℕ) × (frame_of t.sort t.owner ≡ Some k)
-baseless numbers t (Some d) ad b f e g h = absurd cc
-baseless numbers t None (Some a) b f e g h = absurd cc
-baseless numbers t None None (Some b) f e g h =
-    absurd (let no : home_on numbers (Some b) (is_some (frame_of t.sort t.owner)) ≡ home.Frame = ap (λ o. home_on numbers o (is_some (frame_of t.sort t.owner))) (sym e) ∙ h in absurd cc)
-baseless numbers t None None None None e g h =
-    absurd (let no : home.Own ≡ home.Frame = sym (ap (λ o. home_on numbers o (is_some (frame_of t.sort t.owner))) e ∙ ap (λ o. home_on numbers None (is_some o)) g) ∙ h in absurd cc)
-baseless numbers t None None None (Some k) e g h = (e, k, g)
-
 orderly_all : (n : ℕ) (k : Known) (ts : List Thing) → Orderly n k → IsRising n (tokens_of_things ts) → things_judged k ts None ≡ None → (m : ℕ) × Orderly m (all_known k ts)
 orderly_all n k [] o r free = (n, o)
 orderly_all n k (t ∷ ts) o r free = let room = room-of k t ts free in orderly_all (suc t.at.token) (with_thing k t) ts (orderly-next n k t o r.0 room.0) r.1 room.1
@@ -127,7 +119,7 @@ module _ (named : Named) (rising : HasRisingTokens named.raw.now) (bases : Bases
         let q = made-of named.declarations (numbers_of named) (listed_of named.raw.now) (addresses_of named.raw.now.comms) (held_of named.raw.now) things (root_of (unit_of named) i) r g in
         let t : Thing = m.0 in
         let root : Thing = q.0 in
-        let b = baseless (numbers_of named) root (place_at (listed_of named.raw.now) root.at.token) (item_at (addresses_of named.raw.now.comms) root.at.token) root.base (frame_of root.sort root.owner) refl refl (ap (λ (y : Item). y.home) q.2 ∙ frame) in
+        let b = frame_thing (numbers_of named) root (place_at (listed_of named.raw.now) root.at.token) (item_at (addresses_of named.raw.now.comms) root.at.token) root.base (frame_of root.sort root.owner) refl refl (ap (λ (y : Item). y.home) q.2 ∙ frame) in
         let site : Site = site_at nothing_known things i t in
         let at_root : site.root ≡ root.at.token =
         site-root (unit_of named) named.declarations (numbers_of named) (listed_of named.raw.now) (addresses_of named.raw.now.comms) (held_of named.raw.now) things (made named rising bases) 1 rise free.things (suc i) i t (omega arith) m.1 root q.1 b.0 in

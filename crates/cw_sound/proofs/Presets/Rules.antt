@@ -21,11 +21,13 @@ use Rattle.cw_grammar.specs.Rules.{commas, indexed_name, reference, condition, e
 use Rattle.cw_grammar.specs.Statements.{semicolons, group, data_table, singles, arrays, item_data, overlay, citem, comm, simple_behind, jump, block_tree, unnamed, simple, if_tree, for_tree, stmt, felem, proc_behind, worded_decl, decl, raw, text}
 use Rattle.cw_grammar.specs.Table.{rule, again_rule}
 use Rattle.cw_scope.specs.declared.resolve.Named.{Named}
+use Rattle.cw_scale.specs.Faults.{Judgement, both}
 use Rattle.cw_items.specs.declared.families.Site.{Site}
+use Rattle.cw_items.specs.declared.thing.Thing.{Thing}
 use Rattle.cw_items.specs.Things.{base_at, citem_things, citems_things, communicator_things, communicators_things, block_things}
 use Rattle.cw_judge.specs.Declared.{declared_judged, common_base_judged, common_overlaid_judged}
 use Rattle.cw_judge.specs.Judged.{citem_judged, citems_judged, communicator_judged, communicators_judged}
-use Rattle.cw_preset.specs.Strings.{expression_rows, condition_rows}
+use Rattle.cw_preset.specs.Strings.{Rows, expression_rows, condition_rows}
 use Rattle.cw_preset.specs.Held.{citem_rows, citems_rows, communicator_rows, communicators_rows, block_rows}
 use Rattle.cw_sound.proofs.Items.Lists.{each-append, each-left, each-right}
 use Rattle.cw_sound.proofs.Presets.Small.{RowsSmall, rows_append}
@@ -33,9 +35,10 @@ use Rattle.cw_sound.proofs.Presets.Frames.{HasName, Told, Held, DataHeld, single
 use Rattle.cw_sound.proofs.Presets.Trees.{FormHeld, SimpleHeld, BlockHeld, StmtHeld, empty_held, assign_held, assign_bits_held, goto_held, goto_switch_held, call_held, answer_held, inner_held, if_held, else_held, for_held, labelled_held, form_alone, simple_alone, data_held, overlay_held, switch_held, proc_held, block_held}
 use Rattle.cw_sound.proofs.Presets.Expressions.{joined_small, name_small, index_small, bare_small, reference_keeps, condition_keeps, expr_keeps}
 use Rattle.cw_sound.proofs.Presets.Good.{CitemHeld, CommHeld, TextHeld, Good, Given, Keeps, given_good}
-use Rattle.cw_sound.proofs.Kept.{OfOption}
+use Rattle.cw_tokens.proofs.Kept.{OfOption}
 use Rattle.cw_sound.proofs.Items.Keeping.{keeps_declared, keeps_citems, keeps_communicators}
-use Rattle.cw_sound.proofs.Expressions.Judging.{both_free}
+use Rattle.cw_sound.proofs.Expressions.Judging as judging
+use Rattle.cw_sound.proofs.Expressions.Judging.{NoFault, both_free}
 use Rattle.cw_macro.specs.Premises.{Each}
 
 module _ (names : Named) (sites : List (Row Site)) (absolute : List (Row ℕ)) where
@@ -111,12 +114,16 @@ module _ (names : Named) (sites : List (Row Site)) (absolute : List (Row ℕ)) w
     ),
   )
 
+  two_held : (j k : Judgement) (ts us : List Thing) (rs ss : Rows) → judging.Keeps k → (NoFault j → Each (Told sites) ts → Each (Held sites) rs) → (NoFault k → Each (Told sites) us → Each (Held sites) ss)
+      → NoFault (both j k) → Each (Told sites) (ts ++ us) → Each (Held sites) (rs ++ ss)
+  two_held j k ts us rs ss keeps f g free told =
+      let frees = both_free j k keeps free in
+      each-append (Held sites) rs ss (f frees.0 (each-left (Told sites) ts us told)) (g frees.1 (each-right (Told sites) ts us told))
+
   citems_held : (is : List RawCitem) → Each (CitemHeld names sites absolute) is → citems_judged names sites absolute is None ≡ None → Each (Told sites) (citems_things names is) → Each (Held sites) (citems_rows is)
   citems_held [] h free told = tt
   citems_held (i ∷ is) h free told =
-      let frees = both_free (citem_judged names sites absolute i) (citems_judged names sites absolute is) (keeps_citems names sites absolute is) free in
-      each-append (Held sites) (citem_rows i) (citems_rows is) (h.0 frees.0 (each-left (Told sites) (citem_things names i) (citems_things names is) told))
-      (citems_held is h.1 frees.1 (each-right (Told sites) (citem_things names i) (citems_things names is) told))
+      two_held (citem_judged names sites absolute i) (citems_judged names sites absolute is) (citem_things names i) (citems_things names is) (citem_rows i) (citems_rows is) (keeps_citems names sites absolute is) h.0 (citems_held is h.1) free told
 
   citems_keep : Keep (semicolons citem)
   citems_keep = ((citem_keeps, ((tt, citem_keeps), λ x h _. taken citem x.1 h.1)), λ x h _. (taken citem x.0 h.0, h.1))
@@ -131,9 +138,8 @@ module _ (names : Named) (sites : List (Row Site)) (absolute : List (Row ℕ)) w
   comms_held : (cs : List RawComm) → Each (CommHeld names sites absolute) cs → communicators_judged names sites absolute cs None ≡ None → Each (Told sites) (communicators_things names cs) → Each (Held sites) (communicators_rows cs)
   comms_held [] h free told = tt
   comms_held (c ∷ cs) h free told =
-      let frees = both_free (communicator_judged names sites absolute c) (communicators_judged names sites absolute cs) (keeps_communicators names sites absolute cs) free in
-      each-append (Held sites) (communicator_rows c) (communicators_rows cs) (h.0 frees.0 (each-left (Told sites) (communicator_things names c) (communicators_things names cs) told))
-      (comms_held cs h.1 frees.1 (each-right (Told sites) (communicator_things names c) (communicators_things names cs) told))
+      two_held (communicator_judged names sites absolute c) (communicators_judged names sites absolute cs) (communicator_things names c) (communicators_things names cs) (communicator_rows c) (communicators_rows cs)
+      (keeps_communicators names sites absolute cs) h.0 (comms_held cs h.1) free told
 
   -- ---- statements
 
@@ -276,8 +282,7 @@ module _ (names : Named) (sites : List (Row Site)) (absolute : List (Row ℕ)) w
   unfolding again_rule
   again_keeps (labelled p) = stmt_keeps p
   again_keeps (labelled_simple p) = simple_keeps p
-  again_keeps more_elems = tt
-  again_keeps places = tt
+  again_keeps _ = tt
 
   whole_held : (cs : List RawComm) (n : RawName) (b : Item × (List RawDecl × List RawStmt)) (finish : Item) → Each (CommHeld names sites absolute) cs → BlockHeld names sites (block_tree b.0 b.1.0 b.1.1) → TextHeld names sites absolute (raw cs n b finish)
   whole_held cs n b finish h k comms block told =

@@ -38,7 +38,7 @@ use Rattle.cw_make.specs.Switches.{Switches, goals_of, declaration_switches, for
 use Rattle.cw_unit.specs.declared.unit.Switch.{Switch}
 use Rattle.cw_built.specs.Coded.{has_few}
 use Rattle.cw_sound.proofs.Expressions.Truth.{both as both_true, le_of, lt_true}
-use Rattle.cw_sound.proofs.Expressions.Judging.{NoFault, keeps_fine, keeps_both, keeps_unless, both_free, holds}
+use Rattle.cw_sound.proofs.Expressions.Judging.{NoFault, Keeps, keeps_fine, keeps_both, keeps_unless, both_free, holds}
 use Rattle.cw_sound.proofs.Statements.Keeping.{elements_keep, declaration_keeps, statement_keeps, simple_keeps, all_keep}
 use Rattle.cw_sound.proofs.Names.Parts.{Plain, no_switches}
 use Rattle.cw_sound.proofs.Names.PlainFacts.{plain_nothing, plain_both, plain_use, plain_loop}
@@ -187,19 +187,13 @@ module _ (named : Named) (sites : List (Row Site)) (numbers : Numbers) where
       plain_fit (fact.Uses (record { name = answer_name at; form = use_form.Answer }) ∷ expression_uses e reading.Value) (plain_use numbers (record { name = answer_name at; form = use_form.Answer }) (expression_uses e reading.Value) (expression_plain numbers e reading.Value)))
   simple_so (layer.Block b) = like ((rolls (judged_pass named sites)).simple (layer.Block b.0)) ((rolls facts_pass).simple (layer.Block b.0)) ((rolls (switches_pass named numbers)).simple (layer.Block b.0)) (b.1 false)
 
-  decls_so : (ds : List (WithDecl known)) → NoFault (all_judged (map (declaration_judged named sites) (map (λ e. e.0) ds))) → Fit (said.joined (map declaration_facts (map (λ e. e.0) ds))) (switched.joined (map (declaration_switches named numbers) (map (λ e. e.0) ds)))
-  decls_so [] free = nothing_fit
-  decls_so (d ∷ ds) free =
-      let rest : List RawDecl = map (λ e. e.0) ds in
-      let calm = both_free (declaration_judged named sites d.0) (all_judged (map (declaration_judged named sites) rest)) (all_keep (declaration_judged named sites) (declaration_keeps named sites) rest) free in
-      both_fit (d.1 calm.0) (decls_so ds calm.1)
-
-  stmts_so : (ss : List (WithStmt known)) → NoFault (all_judged (map (statement_judged named sites) (map (λ e. e.0) ss))) → Fit (said.joined (map statement_facts (map (λ e. e.0) ss))) (switched.joined (map (statement_switches named numbers) (map (λ e. e.0) ss)))
-  stmts_so [] free = nothing_fit
-  stmts_so (s ∷ ss) free =
-      let rest : List RawStmt = map (λ e. e.0) ss in
-      let calm = both_free (statement_judged named sites s.0) (all_judged (map (statement_judged named sites) rest)) (all_keep (statement_judged named sites) (statement_keeps named sites) rest) free in
-      both_fit (s.1 calm.0) (stmts_so ss calm.1)
+  all_so : {X : Type 0} (judged : X → Judgement) (keeps : (x : X) → Keeps (judged x)) (facts : X → List Fact) (switches : X → Switches) (xs : List ((x : X) × (NoFault (judged x) → Fit (facts x) (switches x))))
+      → NoFault (all_judged (map judged (map (λ e. e.0) xs))) → Fit (said.joined (map facts (map (λ e. e.0) xs))) (switched.joined (map switches (map (λ e. e.0) xs)))
+  all_so judged keeps facts switches [] free = nothing_fit
+  all_so {X = X} judged keeps facts switches (x ∷ xs) free =
+      let rest : List X = map (λ e. e.0) xs in
+      let calm = both_free (judged x.0) (all_judged (map judged rest)) (all_keep judged keeps rest) free in
+      both_fit (x.1 calm.0) (all_so judged keeps facts switches xs calm.1)
 
   enclosed_fit : (b : Bool) {fs : List Fact} {ws : Switches} → Fit fs ws → Fit (enclosed b fs) ws
   enclosed_fit true {fs = fs} h = record { declared = block_ranged numbers None fs h.declared; few = h.few }
@@ -212,7 +206,7 @@ module _ (named : Named) (sites : List (Row Site)) (numbers : Numbers) where
       like ((rolls (judged_pass named sites)).block (block_layer known y)) (ap (λ f. f outermost) ((rolls facts_pass).block (block_layer known y))) ((rolls (switches_pass named numbers)).block (block_layer known y))
       (λ free.
       let calm = both_free (all_judged (map (declaration_judged named sites) ds)) (all_judged (map (statement_judged named sites) ss)) (all_keep (statement_judged named sites) (statement_keeps named sites) ss) free in
-      enclosed_fit (outermost || not (length (map declaration_facts ds) == 0)) (both_fit (decls_so y.decls calm.0) (stmts_so y.stmts calm.1)))
+      enclosed_fit (outermost || not (length (map declaration_facts ds) == 0)) (both_fit (all_so {X = RawDecl} (declaration_judged named sites) (declaration_keeps named sites) declaration_facts (declaration_switches named numbers) y.decls calm.0) (all_so {X = RawStmt} (statement_judged named sites) (statement_keeps named sites) statement_facts (statement_switches named numbers) y.stmts calm.1)))
 
   procedure_fit : (answer : Option RawType) (n : RawName) (params : List RawParam) (fs : List Fact) (ws : Switches) → NoFault (heading_judged named answer n params) → Fit fs ws
       → Fit (declares n (kind.Proc answer) ∷ specifies n.at.token answer (flattened params) ∷ fact.Block (Some n.at.token) (answer_facts answer ++ (parameters_facts params ++ fs)) ∷ []) (λ q. ws (Some (proc_here numbers n.at.token)))

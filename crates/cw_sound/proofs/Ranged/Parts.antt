@@ -41,6 +41,7 @@ use Rattle.cw_sound.proofs.Ranges.Given.{all_in_ranges}
 use Rattle.cw_sound.proofs.Ranges.RangedTrees.{ranged_kept}
 use Rattle.cw_sound.specs.Statements.Levels.{element_levels}
 use Rattle.cw_sound.specs.Statements.Regular.{is_regular_element}
+use Rattle.cw_sound.proofs.Statements.Elements.{step_parts}
 use Rattle.cw_sound.proofs.Statements.Keeping.{whole_keeps, test_keeps, elements_keep}
 use Rattle.cw_sound.proofs.Items.Keeping.{keeps_few, keeps_few_each}
 use Rattle.cw_number.specs.declared.numbered.Numbered.TheVariants as numbered
@@ -101,14 +102,9 @@ module _ (named : Named) (numbers : Numbers) (u : SourceUnit) (who : Option ℕ)
       let calm = both_free (expression_judged named f e) (condition_judged named c) (test_keeps named c) free in
       both (ranged_at e f) (ranged_test c) (expression_ranged e f ok.0 sides.0 calm.0 small (omega (arith, few))) (test_ranged c ok.1 sides.1 calm.1 (omega (arith, few)))
   element_ranged (felem.Step a b d) f small regular facts free few =
-      let ok = parts (is_regular a) (is_regular b && is_regular d) regular in
-      let oks = parts (is_regular b) (is_regular d) ok.1 in
-      let first = split named numbers u who (expression_uses a reading.Value) (expression_uses b reading.Value ++ expression_uses d reading.Value) facts in
-      let rest = split named numbers u who (expression_uses b reading.Value) (expression_uses d reading.Value) first.1 in
-      let calm = both_free (expression_judged named f a) (judged_both (expression_judged named f b) (expression_judged named f d)) (keeps_both (whole_keeps named f b) (whole_keeps named f d)) free in
-      let calms = both_free (expression_judged named f b) (expression_judged named f d) (whole_keeps named f d) calm.1 in
-      both (ranged_at a f) (ranged_at b f && ranged_at d f) (expression_ranged a f ok.0 first.0 calm.0 small (omega (arith, few)))
-      (both (ranged_at b f) (ranged_at d f) (expression_ranged b f oks.0 rest.0 calms.0 small (omega (arith, few))) (expression_ranged d f oks.1 rest.1 calms.1 small (omega (arith, few))))
+      let p = step_parts named numbers u who a b d f regular facts free in
+      both (ranged_at a f) (ranged_at b f && ranged_at d f) (expression_ranged a f p.0.regular p.0.facts p.0.free small (omega (arith, few)))
+      (both (ranged_at b f) (ranged_at d f) (expression_ranged b f p.1.regular p.1.facts p.1.free small (omega (arith, few))) (expression_ranged d f p.2.regular p.2.facts p.2.free small (omega (arith, few))))
 
   pub elements_ranged : (es : List RawFelem) (f : ℕ) → f ≤ 15 → IsTrue (all (map is_regular_element es)) → FactsStand named numbers u (felems_facts es) who → NoFault (felems_judged named f es) → largest (map element_levels es) ≤ most_levels → IsTrue (are_ranged_elements u f (map (felem_of named numbers) es))
   elements_ranged [] f small regular facts free few = refl

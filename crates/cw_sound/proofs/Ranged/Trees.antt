@@ -55,45 +55,6 @@ module _ (named : Named) (numbers : Numbers) (u : SourceUnit) (who : Option ℕ)
       let p = place_fit named numbers u who r x placed ok s.0 free few in
       record { ranged = place_ranged named numbers u who declared r x placed ok s.0 free few; small = p.small; scale = p.scale }
 
-  goto_right : (at : Position) (n : RawName) → Stood named numbers u who (uses_of n form.Goto) → Good u who (made.jump named numbers at n) 0
-  goto_right at n s = go_good u who at (goal_of (number_of named numbers n)) 0 (λ few. jump_ranged u (number_of named numbers n))
-
-  switch_right : (at : Position) (n : RawName) (e : RawExpr) → IsTrue (is_regular e) → Stood named numbers u who (uses_of n form.GotoSwitch ++ expression_uses e reading.Value) → NoFault (expression_judged named 0 e) → Good u who (made.switch_jump named numbers at n e) (then_levels e)
-  switch_right at n e r s free =
-      let sides = halves_of named numbers u who (uses_of n form.GotoSwitch) (expression_uses e reading.Value) s in
-      go_good u who at (switch_of (number_of named numbers n) (expression_of named numbers e)) (then_levels e)
-      (λ few. switch_ranged u (expression_of named numbers e) (expression_ranged named numbers u who declared e 0 r sides.1.0 free (omega arith) few) (number_of named numbers n))
-
-  call_right : (n : RawName) (es : List RawExpr) → IsTrue (all (map is_regular es)) → Stood named numbers u who (uses_of n form.Call ++ argument_uses es) → NoFault (both (call_faults named (signature_of named n) n (map (expression named) es)) (arguments_counted es)) → Good u who (made.call_statement named numbers n es) (largest (map then_levels es))
-  call_right n es r s free =
-      let calm = (both_free (call_faults named (signature_of named n) n (map (expression named) es)) (arguments_counted es) (counted_keeps es) free).0 in
-      call_statement_good u who n.at (call_of named numbers n es).0 (call_of named numbers n es).1 (largest (map then_levels es)) (λ few. call_ranged named numbers u who declared n es r s.0 calm few)
-
-  assign_right : (r : RawRef) (e : RawExpr) → IsTrue (is_regular_reference r && is_regular e) → Stood named numbers u who (reference_uses r reading.Target ++ expression_uses e reading.Value) → NoFault (both (reference_judged named r) (expression_judged named (scale_of named r) e)) → Good u who (made.assignment named numbers r e) (max (reference_levels r) (then_levels e))
-  assign_right r e ok s free =
-      let oks = parts (is_regular_reference r) (is_regular e) ok in
-      let sides = halves_of named numbers u who (reference_uses r reading.Target) (expression_uses e reading.Value) s in
-      let calm = both_free (reference_judged named r) (expression_judged named (scale_of named r) e) (whole_keeps named (scale_of named r) e) free in
-      put_good u who named numbers (ref_position r) r e (place_right r reading.Target refl oks.0 sides.0 calm.0)
-      (λ few small. expression_ranged named numbers u who declared e (scale_of named r) oks.1 sides.1.0 calm.1 small few)
-
-  bits_right : (bits : RawBits) (r : RawRef) (e : RawExpr) → IsTrue (is_regular_reference r && is_regular e) → Stood named numbers u who (reference_uses r reading.Whole ++ expression_uses e reading.Value) → NoFault (both (bits_judged bits) (both (reference_judged named r) (expression_judged named 0 e))) → Good u who (made.bits_assignment named numbers bits r e) (max (reference_levels r) (then_levels e))
-  bits_right bits r e ok s free =
-      let oks = parts (is_regular_reference r) (is_regular e) ok in
-      let sides = halves_of named numbers u who (reference_uses r reading.Whole) (expression_uses e reading.Value) s in
-      let both_parts : Judgement = both (reference_judged named r) (expression_judged named 0 e) in
-      let calm = both_free (bits_judged bits) both_parts (keeps_both (place_keeps named r) (whole_keeps named 0 e)) free in
-      let calms = both_free (reference_judged named r) (expression_judged named 0 e) (whole_keeps named 0 e) calm.1 in
-      put_bits_good u who named numbers bits.at (within 255 (place_amount bits.size.first)) (within 255 (place_amount bits.size.second)) r e (bits_are_part bits calm.0)
-      (place_right r reading.Whole refl oks.0 sides.0 calms.0) (λ few. expression_ranged named numbers u who declared e 0 oks.1 sides.1.0 calms.1 (omega arith) few)
-
-  answer_right : (at : Position) (e : RawExpr) → IsTrue (is_regular e) → Stood named numbers u who (uses_of (answer_name at) form.Answer ++ expression_uses e reading.Value) → NoFault (expression_judged named (fraction_of_kind (kind_of named (answer_name at))) e) → Good u who (made.answer named numbers at e) (then_levels e)
-  answer_right at e r s free =
-      let f : ℕ = fraction_of_kind (kind_of named (answer_name at)) in
-      let sides = halves_of named numbers u who (uses_of (answer_name at) form.Answer) (expression_uses e reading.Value) s in
-      let a = answers_as named numbers u who (answer_name at) sides.0 in
-      answer_good u who named numbers at e f a.1 (λ few. expression_ranged named numbers u who declared e f r sides.1.0 free (name_small (kind_of named (answer_name at))) few)
-
   -- ---- statements with parts
 
   rows : {ss : List Stmt} {l : ℕ} → AllGood (Good u who) ss l → GoodRow u who ss l
@@ -103,29 +64,41 @@ module _ (named : Named) (numbers : Numbers) (u : SourceUnit) (who : Option ℕ)
   row_right : {ss : List Stmt} {l : ℕ} → AllGood (Good u who) ss l → Good u who (row ss) l
   row_right {ss = ss} {l = l} gs = row_good u who ss l (rows gs)
 
-  conditional_right : (at : Position) (test : RawCond) (a b : Stmt) (l k : ℕ) → IsTrue (is_regular_condition test) → Stood named numbers u who (condition_uses test reading.Value) → NoFault (condition_judged named test) → Good u who a l → Good u who b k
-      → Good u who (conditional (line_of at) (condition_of named numbers test) a b) (max (condition_levels test) (max (suc l) k))
-  conditional_right at test a b l k ok s free ga gb = conditional_good u who at (condition_of named numbers test) a b (condition_levels test) l k (test_ranged named numbers u who declared test ok s.0 free) ga gb
-
-  repetition_right : (at : Position) (variable : RawRef) (elems : List RawFelem) (s : Stmt) (l : ℕ) → IsTrue (is_regular_reference variable) → IsTrue (nat_lt (length elems) 32767) → IsTrue (all (map is_regular_element elems))
-      → Stood named numbers u who (fact.Loop at ∷ []) → Stood named numbers u who (reference_uses variable reading.Whole) → Stood named numbers u who (felems_facts elems) → NoFault (reference_judged named variable) → NoFault (felems_judged named (scale_of named variable) elems) → Good u who s l
-      → Good u who (repetition (line_of at) (item_here numbers at.token) (reference_of named numbers variable) (map (felem_of named numbers) elems) s) (max (reference_levels variable) (max (largest (map element_levels elems)) (max 1 l)))
-  repetition_right at variable elems s l ok few_elements oks loop place sides calm calms g =
-      repetition_good u who named numbers at (item_here numbers at.token) variable elems s (largest (map element_levels elems)) l few_elements (place_right variable reading.Whole refl ok place calm)
-      (λ small few. elements_ranged named numbers u who declared elems (scale_of named variable) small oks sides.0 calms few) g
-
   closed : Closed named numbers u who (Good u who)
   closed = record {
     row = row_right;
     marked = λ ns s l g. marked_good u who numbers ns s l g;
-    conditional = conditional_right;
-    repetition = repetition_right;
-    goto = goto_right;
-    switch = switch_right;
-    call = call_right;
-    assign = assign_right;
-    bits = bits_right;
-    answer = answer_right;
+    conditional = λ at test a b l k ok s free ga gb. conditional_good u who at (condition_of named numbers test) a b (condition_levels test) l k (test_ranged named numbers u who declared test ok s.0 free) ga gb;
+    repetition = λ at variable elems s l ok few_elements oks loop place sides calm calms g.
+        repetition_good u who named numbers at (item_here numbers at.token) variable elems s (largest (map element_levels elems)) l few_elements (place_right variable reading.Whole refl ok place calm)
+        (λ small few. elements_ranged named numbers u who declared elems (scale_of named variable) small oks sides.0 calms few) g;
+    goto = λ at n s. go_good u who at (goal_of (number_of named numbers n)) 0 (λ few. jump_ranged u (number_of named numbers n));
+    switch = λ at n e r s free.
+        let sides = halves_of named numbers u who (uses_of n form.GotoSwitch) (expression_uses e reading.Value) s in
+        go_good u who at (switch_of (number_of named numbers n) (expression_of named numbers e)) (then_levels e)
+        (λ few. switch_ranged u (expression_of named numbers e) (expression_ranged named numbers u who declared e 0 r sides.1.0 free (omega arith) few) (number_of named numbers n));
+    call = λ n es r s free.
+        let calm = (both_free (call_faults named (signature_of named n) n (map (expression named) es)) (arguments_counted es) (counted_keeps es) free).0 in
+        call_statement_good u who n.at (call_of named numbers n es).0 (call_of named numbers n es).1 (largest (map then_levels es)) (λ few. call_ranged named numbers u who declared n es r s.0 calm few);
+    assign = λ r e ok s free.
+        let oks = parts (is_regular_reference r) (is_regular e) ok in
+        let sides = halves_of named numbers u who (reference_uses r reading.Target) (expression_uses e reading.Value) s in
+        let calm = both_free (reference_judged named r) (expression_judged named (scale_of named r) e) (whole_keeps named (scale_of named r) e) free in
+        put_good u who named numbers (ref_position r) r e (place_right r reading.Target refl oks.0 sides.0 calm.0)
+        (λ few small. expression_ranged named numbers u who declared e (scale_of named r) oks.1 sides.1.0 calm.1 small few);
+    bits = λ bits r e ok s free.
+        let oks = parts (is_regular_reference r) (is_regular e) ok in
+        let sides = halves_of named numbers u who (reference_uses r reading.Whole) (expression_uses e reading.Value) s in
+        let both_parts : Judgement = both (reference_judged named r) (expression_judged named 0 e) in
+        let calm = both_free (bits_judged bits) both_parts (keeps_both (place_keeps named r) (whole_keeps named 0 e)) free in
+        let calms = both_free (reference_judged named r) (expression_judged named 0 e) (whole_keeps named 0 e) calm.1 in
+        put_bits_good u who named numbers bits.at (within 255 (place_amount bits.size.first)) (within 255 (place_amount bits.size.second)) r e (bits_are_part bits calm.0)
+        (place_right r reading.Whole refl oks.0 sides.0 calms.0) (λ few. expression_ranged named numbers u who declared e 0 oks.1 sides.1.0 calms.1 (omega arith) few);
+    answer = λ at e r s free.
+        let f : ℕ = fraction_of_kind (kind_of named (answer_name at)) in
+        let sides = halves_of named numbers u who (uses_of (answer_name at) form.Answer) (expression_uses e reading.Value) s in
+        let a = answers_as named numbers u who (answer_name at) sides.0 in
+        answer_good u who named numbers at e f a.1 (λ few. expression_ranged named numbers u who declared e f r sides.1.0 free (name_small (kind_of named (answer_name at))) few);
   }
 
 module _ (named : Named) (sites : List (Row Site)) (numbers : Numbers) (u : SourceUnit) (who : Option ℕ) (declared : DeclarationsInRange named) where

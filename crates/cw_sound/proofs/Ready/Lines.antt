@@ -19,8 +19,9 @@ use Rattle.cw_writable.proofs.Coded.Numbers.{le_true}
 use Rattle.cw_writable.specs.Back.Ready.{all, is_line, lines_step, has_lines}
 use Rattle.cw_sound.specs.Ready.Lined as lined
 use Rattle.cw_sound.specs.Ready.Lined.{is_numbered}
+use Rattle.cw_tree.proofs.Statements.{of_simple}
 use Rattle.cw_sound.proofs.Statements.Folds.{lined_pass, made_pass}
-use Rattle.cw_sound.proofs.Statements.Passes.{whole, layered, rolls, LayersKnown, Rolled, rules_of}
+use Rattle.cw_sound.proofs.Statements.Passes.{whole, layered, rolls, LayersKnown, Rolled, related, related_layers, related_rolls, rules_of}
 use Rattle.cw_sound.proofs.Statements.Layers.{Known, WithStmt, DeclParts, FormParts, SimpleParts, BlockParts, ProcParts, StmtParts, decl_layer, form_layer, simple_layer, block_layer, proc_layer, stmt_layer, Rules, each_block, each_stmt}
 
 -- ---- statements of a unit
@@ -49,38 +50,17 @@ module _ (named : Named) (numbers : Numbers) where
   abbrev Lined : Bool → Stmt → Type 0
   Lined b s = IsTrue b → IsTrue (has_lines s)
 
-  lined_alike : {a b : Bool} {s z : Stmt} → a ≡ b → s ≡ z → Lined b z → Lined a s
-  lined_alike e f h k = subst (λ (x : Stmt). IsTrue (has_lines x)) (sym f) (h (subst IsTrue e k))
+  abbrev LinedAs : Bool → Stmt → Bool → Type 0
+  LinedAs b s again = Lined b s
 
   abbrev known : Known
-  known = record {
-    Decl = λ x. Lined (lined.is_lined_declaration x) ((whole (made_pass named numbers)).decl x);
-    Form = λ x. Lined (lined.is_lined_form x) (made.form_of named numbers x);
-    Simple = λ x. Lined (lined.is_lined_simple x) (made.simple_of named numbers x);
-    Block = λ x. Lined (lined.is_lined_block x) (made.block_of named numbers x);
-    Proc = λ x. Lined (lined.is_lined_procedure x) ((whole (made_pass named numbers)).proc x);
-    Stmt = λ x. Lined (lined.is_lined_statement x) (made.statement_of named numbers x);
-  }
+  known = related LinedAs LinedAs (whole lined_pass) (whole (made_pass named numbers)) (whole lined_pass)
 
   abbrev layers_lined : LayersKnown
-  layers_lined = record {
-    Decl = λ y. Lined ((layered lined_pass).decl y) ((layered (made_pass named numbers)).decl y);
-    Form = λ y. Lined ((layered lined_pass).form y) ((layered (made_pass named numbers)).form y);
-    Simple = λ y. Lined ((layered lined_pass).simple y) ((layered (made_pass named numbers)).simple y);
-    Block = λ y. Lined ((layered lined_pass).block y) ((layered (made_pass named numbers)).block y);
-    Proc = λ y. Lined ((layered lined_pass).proc y) ((layered (made_pass named numbers)).proc y);
-    Stmt = λ y. Lined ((layered lined_pass).stmt y) ((layered (made_pass named numbers)).stmt y);
-  }
+  layers_lined = related_layers LinedAs LinedAs (layered lined_pass) (layered (made_pass named numbers)) (layered lined_pass)
 
   rolled : Rolled known layers_lined
-  rolled = record {
-    decl = λ y. lined_alike ((rolls lined_pass).decl y) ((rolls (made_pass named numbers)).decl y);
-    form = λ y. lined_alike ((rolls lined_pass).form y) ((rolls (made_pass named numbers)).form y);
-    simple = λ y. lined_alike ((rolls lined_pass).simple y) ((rolls (made_pass named numbers)).simple y);
-    block = λ y. lined_alike ((rolls lined_pass).block y) ((rolls (made_pass named numbers)).block y);
-    proc = λ y. lined_alike ((rolls lined_pass).proc y) ((rolls (made_pass named numbers)).proc y);
-    stmt = λ y. lined_alike ((rolls lined_pass).stmt y) ((rolls (made_pass named numbers)).stmt y);
-  }
+  rolled = related_rolls LinedAs LinedAs (rolls lined_pass) (rolls (made_pass named numbers)) (rolls lined_pass)
 
   all_lined : (ts : List (WithStmt known)) → IsTrue (all (map lined.is_lined_statement (map (λ y. y.0) ts))) → IsTrue (all (map has_lines (map (made.statement_of named numbers) (map (λ y. y.0) ts))))
   all_lined [] h = refl
@@ -94,14 +74,14 @@ module _ (named : Named) (numbers : Numbers) where
   form_rule : (y : FormParts known) → layers_lined.Form (form_layer known y)
   form_rule (layer.Simple s) h = s.1 h
   form_rule (layer.If at test labels first None) h =
-      let p = parts (is_numbered at) (lined.is_lined_simple first.0 && true) h in
-      let q = parts (lined.is_lined_simple first.0) true p.1 in
+      let p = parts (is_numbered at) (of_simple lined_pass first.0 && true) h in
+      let q = parts (of_simple lined_pass first.0) true p.1 in
       let a = marked numbers labels (made.simple_of named numbers first.0) in
       lined_from (statement.If (line_of at) (condition_of named numbers test) a (row []))
       (both (is_line (line_of at)) (has_lines a && has_lines (row [])) (numbered at p.0) (both (has_lines a) (has_lines (row [])) (marked_lined numbers labels (made.simple_of named numbers first.0) (first.1 q.0)) empty_lined))
   form_rule (layer.If at test labels first (Some second)) h =
-      let p = parts (is_numbered at) (lined.is_lined_simple first.0 && lined.is_lined_statement second.0) h in
-      let q = parts (lined.is_lined_simple first.0) (lined.is_lined_statement second.0) p.1 in
+      let p = parts (is_numbered at) (of_simple lined_pass first.0 && lined.is_lined_statement second.0) h in
+      let q = parts (of_simple lined_pass first.0) (lined.is_lined_statement second.0) p.1 in
       let a = marked numbers labels (made.simple_of named numbers first.0) in
       let b = made.statement_of named numbers second.0 in
       lined_from (statement.If (line_of at) (condition_of named numbers test) a b)

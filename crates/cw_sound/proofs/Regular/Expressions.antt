@@ -19,64 +19,64 @@ use Rattle.cw_grammar.specs.Rules.{raw_literal, indexed_name, ref_behind, primar
 use Rattle.cw_tokens.specs.TreeTokens as tokens
 use Rattle.cw_sound.specs.Expressions.Regular as regular
 use Rattle.cw_sound.proofs.Expressions.Truth.{both}
-use Rattle.cw_sound.proofs.Regular.Fits.{ExprFits, expr_rolled, CondFits, PrimaryFits, primary_rolled, RefFits, ref_rolled}
+use Rattle.cw_sound.proofs.Regular.Fits.{fitted, expr_rolled, primary_rolled, ref_rolled}
 use Rattle.cw_sound.proofs.Regular.Lists.{all_each}
 use Rattle.cw_sound.proofs.Regular.Operands.{mask_made, union_made, differ_made, term_made, sum_made, expr_made, prim_made, cand_made, cond_made, cmp_made}
 use Rattle.cw_sound.proofs.Regular.Good.{IsByte, Keeps, given_good}
-use Rattle.cw_sound.proofs.Kept.{OfOption, OfEither}
+use Rattle.cw_tokens.proofs.Kept.{OfOption, OfEither}
 use Rattle.cw_macro.specs.Premises.{Each}
 
 -- ---- trees
 
-pub name_fits : (f : RawName) → RefFits (ref_tree.Name f)
-name_fits f = subst RefFits (ref_tree.rolls-Name f) (ref_rolled (layer.Name f) (record { right = refl; some = omega arith }))
+pub name_fits : (f : RawName) → fitted.Ref (ref_tree.Name f)
+name_fits f = subst fitted.Ref (ref_tree.rolls-Name f) (ref_rolled (layer.Name f) (record { right = refl; some = omega arith }))
 
-pub index_fits : (f : RawName) (x : RawExpr) (o : Option RawExpr) → ExprFits x → OfOption ExprFits o → RefFits (indexed_name f x o)
-index_fits f x None h k = subst RefFits (ref_tree.rolls-One f x) (ref_rolled (layer.One f x) (record { right = h.right; some = omega arith }))
-index_fits f x (Some y) h k = subst RefFits (ref_tree.rolls-Two f x y) (ref_rolled (layer.Two f x y) (record { right = both (regular.is_regular x) (regular.is_regular y) h.right k.right; some = omega arith }))
+pub index_fits : (f : RawName) (x : RawExpr) (o : Option RawExpr) → fitted.Expr x → OfOption fitted.Expr o → fitted.Ref (indexed_name f x o)
+index_fits f x None h k = subst fitted.Ref (ref_tree.rolls-One f x) (ref_rolled (layer.One f x) (record { right = h.right; some = omega arith }))
+index_fits f x (Some y) h k = subst fitted.Ref (ref_tree.rolls-Two f x y) (ref_rolled (layer.Two f x y) (record { right = both (regular.is_regular x) (regular.is_regular y) h.right k.right; some = omega arith }))
 
-pub bare_fits : (at : Position) (x : RawExpr) → ExprFits x → RefFits (ref_tree.Bare at x)
-bare_fits at x h = subst RefFits (ref_tree.rolls-Bare at x) (ref_rolled (layer.Bare at x) (record { right = h.right; some = omega arith }))
+pub bare_fits : (at : Position) (x : RawExpr) → fitted.Expr x → fitted.Ref (ref_tree.Bare at x)
+bare_fits at x h = subst fitted.Ref (ref_tree.rolls-Bare at x) (ref_rolled (layer.Bare at x) (record { right = h.right; some = omega arith }))
 
-ref_fits : (f : RawName) (o : Option (Item × (RawExpr × Option RawExpr))) → OfOption (λ x. Unit {0} × (ExprFits x.1.0 × OfOption ExprFits x.1.1)) o → RefFits (ref_behind f o)
+ref_fits : (f : RawName) (o : Option (Item × (RawExpr × Option RawExpr))) → OfOption (λ x. Unit {0} × (fitted.Expr x.1.0 × OfOption fitted.Expr x.1.1)) o → fitted.Ref (ref_behind f o)
 ref_fits f None h = name_fits f
 ref_fits f (Some x) h = index_fits f x.1.0 x.1.1 h.1.0 h.1.1
 
-number_fits : (x : RawNumber) → PrimaryFits (primary_tree.Number x)
-number_fits x = subst PrimaryFits (primary_tree.rolls-Number x) (primary_rolled (layer.Number x) (record { right = refl; some = omega arith }))
+number_fits : (x : RawNumber) → fitted.Primary (primary_tree.Number x)
+number_fits x = subst fitted.Primary (primary_tree.rolls-Number x) (primary_rolled (layer.Number x) (record { right = refl; some = omega arith }))
 
-octal_fits : (x : RawOctal) → PrimaryFits (primary_tree.Octal x)
-octal_fits x = subst PrimaryFits (primary_tree.rolls-Octal x) (primary_rolled (layer.Octal x) (record { right = refl; some = omega arith }))
+octal_fits : (x : RawOctal) → fitted.Primary (primary_tree.Octal x)
+octal_fits x = subst fitted.Primary (primary_tree.rolls-Octal x) (primary_rolled (layer.Octal x) (record { right = refl; some = omega arith }))
 
-literal_fits : (t : Item) → (same t.kind kinds.Literal ≡ true) × IsByte t → PrimaryFits (primary_tree.Literal (raw_literal t))
-literal_fits t h = subst PrimaryFits (primary_tree.rolls-Literal (raw_literal t)) (primary_rolled (layer.Literal (raw_literal t)) (record { right = h.1 h.0; some = omega arith }))
+literal_fits : (t : Item) → (same t.kind kinds.Literal ≡ true) × IsByte t → fitted.Primary (primary_tree.Literal (raw_literal t))
+literal_fits t h = subst fitted.Primary (primary_tree.rolls-Literal (raw_literal t)) (primary_rolled (layer.Literal (raw_literal t)) (record { right = h.1 h.0; some = omega arith }))
 
-text_fits : (t : Item) → PrimaryFits (primary_tree.Text (position t) (characters t.kind t.text))
-text_fits t = subst PrimaryFits (primary_tree.rolls-Text (position t) (characters t.kind t.text)) (primary_rolled (layer.Text (position t) (characters t.kind t.text)) (record { right = refl; some = omega arith }))
+text_fits : (t : Item) → fitted.Primary (primary_tree.Text (position t) (characters t.kind t.text))
+text_fits t = subst fitted.Primary (primary_tree.rolls-Text (position t) (characters t.kind t.text)) (primary_rolled (layer.Text (position t) (characters t.kind t.text)) (record { right = refl; some = omega arith }))
 
-location_fits : (at : Position) (r : RawRef) → RefFits r → PrimaryFits (primary_tree.Location at r)
-location_fits at r h = subst PrimaryFits (primary_tree.rolls-Location at r) (primary_rolled (layer.Location at r) (record { right = h.right; some = omega arith }))
+location_fits : (at : Position) (r : RawRef) → fitted.Ref r → fitted.Primary (primary_tree.Location at r)
+location_fits at r h = subst fitted.Primary (primary_tree.rolls-Location at r) (primary_rolled (layer.Location at r) (record { right = h.right; some = omega arith }))
 
-forced_fits : (t : RawType) (x : RawExpr) → ExprFits x → PrimaryFits (primary_tree.Forced t x)
-forced_fits t x h = subst PrimaryFits (primary_tree.rolls-Forced t x) (primary_rolled (layer.Forced t x) (record { right = h.right; some = omega arith }))
+forced_fits : (t : RawType) (x : RawExpr) → fitted.Expr x → fitted.Primary (primary_tree.Forced t x)
+forced_fits t x h = subst fitted.Primary (primary_tree.rolls-Forced t x) (primary_rolled (layer.Forced t x) (record { right = h.right; some = omega arith }))
 
-bracket_fits : (at : Position) (x : RawExpr) → ExprFits x → PrimaryFits (primary_tree.Bracket at x)
-bracket_fits at x h = subst PrimaryFits (primary_tree.rolls-Bracket at x) (primary_rolled (layer.Bracket at x) (record { right = h.right; some = h.some }))
+bracket_fits : (at : Position) (x : RawExpr) → fitted.Expr x → fitted.Primary (primary_tree.Bracket at x)
+bracket_fits at x h = subst fitted.Primary (primary_tree.rolls-Bracket at x) (primary_rolled (layer.Bracket at x) (record { right = h.right; some = h.some }))
 
-referred_fits : (r : RawRef) → RefFits r → PrimaryFits (primary_tree.Ref r)
-referred_fits r h = subst PrimaryFits (primary_tree.rolls-Ref r) (primary_rolled (layer.Ref r) (record { right = h.right; some = h.some }))
+referred_fits : (r : RawRef) → fitted.Ref r → fitted.Primary (primary_tree.Ref r)
+referred_fits r h = subst fitted.Primary (primary_tree.rolls-Ref r) (primary_rolled (layer.Ref r) (record { right = h.right; some = h.some }))
 
-call_fits : (f : RawName) (xs : List RawExpr) → Each ExprFits xs → PrimaryFits (primary_tree.Call f xs)
-call_fits f xs h = subst PrimaryFits (primary_tree.rolls-Call f xs) (primary_rolled (layer.Call f xs) (record { right = all_each regular.is_regular tokens.expr_tokens xs h; some = omega arith }))
+call_fits : (f : RawName) (xs : List RawExpr) → Each fitted.Expr xs → fitted.Primary (primary_tree.Call f xs)
+call_fits f xs h = subst fitted.Primary (primary_tree.rolls-Call f xs) (primary_rolled (layer.Call f xs) (record { right = all_each regular.is_regular tokens.expr_tokens xs h; some = omega arith }))
 
-primary_fits : (f : RawName) (o : Option (Either (RawExpr × Option RawExpr) (List RawExpr))) → OfOption (OfEither (λ x. ExprFits x.0 × OfOption ExprFits x.1) (Each ExprFits)) o → PrimaryFits (primary_behind f o)
+primary_fits : (f : RawName) (o : Option (Either (RawExpr × Option RawExpr) (List RawExpr))) → OfOption (OfEither (λ x. fitted.Expr x.0 × OfOption fitted.Expr x.1) (Each fitted.Expr)) o → fitted.Primary (primary_behind f o)
 primary_fits f None h = referred_fits (ref_tree.Name f) (name_fits f)
 primary_fits f (Some (left x)) h = referred_fits (indexed_name f x.0 x.1) (index_fits f x.0 x.1 h.0 h.1)
 primary_fits f (Some (right xs)) h = call_fits f xs h
 
-choice_fits : (at : Position) (c : RawCond) (x y : RawExpr) → CondFits c → ExprFits x → ExprFits y → ExprFits (expr_tree.Choice at c x y)
+choice_fits : (at : Position) (c : RawCond) (x y : RawExpr) → fitted.Cond c → fitted.Expr x → fitted.Expr y → fitted.Expr (expr_tree.Choice at c x y)
 choice_fits at c x y h k l =
-    subst ExprFits (expr_tree.rolls-Choice at c x y)
+    subst fitted.Expr (expr_tree.rolls-Choice at c x y)
     (expr_rolled (layer.Choice at c x y) (record { right = both (regular.is_regular_condition c) (regular.is_regular x && regular.is_regular y) h.right (both (regular.is_regular x) (regular.is_regular y) k.right l.right); some = omega arith }))
 
 -- ---- rules
@@ -110,25 +110,14 @@ module _ (m : ℕ) where
   unfolding prim
   prim_keeps = ((tt, primary_keeps), λ x h. prim_made x.0 x.1 (given_good m primary x.1 h.1))
 
-  mask_keeps : Keeps m mask
-  unfolding mask
-  mask_keeps = ((prim_keeps, (tt, prim_keeps)), λ x h. mask_made x.0 x.1 (given_good m prim x.0 h.0) h.1)
-
-  union_keeps : Keeps m union
-  unfolding union
-  union_keeps = ((mask_keeps, (tt, mask_keeps)), λ x h. union_made x.0 x.1 (given_good m mask x.0 h.0) h.1)
-
-  differ_keeps : Keeps m differ
-  unfolding differ
-  differ_keeps = ((union_keeps, (tt, union_keeps)), λ x h. differ_made x.0 x.1 (given_good m union x.0 h.0) h.1)
-
-  term_keeps : Keeps m term
-  unfolding term
-  term_keeps = ((differ_keeps, (tt, differ_keeps)), λ x h. term_made x.0 x.1 (given_good m differ x.0 h.0) h.1)
-
   sum_keeps : Keeps m sum
-  unfolding sum
-  sum_keeps = ((tt, (term_keeps, (tt, term_keeps))), λ x h. sum_made x.0 x.1.0 x.1.1 (given_good m term x.1.0 h.1.0) h.1.1)
+  unfolding mask union differ term sum
+  sum_keeps =
+      let mask_keeps : Keeps m mask = ((prim_keeps, (tt, prim_keeps)), λ x h. mask_made x.0 x.1 (given_good m prim x.0 h.0) h.1) in
+      let union_keeps : Keeps m union = ((mask_keeps, (tt, mask_keeps)), λ x h. union_made x.0 x.1 (given_good m mask x.0 h.0) h.1) in
+      let differ_keeps : Keeps m differ = ((union_keeps, (tt, union_keeps)), λ x h. differ_made x.0 x.1 (given_good m union x.0 h.0) h.1) in
+      let term_keeps : Keeps m term = ((differ_keeps, (tt, differ_keeps)), λ x h. term_made x.0 x.1 (given_good m differ x.0 h.0) h.1) in
+      ((tt, (term_keeps, (tt, term_keeps))), λ x h. sum_made x.0 x.1.0 x.1.1 (given_good m term x.1.0 h.1.0) h.1.1)
 
   cmp_keeps : Keeps m cmp
   unfolding cmp

@@ -4,18 +4,20 @@ use Rattle.std.proofs.Common.{◌≡◌, ℕ, suc, ◌≤◌, true, nat_lt, IsTr
 use Rattle.cw_lex.specs.declared.token.TokenKind.TheVariants as kinds
 use Rattle.cw_lex.specs.declared.token.TokenKind.{TokenKind}
 use Rattle.cw_grammar.specs.Tokens.{Item, same, literal_byte}
-use Rattle.cw_grammar.specs.Grammar.{Sort, an_expr, a_cond, a_cand, a_cmp, a_sum, a_term, a_differ, a_union, a_mask, a_prim, a_primary, a_ref, a_stmt, a_form, a_simple, a_felem, a_block, a_decl, a_raw, Value, Rule, proc_body, Again, Grammar}
+use Rattle.cw_grammar.specs.Grammar.{Sort, a_stmt, a_form, a_simple, a_felem, a_block, a_decl, a_raw, Value, Rule, proc_body, Again, Grammar}
 use Rattle.cw_grammar.specs.Table.{rule, again_rule}
 use Rattle.cw_grammar.specs.Derives.{Derives}
 use Rattle.cw_tokens.specs.TreeTokens.{felem_tokens}
 use Rattle.cw_sound.specs.Statements.Levels.{statement_levels}
 use Rattle.cw_sound.specs.Statements.Regular.{is_regular_element}
 use Rattle.cw_sound.proofs.Trees.Tall.{body_within}
-use Rattle.cw_sound.proofs.Regular.Fits.{Fits, ExprFits, CondFits, CandFits, CmpFits, SumFits, TermFits, DifferFits, UnionFits, MaskFits, PrimFits, PrimaryFits, RefFits}
+use Rattle.cw_sound.proofs.Expressions.Folds.{regular_pass, tokens_pass}
+use Rattle.cw_sound.proofs.Expressions.Passes.{related}
+use Rattle.cw_sound.proofs.Regular.Fits.{Fits}
 use Rattle.cw_sound.proofs.Regular.Smalls.{small}
 use Rattle.cw_macro.specs.Premises.{Each}
 use Rattle.cw_sound.proofs.Kept as kept
-use Rattle.cw_sound.proofs.Kept.{Ask, nothing, holds}
+use Rattle.cw_sound.proofs.Kept.{Ask, nothing, holds, of_expressions, AsItIs}
 
 -- a token that is a byte, where it is a LITERAL
 abbrev pub IsByte : Item → Type 0
@@ -23,27 +25,18 @@ IsByte t = same t.kind kinds.Literal ≡ true → IsTrue (nat_lt (literal_byte t
 
 module _ (m : ℕ) where
   -- what is asked of each sort with expressions
+  abbrev others : (s : Sort) → Ask (Value s)
+  others a_stmt = holds (λ x. (small m).Stmt x)
+  others a_form = holds (λ x. (small m).Form x)
+  others a_simple = holds (λ x. (small m).Simple x)
+  others a_felem = holds (λ x. Fits (is_regular_element x) (felem_tokens x))
+  others a_block = holds (λ x. (small m).Block x)
+  others a_decl = holds (λ x. (small m).Decl x)
+  others a_raw = holds (λ x. (small m).Block x.block)
+  others _ = nothing
+
   abbrev asked : (s : Sort) → Ask (Value s)
-  asked an_expr = holds (λ x. ExprFits x)
-  asked a_cond = holds (λ x. CondFits x)
-  asked a_cand = holds (λ x. CandFits x)
-  asked a_cmp = holds (λ x. CmpFits x)
-  asked a_sum = holds (λ x. SumFits x)
-  asked a_term = holds (λ x. TermFits x)
-  asked a_differ = holds (λ x. DifferFits x)
-  asked a_union = holds (λ x. UnionFits x)
-  asked a_mask = holds (λ x. MaskFits x)
-  asked a_prim = holds (λ x. PrimFits x)
-  asked a_primary = holds (λ x. PrimaryFits x)
-  asked a_ref = holds (λ x. RefFits x)
-  asked a_stmt = holds (λ x. (small m).Stmt x)
-  asked a_form = holds (λ x. (small m).Form x)
-  asked a_simple = holds (λ x. (small m).Simple x)
-  asked a_felem = holds (λ x. Fits (is_regular_element x) (felem_tokens x))
-  asked a_block = holds (λ x. (small m).Block x)
-  asked a_decl = holds (λ x. (small m).Decl x)
-  asked a_raw = holds (λ x. (small m).Block x.block)
-  asked _ = nothing
+  asked = of_expressions (related regular_pass tokens_pass Fits) others
 
   abbrev pub Good : (s : Sort) → Value s → Type 0
   Good s x = kept.Good asked s x
@@ -59,21 +52,18 @@ module _ (m : ℕ) where
   abbrev Opened : (s : Sort) → Rule s → Item → Value s → Type 0
   Opened s r t x = Inside r x
 
-  abbrev Behind : (s : Sort) → Grammar s → Value s → Type 0 → Type 0
-  Behind s g x T = T
-
   abbrev pub Given : {s : Sort} → Grammar s → Value s → Type 0
-  Given g x = kept.Given asked Of Opened Behind g x
+  Given g x = kept.Given asked Of Opened AsItIs g x
 
   abbrev pub Keeps : {s : Sort} → Grammar s → Type 0
-  Keeps g = kept.Keeps asked Of Opened Behind g
+  Keeps g = kept.Keeps asked Of Opened AsItIs g
 
   inside_good : (s : Sort) (r : Rule s) (t : Item) (x : Value s) → Inside r x → Good s x
   inside_good s proc_body t x h = h.0
   inside_good s r t x h = h
 
   pub given_good : {s : Sort} (g : Grammar s) (x : Value s) → Given g x → Good s x
-  given_good g x h = kept.given_good asked Of Opened Behind inside_good g x h
+  given_good g x h = kept.given_good asked Of Opened AsItIs inside_good g x h
 
   inside_of : (n : ℕ) (s : Sort) (r : Rule s) (t : Item) (u : List Item) (x : Value s) → suc n ≤ m → Derives n s (rule r) u x → IsByte t → Good s x → Inside r x
   unfolding rule
@@ -83,7 +73,7 @@ module _ (m : ℕ) where
   -- where each rule keeps it
   module _ (rules : (s : Sort) (r : Rule s) → Keeps (rule r)) (agains : (s : Sort) (a : Again s) → Keeps (again_rule a)) where
     pub given : {n : ℕ} {s : Sort} {g : Grammar s} {u : List Item} {x : Value s} → Derives n s g u x → n ≤ m → Each IsByte u → Keeps g → Given g x
-    given d l b q = kept.given asked Of Opened Behind inside_good IsByte (λ n. n ≤ m) (λ n l. omega (arith, l)) (λ k t e h. (e, h)) inside_of (λ n s g u x T d i. i) rules agains d l b q
+    given d l b q = kept.given asked Of Opened AsItIs inside_good IsByte (λ n. n ≤ m) (λ n l. omega (arith, l)) (λ k t e h. (e, h)) inside_of (λ n s g u x T d i. i) rules agains d l b q
 
     pub good : {n : ℕ} {s : Sort} {g : Grammar s} {u : List Item} {x : Value s} → Derives n s g u x → n ≤ m → Each IsByte u → Keeps g → Good s x
     good {g = g} {x = x} d l b k = given_good g x (given d l b k)

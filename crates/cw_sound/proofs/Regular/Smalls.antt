@@ -10,7 +10,7 @@ use Rattle.cw_sound.specs.Statements.Regular as regular
 use Rattle.cw_macro.specs.Premises.{Each}
 use Rattle.cw_sound.proofs.Statements.Layers.{Known}
 use Rattle.cw_sound.proofs.Statements.Folds.{regular_pass, tokens_pass}
-use Rattle.cw_sound.proofs.Statements.Passes.{layered, rolls, bodies_walk, walked_layer, walk_rolls, LayersKnown, Rolled}
+use Rattle.cw_sound.proofs.Statements.Passes.{whole, layered, rolls, walked, walked_layer, walk_rolls, LayersKnown, Rolled, related, related_layers, related_rolls, bodies_walk}
 
 -- within n levels
 pub record BodyFits (n : ℕ) (b : Body) : Type 0 where
@@ -36,34 +36,13 @@ same {n = n} {is = is} {js = js} {k = k} {bs = bs} e f g h few =
 
 module _ (n : ℕ) where
   abbrev pub small : Known
-  small = record {
-    Decl = λ x. Small n (regular.is_regular_declaration x) (tokens.decl_tokens x) (bodies.declaration_bodies x);
-    Form = λ x. Small n (regular.is_regular_form x) (tokens.form_tokens x) (bodies.form_bodies x);
-    Simple = λ x. Small n (regular.is_regular_simple x) (tokens.simple_tokens x) (bodies.simple_bodies x);
-    Block = λ x. Small n (regular.is_regular_block x) (tokens.block_tokens x) (bodies.block_bodies x);
-    Proc = λ x. Small n (regular.is_regular_procedure x) (tokens.proc_tokens x) (bodies.procedure_bodies x);
-    Stmt = λ x. Small n (regular.is_regular_statement x) (tokens.stmt_tokens x) (bodies.statement_bodies x);
-  }
+  small = related (Small n) (Small n) (whole regular_pass) (whole tokens_pass) (walked bodies_walk)
 
   abbrev pub small_layers : LayersKnown
-  small_layers = record {
-    Decl = λ y. Small n ((layered regular_pass).decl y) ((layered tokens_pass).decl y) ((walked_layer bodies_walk).decl y);
-    Form = λ y. Small n ((layered regular_pass).form y) ((layered tokens_pass).form y) ((walked_layer bodies_walk).form y);
-    Simple = λ y. Small n ((layered regular_pass).simple y) ((layered tokens_pass).simple y) ((walked_layer bodies_walk).simple y);
-    Block = λ y. Small n ((layered regular_pass).block y) ((layered tokens_pass).block y) ((walked_layer bodies_walk).block y);
-    Proc = λ y. Small n ((layered regular_pass).proc y) ((layered tokens_pass).proc y) ((walked_layer bodies_walk).proc y);
-    Stmt = λ y. Small n ((layered regular_pass).stmt y) ((layered tokens_pass).stmt y) ((walked_layer bodies_walk).stmt y);
-  }
+  small_layers = related_layers (Small n) (Small n) (layered regular_pass) (layered tokens_pass) (walked_layer bodies_walk)
 
   pub rolled : Rolled small small_layers
-  rolled = record {
-    decl = λ y h. same (sym ((rolls regular_pass).decl y)) (sym ((rolls tokens_pass).decl y)) (sym ((walk_rolls bodies_walk).decl y)) h;
-    form = λ y h. same (sym ((rolls regular_pass).form y)) (sym ((rolls tokens_pass).form y)) (sym ((walk_rolls bodies_walk).form y)) h;
-    simple = λ y h. same (sym ((rolls regular_pass).simple y)) (sym ((rolls tokens_pass).simple y)) (sym ((walk_rolls bodies_walk).simple y)) h;
-    block = λ y h. same (sym ((rolls regular_pass).block y)) (sym ((rolls tokens_pass).block y)) (sym ((walk_rolls bodies_walk).block y)) h;
-    proc = λ y h. same (sym ((rolls regular_pass).proc y)) (sym ((rolls tokens_pass).proc y)) (sym ((walk_rolls bodies_walk).proc y)) h;
-    stmt = λ y h. same (sym ((rolls regular_pass).stmt y)) (sym ((rolls tokens_pass).stmt y)) (sym ((walk_rolls bodies_walk).stmt y)) h;
-  }
+  rolled = related_rolls (Small n) (Small n) (rolls regular_pass) (rolls tokens_pass) (walk_rolls bodies_walk)
 
   pub stmt_opened : (x : RawStmt) → small.Stmt x → small_layers.Stmt (out-RawStmt x)
   stmt_opened x h =

@@ -30,17 +30,19 @@ use Rattle.cw_grammar.specs.Statements.{simple_behind, jump, block_tree, unnamed
 use Rattle.cw_grammar.specs.Table.{rule, again_rule}
 use Rattle.cw_tokens.specs.TreeTokens as tokens
 use Rattle.cw_tokens.specs.LeastTokens.{separated}
+use Rattle.cw_tree.proofs.Statements.{of_simple}
+use Rattle.cw_sound.proofs.Statements.Folds.{regular_pass}
 use Rattle.cw_sound.specs.Expressions.Regular as expressions
 use Rattle.cw_sound.proofs.Expressions.Truth.{both, lt_true}
 use Rattle.cw_sound.specs.Statements.Bodies as bodies
 use Rattle.cw_sound.specs.Statements.Levels.{statement_levels}
 use Rattle.cw_sound.specs.Statements.Regular as regular
 use Rattle.cw_sound.proofs.Regular.Lists.{all_each, two_each}
-use Rattle.cw_sound.proofs.Regular.Fits.{Fits, ExprFits, CondFits, RefFits}
+use Rattle.cw_sound.proofs.Regular.Fits.{Fits, fitted}
 use Rattle.cw_sound.proofs.Regular.Smalls.{BodyFits, Sound, stmt_opened, small, rolled}
 use Rattle.cw_sound.proofs.Regular.Expressions.{name_fits, index_fits, bare_fits, reference_keeps, condition_keeps, expr_keeps}
 use Rattle.cw_sound.proofs.Regular.Good.{Keeps, given_good}
-use Rattle.cw_sound.proofs.Kept.{OfOption}
+use Rattle.cw_tokens.proofs.Kept.{OfOption}
 use Rattle.cw_macro.specs.Premises.{Each}
 use Rattle.cw_sound.proofs.Items.Lists.{each-append}
 
@@ -49,13 +51,13 @@ use Rattle.cw_sound.proofs.Items.Lists.{each-append}
 abbrev ElementFits : RawFelem → Type 0
 ElementFits x = Fits (regular.is_regular_element x) (tokens.felem_tokens x)
 
-one_fits : (x : RawExpr) → ExprFits x → ElementFits (felem_tree.One x)
+one_fits : (x : RawExpr) → fitted.Expr x → ElementFits (felem_tree.One x)
 one_fits x h = h
 
-while_fits : (x : RawExpr) (c : RawCond) → ExprFits x → CondFits c → ElementFits (felem_tree.While x c)
+while_fits : (x : RawExpr) (c : RawCond) → fitted.Expr x → fitted.Cond c → ElementFits (felem_tree.While x c)
 while_fits x c h k = record { right = both (expressions.is_regular x) (expressions.is_regular_condition c) h.right k.right; some = omega arith }
 
-step_fits : (x y z : RawExpr) → ExprFits x → ExprFits y → ExprFits z → ElementFits (felem_tree.Step x y z)
+step_fits : (x y z : RawExpr) → fitted.Expr x → fitted.Expr y → fitted.Expr z → ElementFits (felem_tree.Step x y z)
 step_fits x y z h k l =
     record { right = both (expressions.is_regular x) (expressions.is_regular y && expressions.is_regular z) h.right (both (expressions.is_regular y) (expressions.is_regular z) k.right l.right); some = omega arith }
 
@@ -68,27 +70,27 @@ module _ (m : ℕ) where
   empty_small : (small m).Simple simple_tree.Empty
   empty_small = subst ((small m).Simple) simple_tree.rolls-Empty ((rolled m).simple layer.Empty (λ few. none_in true refl))
 
-  assign_small : (r : RawRef) (x : RawExpr) → RefFits r → ExprFits x → (small m).Simple (simple_tree.Assign r x)
+  assign_small : (r : RawRef) (x : RawExpr) → fitted.Ref r → fitted.Expr x → (small m).Simple (simple_tree.Assign r x)
   assign_small r x h k =
       subst ((small m).Simple) (simple_tree.rolls-Assign r x)
       ((rolled m).simple (layer.Assign r x) (λ few. none_in (expressions.is_regular_reference r && expressions.is_regular x) (both (expressions.is_regular_reference r) (expressions.is_regular x) h.right k.right)))
 
-  assign_bits_small : (z : RawBits) (r : RawRef) (x : RawExpr) → RefFits r → ExprFits x → (small m).Simple (simple_tree.AssignBits z r x)
+  assign_bits_small : (z : RawBits) (r : RawRef) (x : RawExpr) → fitted.Ref r → fitted.Expr x → (small m).Simple (simple_tree.AssignBits z r x)
   assign_bits_small z r x h k =
       subst ((small m).Simple) (simple_tree.rolls-AssignBits z r x)
       ((rolled m).simple (layer.AssignBits z r x) (λ few. none_in (expressions.is_regular_reference r && expressions.is_regular x) (both (expressions.is_regular_reference r) (expressions.is_regular x) h.right k.right)))
 
-  jump_small : (t : Item) (f : RawName) (o : Option (Item × RawExpr)) → OfOption (λ y. Unit {0} × ExprFits y.1) o → (small m).Simple (jump t f o)
+  jump_small : (t : Item) (f : RawName) (o : Option (Item × RawExpr)) → OfOption (λ y. Unit {0} × fitted.Expr y.1) o → (small m).Simple (jump t f o)
   jump_small t f None h = subst ((small m).Simple) (simple_tree.rolls-Goto (position t) f) ((rolled m).simple (layer.Goto (position t) f) (λ few. none_in true refl))
   jump_small t f (Some y) h =
       subst ((small m).Simple) (simple_tree.rolls-GotoSwitch (position t) f y.1) ((rolled m).simple (layer.GotoSwitch (position t) f y.1) (λ few. none_in (expressions.is_regular y.1) h.1.right))
 
-  call_small : (f : RawName) (xs : List RawExpr) → Each ExprFits xs → (small m).Simple (simple_tree.Call f xs)
+  call_small : (f : RawName) (xs : List RawExpr) → Each fitted.Expr xs → (small m).Simple (simple_tree.Call f xs)
   call_small f xs h =
       subst ((small m).Simple) (simple_tree.rolls-Call f xs)
       ((rolled m).simple (layer.Call f xs) (λ few. none_in (expressions.all (map expressions.is_regular xs)) (all_each expressions.is_regular tokens.expr_tokens xs h)))
 
-  answer_small : (at : Position) (x : RawExpr) → ExprFits x → (small m).Simple (simple_tree.Answer at x)
+  answer_small : (at : Position) (x : RawExpr) → fitted.Expr x → (small m).Simple (simple_tree.Answer at x)
   answer_small at x h = subst ((small m).Simple) (simple_tree.rolls-Answer at x) ((rolled m).simple (layer.Answer at x) (λ few. none_in (expressions.is_regular x) h.right))
 
   block_small : (b : RawBlock) → (small m).Block b → (small m).Simple (simple_tree.Block b)
@@ -97,14 +99,14 @@ module _ (m : ℕ) where
   simple_small : (s : RawSimple) → (small m).Simple s → (small m).Form (form_tree.Simple s)
   simple_small s h = subst ((small m).Form) (form_tree.rolls-Simple s) ((rolled m).form (layer.Simple s) h)
 
-  if_small : (at : Position) (c : RawCond) (ls : List RawName) (s : RawSimple) (o : Option RawStmt) → CondFits c → (small m).Simple s → OfOption (λ y. (small m).Stmt y) o → (small m).Form (form_tree.If at c ls s o)
+  if_small : (at : Position) (c : RawCond) (ls : List RawName) (s : RawSimple) (o : Option RawStmt) → fitted.Cond c → (small m).Simple s → OfOption (λ y. (small m).Stmt y) o → (small m).Form (form_tree.If at c ls s o)
   if_small at c ls s None h k l =
       subst ((small m).Form) (form_tree.rolls-If at c ls s None)
       ((rolled m).form (layer.If at c ls s None) (λ few.
       let count : 2 + (tokens.cond_tokens c + ((2 * length ls + tokens.simple_tokens s) + 0)) ≤ 65535 = few in
       let p = k (omega (arith, count)) in
       record {
-        right = both (expressions.is_regular_condition c) (regular.is_regular_simple s && true) h.right (both (regular.is_regular_simple s) true p.right refl);
+        right = both (expressions.is_regular_condition c) (of_simple regular_pass s && true) h.right (both (of_simple regular_pass s) true p.right refl);
         inner = each-append (BodyFits m) (bodies.simple_bodies s) [] p.inner tt;
       }))
   if_small at c ls s (Some x) h k l =
@@ -114,12 +116,12 @@ module _ (m : ℕ) where
       let p = k (omega (arith, count)) in
       let q = l (omega (arith, count)) in
       record {
-        right = both (expressions.is_regular_condition c) (regular.is_regular_simple s && regular.is_regular_statement x) h.right (both (regular.is_regular_simple s) (regular.is_regular_statement x) p.right q.right);
+        right = both (expressions.is_regular_condition c) (of_simple regular_pass s && regular.is_regular_statement x) h.right (both (of_simple regular_pass s) (regular.is_regular_statement x) p.right q.right);
         inner = each-append (BodyFits m) (bodies.simple_bodies s) (bodies.statement_bodies x) p.inner q.inner;
       }))
 
   -- A FOR has two tokens for each element, and more.
-  for_small : (at : Position) (r : RawRef) (xs : List RawFelem) (s : RawStmt) → RefFits r → Each ElementFits xs → (small m).Stmt s → (small m).Form (form_tree.For at r xs s)
+  for_small : (at : Position) (r : RawRef) (xs : List RawFelem) (s : RawStmt) → fitted.Ref r → Each ElementFits xs → (small m).Stmt s → (small m).Form (form_tree.For at r xs s)
   for_small at r xs s h k l =
       subst ((small m).Form) (form_tree.rolls-For at r xs s)
       ((rolled m).form (layer.For at r xs s) (λ few.

@@ -17,6 +17,7 @@ use Rattle.cw_grammar.specs.Tokens.{symbol_code, word_code, same, first_or_zero,
 use Rattle.cw_grammar.specs.Grammar.{a_raw}
 use Rattle.cw_grammar.specs.Statements.{text}
 use Rattle.cw_grammar.specs.Derives.{Derives}
+use Rattle.cw_tokens.proofs.Codes.{symbol_after, word_after}
 use Rattle.cw_tokens.specs.TreeTokens.{block_tokens, text_tokens}
 use Rattle.cw_sound.proofs.Expressions.Truth.{parts, le_of, lt_true}
 use Rattle.cw_sound.specs.Uses.Mentions.{In}
@@ -31,14 +32,6 @@ use Rattle.cw_sound.proofs.Regular.Statements.{rule_keeps, again_keeps, text_kee
 use Rattle.cw_macro.specs.Premises.{Each}
 
 -- ---- a LITERAL is a byte
-
-symbol_after : (s : Symbol) → 3 < symbol_code s
-symbol_after symbols.Semicolon = omega arith
-symbol_after _ = omega arith
-
-word_after : (w : Word) → 3 < word_code w
-word_after words.Absolute = omega arith
-word_after _ = omega arith
 
 not_three : (n : ℕ) → 3 < n → (n == 3) ≡ true → ⊥
 not_three n h e = grind (arith, nat_tests, h, e)

@@ -21,51 +21,55 @@ use Rattle.cw_tokens.specs.TreeTokens as tokens
 use Rattle.cw_sound.specs.Ready.Lined as lined
 use Rattle.cw_sound.specs.Statements.Levels as levels
 use Rattle.cw_sound.specs.Statements.Regular as regular
+use Rattle.cw_tree.specs.declared.statement.RawDecl.TheOpen.{RawForm-F, RawSimple-F}
+use Rattle.cw_tree.proofs.Statements.{statement_steps}
+use Rattle.cw_sound.specs.Expressions.Gathered.{Gathering}
+use Rattle.cw_sound.specs.Expressions.Levels.{by_largest}
+use Rattle.cw_sound.specs.Expressions.Regular.{by_all}
+use Rattle.cw_sound.specs.Statements.Gathered as gathered
 use Rattle.cw_sound.proofs.Statements.Passes.{Pass}
 
 -- the facts of a tree
 abbrev pub facts_pass : Pass (List Fact) BlockFacts
-facts_pass = record { decl = facts.declaration_step; form = facts.form_step; simple = facts.simple_step; block = facts.block_step; proc = facts.procedure_step; stmt = facts.statement_step }
+facts_pass = statement_steps facts.declaration_step facts.form_step facts.simple_step facts.block_step facts.procedure_step facts.statement_step
 
 -- its things, which are stored
 abbrev pub things_pass : Named → Pass Things Things
-things_pass named = record { decl = things.declaration_step named; form = things.form_step named; simple = things.simple_step named; block = things.block_step named; proc = things.procedure_step named; stmt = things.statement_step named }
+things_pass named = statement_steps (things.declaration_step named) (things.form_step named) (things.simple_step named) (things.block_step named) (things.procedure_step named) (things.statement_step named)
 
 -- what it holds at the start
 abbrev pub rows_pass : Pass Rows Rows
-rows_pass = record { decl = rows.declaration_step; form = rows.form_step; simple = rows.simple_step; block = rows.block_step; proc = rows.procedure_step; stmt = rows.statement_step }
+rows_pass = statement_steps rows.declaration_step rows.form_step rows.simple_step rows.block_step rows.procedure_step rows.statement_step
 
 -- its judgement
 abbrev pub judged_pass : Named → List (Row Site) → Pass Judgement Judgement
-judged_pass named sites = record {
-  decl = judged.declaration_step named sites;
-  form = judged.form_step named sites;
-  simple = judged.simple_step named sites;
-  block = judged.block_step named sites;
-  proc = judged.procedure_step named sites;
-  stmt = judged.statement_step named sites;
-}
+judged_pass named sites = statement_steps (judged.declaration_step named sites) (judged.form_step named sites) (judged.simple_step named sites) (judged.block_step named sites) (judged.procedure_step named sites) (judged.statement_step named sites)
 
 -- what is made of it
 abbrev pub made_pass : Named → Numbers → Pass Stmt Stmt
-made_pass named numbers = record { decl = made.declaration_step named numbers; form = made.form_step named numbers; simple = made.simple_step named numbers; block = made.block_step named numbers; proc = made.procedure_step named numbers; stmt = made.statement_step named numbers }
+made_pass named numbers = statement_steps (made.declaration_step named numbers) (made.form_step named numbers) (made.simple_step named numbers) (made.block_step named numbers) (made.procedure_step named numbers) (made.statement_step named numbers)
 
 -- its switches
 abbrev pub switches_pass : Named → Numbers → Pass Switches Switches
-switches_pass named numbers = record { decl = switches.declaration_step named numbers; form = switches.form_step named numbers; simple = switches.simple_step named numbers; block = switches.block_step named numbers; proc = switches.procedure_step named numbers; stmt = switches.statement_step named numbers }
+switches_pass named numbers = statement_steps (switches.declaration_step named numbers) (switches.form_step named numbers) (switches.simple_step named numbers) (switches.block_step named numbers) (switches.procedure_step named numbers) (switches.statement_step named numbers)
 
 -- the tokens that it counts
 abbrev pub tokens_pass : Pass ℕ ℕ
-tokens_pass = record { decl = tokens.decl_step; form = tokens.form_step; simple = tokens.simple_step; block = tokens.block_step; proc = tokens.proc_step; stmt = tokens.stmt_step }
+tokens_pass = statement_steps tokens.decl_step tokens.form_step tokens.simple_step tokens.block_step tokens.proc_step tokens.stmt_step
+
+-- what is gathered
+module _ {A : Type 0} (g : Gathering A) (form : RawForm-F A A A A A A → A) (simple : RawSimple-F A A A A A A → A) where
+  abbrev pub gathered_pass : Pass A A
+  gathered_pass = statement_steps (gathered.declaration_step g) form simple (gathered.block_step g) (gathered.procedure_step g) (gathered.statement_step g)
 
 -- the levels that it needs
 abbrev pub levels_pass : Pass ℕ ℕ
-levels_pass = record { decl = levels.declaration_step; form = levels.form_step; simple = levels.simple_step; block = levels.block_step; proc = levels.procedure_step; stmt = levels.statement_step }
+levels_pass = gathered_pass by_largest levels.form_step levels.simple_step
 
 -- whether it is regular
 abbrev pub regular_pass : Pass Bool Bool
-regular_pass = record { decl = regular.declaration_step; form = regular.form_step; simple = regular.simple_step; block = regular.block_step; proc = regular.procedure_step; stmt = regular.statement_step }
+regular_pass = gathered_pass by_all regular.form_step regular.simple_step
 
 -- whether its statements have lines
 abbrev pub lined_pass : Pass Bool Bool
-lined_pass = record { decl = lined.declaration_step; form = lined.form_step; simple = lined.simple_step; block = lined.block_step; proc = lined.procedure_step; stmt = lined.statement_step }
+lined_pass = gathered_pass by_all lined.form_step lined.simple_step

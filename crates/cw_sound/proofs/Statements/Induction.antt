@@ -36,12 +36,15 @@ use Rattle.cw_make_stmt.specs.Made as made
 use Rattle.cw_unit.specs.declared.unit.Unit.{Unit as SourceUnit}
 use Rattle.cw_unit.specs.declared.unit.Stmt.{Stmt}
 use Rattle.cw_sound.specs.Expressions.Levels.{largest, then_levels, condition_levels, reference_levels}
-use Rattle.cw_sound.specs.Expressions.Regular.{all, is_regular, is_regular_condition, is_regular_reference}
+use Rattle.cw_sound.specs.Expressions.Levels.{by_largest}
+use Rattle.cw_sound.specs.Statements.Gathered.{gathered_if}
+use Rattle.cw_tree.proofs.Statements.{of_form, of_simple}
+use Rattle.cw_sound.specs.Expressions.Regular.{by_all, all, is_regular, is_regular_condition, is_regular_reference}
 use Rattle.cw_sound.proofs.Expressions.Truth.{parts}
 use Rattle.cw_sound.proofs.Expressions.Judging.{NoFault, keeps_fine}
-use Rattle.cw_sound.specs.Statements.Levels.{element_levels, levels_if}
+use Rattle.cw_sound.specs.Statements.Levels.{element_levels}
 use Rattle.cw_sound.specs.Statements.Levels as levels
-use Rattle.cw_sound.specs.Statements.Regular.{is_regular_element, regular_if}
+use Rattle.cw_sound.specs.Statements.Regular.{is_regular_element}
 use Rattle.cw_sound.specs.Statements.Regular as regular
 use Rattle.cw_sound.proofs.Statements.Keeping.{simple_keeps, statement_keeps}
 use Rattle.cw_sound.proofs.Statements.Halves.{in_unit, if_parts, loop_parts, block_parts, next_parts}
@@ -86,8 +89,8 @@ module _ (named : Named) (sites : List (Row Site)) (numbers : Numbers) (u : Sour
   abbrev known : Known
   known = record {
     Decl = λ x. Unit {0};
-    Form = λ x. So (regular.is_regular_form x) (facts.form_facts x) (judged.form_judged named sites x) (made.form_of named numbers x) (levels.form_levels x);
-    Simple = λ x. So (regular.is_regular_simple x) (facts.simple_facts x) (judged.simple_judged named sites x) (made.simple_of named numbers x) (levels.simple_levels x);
+    Form = λ x. So (of_form regular_pass x) (facts.form_facts x) (judged.form_judged named sites x) (made.form_of named numbers x) (of_form levels_pass x);
+    Simple = λ x. So (of_simple regular_pass x) (facts.simple_facts x) (judged.simple_judged named sites x) (made.simple_of named numbers x) (of_simple levels_pass x);
     Block = λ x. (outermost : Bool) → So (regular.is_regular_block x) (facts.block_facts x outermost) (judged.block_judged named sites x) (made.block_of named numbers x) (levels.block_levels x);
     Proc = λ x. Unit {0};
     Stmt = λ x. So (regular.is_regular_statement x) (facts.statement_facts x) (judged.statement_judged named sites x) (made.statement_of named numbers x) (levels.statement_levels x);
@@ -127,17 +130,17 @@ module _ (named : Named) (sites : List (Row Site)) (numbers : Numbers) (u : Sour
   form_rule : (y : FormParts known) → layers_so.Form (form_layer known y)
   form_rule (layer.Simple x) r s free = x.1 r s free
   form_rule (layer.If at test labels first None) r s free =
-      let oks = parts (is_regular_condition test) (regular.is_regular_simple first.0 && regular_if None) r in
-      let arms = parts (regular.is_regular_simple first.0) (regular_if None) oks.1 in
+      let oks = parts (is_regular_condition test) (of_simple regular_pass first.0 && gathered_if by_all None) r in
+      let arms = parts (of_simple regular_pass first.0) (gathered_if by_all None) oks.1 in
       let p = if_parts named numbers (in_unit named numbers u) who test labels (facts.simple_facts first.0) (facts_if None) (judged.simple_judged named sites first.0) (judged_if None) (simple_keeps named sites first.0) keeps_fine s free in
-      closed.conditional at test (made.marked numbers labels (made.simple_of named numbers first.0)) (row_if None) (levels.simple_levels first.0) (levels_if None) oks.0 p.0 p.1
-      (closed.marked labels (made.simple_of named numbers first.0) (levels.simple_levels first.0) (first.1 arms.0 p.2 p.3)) (closed.row no_statement)
+      closed.conditional at test (made.marked numbers labels (made.simple_of named numbers first.0)) (row_if None) (of_simple levels_pass first.0) (gathered_if by_largest None) oks.0 p.0 p.1
+      (closed.marked labels (made.simple_of named numbers first.0) (of_simple levels_pass first.0) (first.1 arms.0 p.2 p.3)) (closed.row no_statement)
   form_rule (layer.If at test labels first (Some second)) r s free =
-      let oks = parts (is_regular_condition test) (regular.is_regular_simple first.0 && regular_if (Some (regular.is_regular_statement second.0))) r in
-      let arms = parts (regular.is_regular_simple first.0) (regular_if (Some (regular.is_regular_statement second.0))) oks.1 in
+      let oks = parts (is_regular_condition test) (of_simple regular_pass first.0 && gathered_if by_all (Some (regular.is_regular_statement second.0))) r in
+      let arms = parts (of_simple regular_pass first.0) (gathered_if by_all (Some (regular.is_regular_statement second.0))) oks.1 in
       let p = if_parts named numbers (in_unit named numbers u) who test labels (facts.simple_facts first.0) (facts_if (Some (facts.statement_facts second.0))) (judged.simple_judged named sites first.0) (judged_if (Some (judged.statement_judged named sites second.0))) (simple_keeps named sites first.0) (statement_keeps named sites second.0) s free in
-      closed.conditional at test (made.marked numbers labels (made.simple_of named numbers first.0)) (row_if (Some (made.statement_of named numbers second.0))) (levels.simple_levels first.0) (levels_if (Some (levels.statement_levels second.0))) oks.0 p.0 p.1
-      (closed.marked labels (made.simple_of named numbers first.0) (levels.simple_levels first.0) (first.1 arms.0 p.2 p.3)) (second.1 arms.1 p.4 p.5)
+      closed.conditional at test (made.marked numbers labels (made.simple_of named numbers first.0)) (row_if (Some (made.statement_of named numbers second.0))) (of_simple levels_pass first.0) (gathered_if by_largest (Some (levels.statement_levels second.0))) oks.0 p.0 p.1
+      (closed.marked labels (made.simple_of named numbers first.0) (of_simple levels_pass first.0) (first.1 arms.0 p.2 p.3)) (second.1 arms.1 p.4 p.5)
   form_rule (layer.For at variable elems body) r s free =
       let oks = parts (is_regular_reference variable) (nat_lt (length elems) 32767 && (all (map is_regular_element elems) && regular.is_regular_statement body.0)) r in
       let more = parts (nat_lt (length elems) 32767) (all (map is_regular_element elems) && regular.is_regular_statement body.0) oks.1 in
@@ -165,7 +168,7 @@ module _ (named : Named) (sites : List (Row Site)) (numbers : Numbers) (u : Sour
   statement_rule : (y : StmtParts known) → layers_so.Stmt (stmt_layer known y)
   statement_rule y r s free =
       let sides = halves_of named numbers u who (each_declares kind.Label y.labels) (facts.form_facts y.form.0) s in
-      closed.marked y.labels (made.form_of named numbers y.form.0) (levels.form_levels y.form.0) (y.form.1 r sides.1 free)
+      closed.marked y.labels (made.form_of named numbers y.form.0) (of_form levels_pass y.form.0) (y.form.1 r sides.1 free)
 
   rules : Rules known
   rules = rules_of rolled (record { decl = λ y. tt; form = form_rule; simple = simple_rule; block = block_rule; proc = λ y. tt; stmt = statement_rule })

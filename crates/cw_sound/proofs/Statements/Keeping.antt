@@ -23,7 +23,7 @@ use Rattle.cw_judge.specs.Judged.{expression_judged, condition_judged, reference
 use Rattle.cw_sound.proofs.Expressions.Judging.{Keeps, keeps_fine, keeps_both, keeps_bits}
 use Rattle.cw_sound.proofs.Expressions.Keeping.{expression_keeps, condition_keeps, reference_keeps, call_keeps}
 use Rattle.cw_sound.proofs.Items.Keeping.{keeps_declared, keeps_overlaid, keeps_heading, keeps_switch, keeps_few, keeps_few_each}
-use Rattle.cw_sound.proofs.Statements.Passes.{layered, rolls}
+use Rattle.cw_sound.proofs.Statements.Passes.{whole, layered, rolls, related, related_rolls, rules_of}
 use Rattle.cw_sound.proofs.Statements.Folds.{judged_pass}
 use Rattle.cw_sound.proofs.Statements.Layers.{Known, DeclParts, FormParts, SimpleParts, BlockParts, ProcParts, StmtParts, decl_layer, form_layer, simple_layer, block_layer, proc_layer, stmt_layer, Rules, each_decl, each_simple, each_block, each_stmt}
 
@@ -61,26 +61,11 @@ module _ (named : Named) where
   elements_keep f (e ∷ es) = keeps_both (element_keeps f e) (elements_keep f es)
 
   module _ (sites : List (Row Site)) where
-    abbrev DeclarationKeeps : RawDecl → Type 0
-    DeclarationKeeps x = Keeps (declaration_judged named sites x)
-
-    abbrev FormKeeps : RawForm → Type 0
-    FormKeeps x = Keeps (form_judged named sites x)
-
-    abbrev SimpleKeeps : RawSimple → Type 0
-    SimpleKeeps x = Keeps (simple_judged named sites x)
-
-    abbrev BlockKeeps : RawBlock → Type 0
-    BlockKeeps x = Keeps (block_judged named sites x)
-
-    abbrev ProcedureKeeps : RawProc → Type 0
-    ProcedureKeeps x = Keeps (procedure_judged named sites x)
-
-    abbrev StatementKeeps : RawStmt → Type 0
-    StatementKeeps x = Keeps (statement_judged named sites x)
+    abbrev Kept : Judgement → Judgement → Judgement → Type 0
+    Kept j again once_more = Keeps j
 
     abbrev known : Known
-    known = record { Decl = DeclarationKeeps; Form = FormKeeps; Simple = SimpleKeeps; Block = BlockKeeps; Proc = ProcedureKeeps; Stmt = StatementKeeps }
+    known = related Kept Kept (whole (judged_pass named sites)) (whole (judged_pass named sites)) (whole (judged_pass named sites))
 
     parts_keep : (T : Type 0) (j : T → Judgement) (ts : List ((t : T) × Keeps (j t))) → Keeps (all_judged (map j (map (λ y. y.0) ts)))
     parts_keep T j [] = keeps_fine
@@ -120,23 +105,18 @@ module _ (named : Named) where
     statement_rule y = y.form.1
 
     rules : Rules known
-    rules = record {
-      decl = λ y. subst Keeps (sym ((rolls (judged_pass named sites)).decl (decl_layer known y))) (declaration_rule y);
-      form = λ y. subst Keeps (sym ((rolls (judged_pass named sites)).form (form_layer known y))) (form_rule y);
-      simple = λ y. subst Keeps (sym ((rolls (judged_pass named sites)).simple (simple_layer known y))) (simple_rule y);
-      block = λ y. subst Keeps (sym ((rolls (judged_pass named sites)).block (block_layer known y))) (block_rule y);
-      proc = λ y. subst Keeps (sym ((rolls (judged_pass named sites)).proc (proc_layer known y))) (procedure_rule y);
-      stmt = λ y. subst Keeps (sym ((rolls (judged_pass named sites)).stmt (stmt_layer known y))) (statement_rule y);
-    }
+    rules =
+        rules_of (related_rolls Kept Kept (rolls (judged_pass named sites)) (rolls (judged_pass named sites)) (rolls (judged_pass named sites)))
+        (record { decl = declaration_rule; form = form_rule; simple = simple_rule; block = block_rule; proc = procedure_rule; stmt = statement_rule })
 
-    pub statement_keeps : (x : RawStmt) → StatementKeeps x
+    pub statement_keeps : (x : RawStmt) → Keeps (statement_judged named sites x)
     statement_keeps = each_stmt known rules
 
-    pub simple_keeps : (x : RawSimple) → SimpleKeeps x
+    pub simple_keeps : (x : RawSimple) → Keeps (simple_judged named sites x)
     simple_keeps = each_simple known rules
 
-    pub declaration_keeps : (x : RawDecl) → DeclarationKeeps x
+    pub declaration_keeps : (x : RawDecl) → Keeps (declaration_judged named sites x)
     declaration_keeps = each_decl known rules
 
-    pub block_keeps : (x : RawBlock) → BlockKeeps x
+    pub block_keeps : (x : RawBlock) → Keeps (block_judged named sites x)
     block_keeps = each_block known rules

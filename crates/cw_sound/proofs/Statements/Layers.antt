@@ -7,7 +7,7 @@ use Rattle.cw_tree.specs.declared.statement.RawBlock.{RawBlock, roll-RawBlock, m
 use Rattle.cw_tree.specs.declared.statement.RawProc.{RawProc, roll-RawProc, map-RawProc}
 use Rattle.cw_tree.specs.declared.statement.RawStmt.{RawStmt, roll-RawStmt, map-RawStmt}
 use Rattle.cw_tree.specs.declared.statement.RawDecl.TheOpen.{RawForm-F, RawSimple-F, RawBlock-F, RawProc-F, RawStmt-F}
-use Rattle.cw_tree.specs.declared.statement.RawDecl.TheFolds.{ind-RawDecl, ind-RawForm, ind-RawSimple, ind-RawBlock, ind-RawProc, ind-RawStmt}
+use Rattle.cw_tree.specs.declared.statement.RawDecl.TheFolds.{ind-RawDecl, ind-RawSimple, ind-RawBlock, ind-RawStmt}
 
 -- a layer of trees
 
@@ -128,17 +128,11 @@ module _ (known : Known) where
     pub each_decl : (x : RawDecl) → known.Decl x
     each_decl = ind-RawDecl known.Decl known.Form known.Simple known.Block known.Proc known.Stmt decl_up form_up simple_up block_up proc_up stmt_up
 
-    pub each_form : (x : RawForm) → known.Form x
-    each_form = ind-RawForm known.Decl known.Form known.Simple known.Block known.Proc known.Stmt decl_up form_up simple_up block_up proc_up stmt_up
-
     pub each_simple : (x : RawSimple) → known.Simple x
     each_simple = ind-RawSimple known.Decl known.Form known.Simple known.Block known.Proc known.Stmt decl_up form_up simple_up block_up proc_up stmt_up
 
     pub each_block : (x : RawBlock) → known.Block x
     each_block = ind-RawBlock known.Decl known.Form known.Simple known.Block known.Proc known.Stmt decl_up form_up simple_up block_up proc_up stmt_up
-
-    pub each_proc : (x : RawProc) → known.Proc x
-    each_proc = ind-RawProc known.Decl known.Form known.Simple known.Block known.Proc known.Stmt decl_up form_up simple_up block_up proc_up stmt_up
 
     pub each_stmt : (x : RawStmt) → known.Stmt x
     each_stmt = ind-RawStmt known.Decl known.Form known.Simple known.Block known.Proc known.Stmt decl_up form_up simple_up block_up proc_up stmt_up

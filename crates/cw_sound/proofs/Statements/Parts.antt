@@ -54,6 +54,7 @@ use Rattle.cw_sound.proofs.Expressions.Whole.{expression_good, condition_good}
 use Rattle.cw_sound.specs.Statements.Answers.{AnswersStand, AnswersAs}
 use Rattle.cw_sound.specs.Statements.Levels.{element_levels}
 use Rattle.cw_sound.specs.Statements.Regular.{is_regular_element}
+use Rattle.cw_sound.proofs.Statements.Elements.{step_parts}
 use Rattle.cw_sound.proofs.Statements.Keeping.{whole_keeps, test_keeps, elements_keep}
 use Rattle.cw_sound.proofs.Items.Keeping.{keeps_few, keeps_few_each}
 
@@ -196,15 +197,10 @@ module _ (named : Named) (numbers : Numbers) (u : SourceUnit) (who : Option ℕ)
         formed = both (a_formed e) (formed.is_condition (alone u) 0 (at_work who) (condition_of named numbers c)) x.formed t.formed;
       }
   element_fit (felem.Step a b d) f small regular facts free few =
-      let ok = parts (is_regular a) (is_regular b && is_regular d) regular in
-      let oks = parts (is_regular b) (is_regular d) ok.1 in
-      let first = split named numbers u who (expression_uses a reading.Value) (expression_uses b reading.Value ++ expression_uses d reading.Value) facts in
-      let rest = split named numbers u who (expression_uses b reading.Value) (expression_uses d reading.Value) first.1 in
-      let calm = both_free (expression_judged named f a) (judged_both (expression_judged named f b) (expression_judged named f d)) (keeps_both (whole_keeps named f b) (whole_keeps named f d)) free in
-      let calms = both_free (expression_judged named f b) (expression_judged named f d) (whole_keeps named f d) calm.1 in
-      let x = fit_of a f ok.0 first.0 calm.0 small (omega (arith, few)) in
-      let y = fit_of b f oks.0 rest.0 calms.0 small (omega (arith, few)) in
-      let z = fit_of d f oks.1 rest.1 calms.1 small (omega (arith, few)) in
+      let p = step_parts named numbers u who a b d f regular facts free in
+      let x = fit_of a f p.0.regular p.0.facts p.0.free small (omega (arith, few)) in
+      let y = fit_of b f p.1.regular p.1.facts p.1.free small (omega (arith, few)) in
+      let z = fit_of d f p.2.regular p.2.facts p.2.free small (omega (arith, few)) in
       record {
         built = both (an_expression a f most_levels) (an_expression b f most_levels && an_expression d f most_levels) (x.built most_levels (omega (arith, few)) (omega arith))
             (both (an_expression b f most_levels) (an_expression d f most_levels) (y.built most_levels (omega (arith, few)) (omega arith)) (z.built most_levels (omega (arith, few)) (omega arith)));

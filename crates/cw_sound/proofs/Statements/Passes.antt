@@ -1,15 +1,17 @@
 -- A pass over declarations and statements that makes a value of each: what it makes of a first layer.
 use Rattle.std.proofs.Common.{◌≡◌}
-use Rattle.cw_tree.specs.declared.statement.RawDecl.{RawDecl, RawDecl-F, roll-RawDecl, map-RawDecl, fold-RawDecl, fold-roll-RawDecl}
-use Rattle.cw_tree.specs.declared.statement.RawForm.{RawForm, roll-RawForm, map-RawForm, fold-RawForm, fold-roll-RawForm}
-use Rattle.cw_tree.specs.declared.statement.RawSimple.{RawSimple, roll-RawSimple, map-RawSimple, fold-RawSimple, fold-roll-RawSimple}
-use Rattle.cw_tree.specs.declared.statement.RawBlock.{RawBlock, roll-RawBlock, map-RawBlock, fold-RawBlock, fold-roll-RawBlock}
-use Rattle.cw_tree.specs.declared.statement.RawProc.{RawProc, roll-RawProc, map-RawProc, fold-RawProc, fold-roll-RawProc}
-use Rattle.cw_tree.specs.declared.statement.RawStmt.{RawStmt, roll-RawStmt, map-RawStmt, fold-RawStmt, fold-roll-RawStmt}
+use Rattle.cw_tree.specs.declared.statement.RawDecl.{RawDecl, RawDecl-F, roll-RawDecl, map-RawDecl, fold-roll-RawDecl}
+use Rattle.cw_tree.specs.declared.statement.RawForm.{RawForm, roll-RawForm, map-RawForm, fold-roll-RawForm}
+use Rattle.cw_tree.specs.declared.statement.RawSimple.{RawSimple, roll-RawSimple, map-RawSimple, fold-roll-RawSimple}
+use Rattle.cw_tree.specs.declared.statement.RawBlock.{RawBlock, roll-RawBlock, map-RawBlock, fold-roll-RawBlock}
+use Rattle.cw_tree.specs.declared.statement.RawProc.{RawProc, roll-RawProc, map-RawProc, fold-roll-RawProc}
+use Rattle.cw_tree.specs.declared.statement.RawStmt.{RawStmt, roll-RawStmt, map-RawStmt, fold-roll-RawStmt}
 use Rattle.cw_tree.specs.declared.statement.RawDecl.TheOpen.{RawForm-F, RawSimple-F, RawBlock-F, RawProc-F, RawStmt-F}
 use Rattle.cw_tree.specs.declared.statement.RawDecl.TheFolds.{para-RawDecl, para-RawForm, para-RawSimple, para-RawBlock, para-RawProc, para-RawStmt, para-roll-RawDecl, para-roll-RawForm, para-roll-RawSimple, para-roll-RawBlock, para-roll-RawProc, para-roll-RawStmt}
+use Rattle.cw_tree.proofs.Statements.{StatementSteps, of_declaration, of_form, of_simple, of_block, of_procedure, of_statement}
 use Rattle.cw_sound.specs.Statements.Bodies.{Bodies}
 use Rattle.cw_sound.specs.Statements.Bodies as bodies
+use Rattle.cw_sound.proofs.Items.Lists.{moved_three}
 use Rattle.cw_sound.proofs.Statements.Layers.{Known, DeclLayer, FormLayer, SimpleLayer, BlockLayer, ProcLayer, StmtLayer, DeclParts, FormParts, SimpleParts, BlockParts, ProcParts, StmtParts, decl_layer, form_layer, simple_layer, block_layer, proc_layer, stmt_layer, Rules}
 
 -- a value of each tree, a block's of a sort of its own
@@ -41,43 +43,31 @@ pub record Rolls {A B : Type 0} (whole : Whole A B) (layered : Layered A B) : Ty
 
 -- ---- passes that see values alone
 
-pub record Pass (A B : Type 0) : Type 0 where
-  pub decl : RawDecl-F A A A B A A → A
-  pub form : RawForm-F A A A B A A → A
-  pub simple : RawSimple-F A A A B A A → A
-  pub block : RawBlock-F A A A B A A → B
-  pub proc : RawProc-F A A A B A A → A
-  pub stmt : RawStmt-F A A A B A A → A
+abbrev pub Pass : Type 0 → Type 0 → Type 0
+Pass A B = StatementSteps A A A B A A
 
 module _ {A B : Type 0} (pass : Pass A B) where
   abbrev pub whole : Whole A B
-  whole = record {
-    decl = fold-RawDecl A A A B A A pass.decl pass.form pass.simple pass.block pass.proc pass.stmt;
-    form = fold-RawForm A A A B A A pass.decl pass.form pass.simple pass.block pass.proc pass.stmt;
-    simple = fold-RawSimple A A A B A A pass.decl pass.form pass.simple pass.block pass.proc pass.stmt;
-    block = fold-RawBlock A A A B A A pass.decl pass.form pass.simple pass.block pass.proc pass.stmt;
-    proc = fold-RawProc A A A B A A pass.decl pass.form pass.simple pass.block pass.proc pass.stmt;
-    stmt = fold-RawStmt A A A B A A pass.decl pass.form pass.simple pass.block pass.proc pass.stmt;
-  }
+  whole = record { decl = of_declaration pass; form = of_form pass; simple = of_simple pass; block = of_block pass; proc = of_procedure pass; stmt = of_statement pass }
 
   abbrev pub layered : Layered A B
   layered = record {
-    decl = λ y. pass.decl (map-RawDecl RawDecl RawForm RawSimple RawBlock RawProc RawStmt A A A B A A whole.decl whole.form whole.simple whole.block whole.proc whole.stmt y);
+    decl = λ y. pass.declaration (map-RawDecl RawDecl RawForm RawSimple RawBlock RawProc RawStmt A A A B A A whole.decl whole.form whole.simple whole.block whole.proc whole.stmt y);
     form = λ y. pass.form (map-RawForm RawDecl RawForm RawSimple RawBlock RawProc RawStmt A A A B A A whole.decl whole.form whole.simple whole.block whole.proc whole.stmt y);
     simple = λ y. pass.simple (map-RawSimple RawDecl RawForm RawSimple RawBlock RawProc RawStmt A A A B A A whole.decl whole.form whole.simple whole.block whole.proc whole.stmt y);
     block = λ y. pass.block (map-RawBlock RawDecl RawForm RawSimple RawBlock RawProc RawStmt A A A B A A whole.decl whole.form whole.simple whole.block whole.proc whole.stmt y);
-    proc = λ y. pass.proc (map-RawProc RawDecl RawForm RawSimple RawBlock RawProc RawStmt A A A B A A whole.decl whole.form whole.simple whole.block whole.proc whole.stmt y);
-    stmt = λ y. pass.stmt (map-RawStmt RawDecl RawForm RawSimple RawBlock RawProc RawStmt A A A B A A whole.decl whole.form whole.simple whole.block whole.proc whole.stmt y);
+    proc = λ y. pass.procedure (map-RawProc RawDecl RawForm RawSimple RawBlock RawProc RawStmt A A A B A A whole.decl whole.form whole.simple whole.block whole.proc whole.stmt y);
+    stmt = λ y. pass.statement (map-RawStmt RawDecl RawForm RawSimple RawBlock RawProc RawStmt A A A B A A whole.decl whole.form whole.simple whole.block whole.proc whole.stmt y);
   }
 
   pub rolls : Rolls whole layered
   rolls = record {
-    decl = fold-roll-RawDecl A A A B A A pass.decl pass.form pass.simple pass.block pass.proc pass.stmt;
-    form = fold-roll-RawForm A A A B A A pass.decl pass.form pass.simple pass.block pass.proc pass.stmt;
-    simple = fold-roll-RawSimple A A A B A A pass.decl pass.form pass.simple pass.block pass.proc pass.stmt;
-    block = fold-roll-RawBlock A A A B A A pass.decl pass.form pass.simple pass.block pass.proc pass.stmt;
-    proc = fold-roll-RawProc A A A B A A pass.decl pass.form pass.simple pass.block pass.proc pass.stmt;
-    stmt = fold-roll-RawStmt A A A B A A pass.decl pass.form pass.simple pass.block pass.proc pass.stmt;
+    decl = fold-roll-RawDecl A A A B A A pass.declaration pass.form pass.simple pass.block pass.procedure pass.statement;
+    form = fold-roll-RawForm A A A B A A pass.declaration pass.form pass.simple pass.block pass.procedure pass.statement;
+    simple = fold-roll-RawSimple A A A B A A pass.declaration pass.form pass.simple pass.block pass.procedure pass.statement;
+    block = fold-roll-RawBlock A A A B A A pass.declaration pass.form pass.simple pass.block pass.procedure pass.statement;
+    proc = fold-roll-RawProc A A A B A A pass.declaration pass.form pass.simple pass.block pass.procedure pass.statement;
+    stmt = fold-roll-RawStmt A A A B A A pass.declaration pass.form pass.simple pass.block pass.procedure pass.statement;
   }
 
 -- ---- passes that see the trees too
@@ -158,6 +148,39 @@ rules_of {known} rolled rules = record {
   proc = λ y. rolled.proc (proc_layer known y) (rules.proc y);
   stmt = λ y. rolled.stmt (stmt_layer known y) (rules.stmt y);
 }
+
+-- ---- that what three passes make of a tree is so related
+
+module _ {A B C D E F : Type 0} (R : A → C → E → Type 0) (K : B → D → F → Type 0) where
+  abbrev pub related : Whole A B → Whole C D → Whole E F → Known
+  related v w x = record {
+    Decl = λ y. R (v.decl y) (w.decl y) (x.decl y);
+    Form = λ y. R (v.form y) (w.form y) (x.form y);
+    Simple = λ y. R (v.simple y) (w.simple y) (x.simple y);
+    Block = λ y. K (v.block y) (w.block y) (x.block y);
+    Proc = λ y. R (v.proc y) (w.proc y) (x.proc y);
+    Stmt = λ y. R (v.stmt y) (w.stmt y) (x.stmt y);
+  }
+
+  abbrev pub related_layers : Layered A B → Layered C D → Layered E F → LayersKnown
+  related_layers v w x = record {
+    Decl = λ y. R (v.decl y) (w.decl y) (x.decl y);
+    Form = λ y. R (v.form y) (w.form y) (x.form y);
+    Simple = λ y. R (v.simple y) (w.simple y) (x.simple y);
+    Block = λ y. K (v.block y) (w.block y) (x.block y);
+    Proc = λ y. R (v.proc y) (w.proc y) (x.proc y);
+    Stmt = λ y. R (v.stmt y) (w.stmt y) (x.stmt y);
+  }
+
+  pub related_rolls : {v : Whole A B} {w : Whole C D} {x : Whole E F} {l : Layered A B} {m : Layered C D} {n : Layered E F} → Rolls v l → Rolls w m → Rolls x n → Rolled (related v w x) (related_layers l m n)
+  related_rolls p q r = record {
+    decl = λ y. moved_three R (p.decl y) (q.decl y) (r.decl y);
+    form = λ y. moved_three R (p.form y) (q.form y) (r.form y);
+    simple = λ y. moved_three R (p.simple y) (q.simple y) (r.simple y);
+    block = λ y. moved_three K (p.block y) (q.block y) (r.block y);
+    proc = λ y. moved_three R (p.proc y) (q.proc y) (r.proc y);
+    stmt = λ y. moved_three R (p.stmt y) (q.stmt y) (r.stmt y);
+  }
 
 -- ---- the bodies of procedures
 

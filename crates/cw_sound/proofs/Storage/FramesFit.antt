@@ -44,7 +44,7 @@ is_frame home.Frame e = refl
 is_frame _ e = absurd cc
 
 -- what has its home in a frame has no base
-frame_thing : (numbers : Numbers) (t : Thing) (pl ad : Option ℕ) (ob : Option Base) (fr : Option ℕ) → t.base ≡ ob → frame_of t.sort t.owner ≡ fr → home_listed numbers pl ad t ≡ home.Frame
+pub frame_thing : (numbers : Numbers) (t : Thing) (pl ad : Option ℕ) (ob : Option Base) (fr : Option ℕ) → t.base ≡ ob → frame_of t.sort t.owner ≡ fr → home_listed numbers pl ad t ≡ home.Frame
     → (t.base ≡ None) × (f : ℕ) × (frame_of t.sort t.owner ≡ Some f)
 frame_thing numbers t (Some d) ad ob fr e f h = absurd cc
 frame_thing numbers t None (Some a) ob fr e f h = absurd cc

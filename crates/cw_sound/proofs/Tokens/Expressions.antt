@@ -1,5 +1,5 @@
 -- What is made of an expression in normal form has no more tokens than it: by induction over the normal form.
-use Rattle.std.proofs.Common.{ℕ, ◌+◌, ◌≤◌, Bool, List, [], ◌∷◌, Option, Some, None, subst}
+use Rattle.std.proofs.Common.{ℕ, ◌+◌, ◌≤◌, Bool, List, [], ◌∷◌, map, Option, Some, None, subst}
 use Rattle.cw_word.specs.Word.{signed}
 use Rattle.cw_tree.specs.declared.leaf.Position.{Position}
 use Rattle.cw_tree.specs.declared.leaf.RawSign.{RawSign}
@@ -19,7 +19,7 @@ use Rattle.cw_tree.specs.declared.expression.RawTerm.{RawTerm}
 use Rattle.cw_tree.specs.declared.expression.RawUnion.{RawUnion}
 use Rattle.cw_tree.specs.declared.expression.RawExpr.TheOpen as layer
 use Rattle.cw_grammar.specs.Grammar.{Sort, a_pair, a_list, an_expr, a_cond, a_cand, a_cmp, a_sum, a_term, a_differ, a_union, a_mask, a_prim, a_primary, a_ref, Value}
-use Rattle.cw_grammar.specs.Trees.{extended, mask_tree, union_tree, differ_tree, term_tree, cand_tree, cond_tree, sum_tree, more_terms}
+use Rattle.cw_grammar.specs.Trees.{Operands, extended, mask_tree, union_tree, differ_tree, term_tree, cand_tree, cond_tree, sum_tree, more_terms}
 use Rattle.cw_derived.specs.NormalForm as normal
 use Rattle.cw_derived.specs.NormalForm.{IsNormal}
 use Rattle.cw_amount.specs.Amounts.{octal_word}
@@ -29,6 +29,7 @@ use Rattle.cw_make_expr.specs.Nodes.{comparator}
 use Rattle.cw_make_expr.specs.Parts.{Numbers, within, item_here, params_of}
 use Rattle.cw_make_expr.specs.Made.{Made, logic_of, term_of, sum_of, all_of, any_of}
 use Rattle.cw_make_expr.specs.Made as made
+use Rattle.cw_unit.specs.declared.unit.LogicOp.{LogicOp}
 use Rattle.cw_unit.specs.declared.unit.LogicOp.TheVariants as logic_op
 use Rattle.cw_tokens.specs.LeastTokens.{condition_tokens}
 use Rattle.cw_tokens.specs.TreeTokens as tree
@@ -68,20 +69,20 @@ module _ (named : Named) (numbers : Numbers) where
 
   -- ---- operands behind their operators
 
+  -- of a rule of word logic
+  logic : {X : Type 0} (op : LogicOp) (of : X → Made) (counts : X → ℕ) (IsWhole : Operands X Position → Type 0) → ((xs : List X) (os : List Position) → Sized (logic_of op (map of xs)) (between (map counts xs)) → IsWhole (xs, os))
+      → (x : X) (rest : List (Position × X)) → Sized (of x) (counts x) → Each (Position × X) (λ y. Unit {0} × Sized (of y.1) (counts y.1)) rest → IsWhole (extended (x ∷ [], []) rest)
+  logic op of counts IsWhole whole x rest h k =
+      whole (extended (x ∷ [], []) rest).0 (extended (x ∷ [], []) rest).1 (gathered of counts (λ ms ns. Sized (logic_of op ms) (between ns)) (λ y ms ns i j. logic_sized op i j) x rest h k)
+
   masks : (x : RawPrim) (rest : List (Position × RawPrim)) → IsCounted a_prim x → Each (Position × RawPrim) (λ y. Unit {0} × IsCounted a_prim y.1) rest → IsCounted a_mask (mask_tree (extended (x ∷ [], []) rest))
-  masks x rest h k =
-      mask_rolls named numbers (record { operands = (extended (x ∷ [], []) rest).0; operators = (extended (x ∷ [], []) rest).1 })
-      (gathered (made.prim_made named numbers) tree.prim_tokens (λ ms ns. Sized (logic_of logic_op.Mask ms) (between ns)) (λ y ms ns i j. logic_sized logic_op.Mask i j) x rest h k)
+  masks = logic logic_op.Mask (made.prim_made named numbers) tree.prim_tokens (λ ops. IsCounted a_mask (mask_tree ops)) (λ xs os. mask_rolls named numbers (record { operands = xs; operators = os }))
 
   unions : (x : RawMask) (rest : List (Position × RawMask)) → IsCounted a_mask x → Each (Position × RawMask) (λ y. Unit {0} × IsCounted a_mask y.1) rest → IsCounted a_union (union_tree (extended (x ∷ [], []) rest))
-  unions x rest h k =
-      union_rolls named numbers (record { operands = (extended (x ∷ [], []) rest).0; operators = (extended (x ∷ [], []) rest).1 })
-      (gathered (made.mask_made named numbers) tree.mask_tokens (λ ms ns. Sized (logic_of logic_op.Union ms) (between ns)) (λ y ms ns i j. logic_sized logic_op.Union i j) x rest h k)
+  unions = logic logic_op.Union (made.mask_made named numbers) tree.mask_tokens (λ ops. IsCounted a_union (union_tree ops)) (λ xs os. union_rolls named numbers (record { operands = xs; operators = os }))
 
   differs : (x : RawUnion) (rest : List (Position × RawUnion)) → IsCounted a_union x → Each (Position × RawUnion) (λ y. Unit {0} × IsCounted a_union y.1) rest → IsCounted a_differ (differ_tree (extended (x ∷ [], []) rest))
-  differs x rest h k =
-      differ_rolls named numbers (record { operands = (extended (x ∷ [], []) rest).0; operators = (extended (x ∷ [], []) rest).1 })
-      (gathered (made.union_made named numbers) tree.union_tokens (λ ms ns. Sized (logic_of logic_op.Differ ms) (between ns)) (λ y ms ns i j. logic_sized logic_op.Differ i j) x rest h k)
+  differs = logic logic_op.Differ (made.union_made named numbers) tree.union_tokens (λ ops. IsCounted a_differ (differ_tree ops)) (λ xs os. differ_rolls named numbers (record { operands = xs; operators = os }))
 
   terms : (x : RawDiffer) (rest : List (RawFactorSign × RawDiffer)) → IsCounted a_differ x → Each (RawFactorSign × RawDiffer) (λ y. Unit {0} × IsCounted a_differ y.1) rest → IsCounted a_term (term_tree (extended (x ∷ [], []) rest))
   terms x rest h k =

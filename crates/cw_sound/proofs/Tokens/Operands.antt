@@ -1,20 +1,37 @@
 -- Operands of one rule are grouped to the left, with one token for each operator.
-use Rattle.std.proofs.Common.{◌≡◌, ℕ, suc, ◌+◌, ◌*◌, ◌≤◌, Bool, true, false, List, [], ◌∷◌, length, ◌==◌, Option, Some, None, if◌then◌else◌, arith}
+use Rattle.std.proofs.Common.{◌≡◌, ℕ, suc, ◌+◌, ◌*◌, ◌≤◌, Bool, true, false, List, [], ◌∷◌, length, ◌==◌, Option, Some, None, refl, ap, if◌then◌else◌, arith}
 use Rattle.cw_tree.specs.declared.leaf.RawSign.{RawSign}
 use Rattle.cw_tree.specs.declared.leaf.RawFactorSign.{RawFactorSign}
 use Rattle.cw_tree.specs.declared.expression.RawBits.{RawBits}
 use Rattle.cw_amount.specs.Amounts.{place_amount, is_negative}
 use Rattle.cw_make_expr.specs.Parts.{within}
 use Rattle.cw_make_expr.specs.Nodes.{bits, logic, minus, added, multiplied, both, either}
-use Rattle.cw_make_expr.specs.Made.{Made, operand_for, logic_from, logic_of, factors_from, term_of, terms_from, signed_term, is_alone, sum_from, sum_of, bits_around, prim_of, all_from, all_of, any_from, any_of}
+use Rattle.cw_make_expr.specs.Made.{Made, operand_for, handed_if, logic_from, logic_of, factors_from, term_of, terms_from, signed_term, is_alone, sum_from, sum_of, bits_around, prim_of, all_from, all_of, any_from, any_of}
 use Rattle.cw_unit.specs.declared.unit.LogicOp.{LogicOp}
 use Rattle.cw_unit.specs.declared.unit.Cond.{Cond}
 use Rattle.cw_unit.specs.declared.unit.Expr.{Expr}
 use Rattle.cw_unit.specs.declared.unit.Arg.TheOpen as layer
 use Rattle.cw_tokens.specs.LeastTokens.{separated, condition_tokens, expression_tokens}
 use Rattle.cw_tokens.specs.TreeTokens.{between, sign}
+use Rattle.cw_sound.proofs.Expressions.Chains.{Chain, factor_joined, term_joined, factors, terms}
 use Rattle.cw_sound.proofs.Tokens.Nodes.{expression_rolled, condition_rolled, added_tokens, multiplied_tokens, whole_part_if_least}
 use Rattle.cw_sound.proofs.Tokens.Parts.{Sized, Sizes, none, more, SizedTests, no_test, more_tests, handed_if_least}
+
+-- ---- what is made of operands, the first of which is made first
+
+from_sized : (from : Expr → Expr) {x : Made} {n : ℕ} (xs : List Made) (ns : List ℕ) → ((e : Expr) → expression_tokens (from e) ≤ expression_tokens e + separated ns) → Sized x n
+    → Sized (record { made = λ operand. from (x.made (operand_for (length xs == 0) operand)); handed = handed_if (length xs == 0) x.handed }) (between (n ∷ ns))
+from_sized from {x = x} {n = n} xs ns least h =
+    let s = h.some in
+    let t = h.handed in
+    record {
+      some = omega (arith, s);
+      made = λ operand.
+          let a = least (x.made (operand_for (length xs == 0) operand)) in
+          let b = h.made (operand_for (length xs == 0) operand) in
+          omega (arith, a, b);
+      handed = handed_if_least (length xs == 0) x.handed (n + separated ns) (omega (arith, s)) (omega (arith, t));
+    }
 
 -- ---- word logic
 
@@ -27,52 +44,33 @@ logic_from_least op e (more {m = x} {n = n} {ms = xs} {ns = ns} h k) =
     omega (arith, a, b, c)
 
 pub logic_sized : (op : LogicOp) {x : Made} {n : ℕ} {xs : List Made} {ns : List ℕ} → Sized x n → Sizes xs ns → Sized (logic_of op (x ∷ xs)) (between (n ∷ ns))
-logic_sized op {x = x} {n = n} {xs = xs} {ns = ns} h k =
-    let s = h.some in
-    let t = h.handed in
-    record {
-      some = omega (arith, s);
-      made = λ operand.
-          let a = logic_from_least op (x.made (operand_for (length xs == 0) operand)) k in
-          let b = h.made (operand_for (length xs == 0) operand) in
-          omega (arith, a, b);
-      handed = handed_if_least (length xs == 0) x.handed (n + separated ns) (omega (arith, s)) (omega (arith, t));
-    }
+logic_sized op {xs = xs} {ns = ns} h k = from_sized (λ e. logic_from op e xs) xs ns (λ e. logic_from_least op e k) h
+
+-- ---- a chain of operands and operators
+
+chain_least : {S : Type 0} {from : Expr → List Made → List S → Expr} {joined : S → Expr → Made → Expr} → Chain from joined
+    → ((s : S) (e : Expr) (x : Made) (n : ℕ) → Sized x n → expression_tokens (joined s e x) ≤ suc (expression_tokens e + n))
+    → (e : Expr) {xs : List Made} {ns : List ℕ} (signs : List S) → Sizes xs ns → expression_tokens (from e xs signs) ≤ expression_tokens e + separated ns
+chain_least c least e signs none = let a = ap expression_tokens (c.no_operand e signs) in omega (arith, a)
+chain_least c least e [] (more {m = x} {ms = xs} h k) = let a = ap expression_tokens (c.no_operator e x xs) in omega (arith, a)
+chain_least {joined = joined} c least e (s ∷ signs) (more {m = x} {n = n} {ms = xs} h k) =
+    let a = ap expression_tokens (c.one_more e x xs s signs) in
+    let b = chain_least c least (joined s e x) signs k in
+    let d = least s e x n h in
+    omega (arith, a, b, d)
 
 -- ---- factors
 
-factors_from_least : (e : Expr) {xs : List Made} {ns : List ℕ} (signs : List RawFactorSign) → Sizes xs ns → expression_tokens (factors_from e xs signs) ≤ expression_tokens e + separated ns
-factors_from_least e signs none = omega arith
-factors_from_least e [] (more h k) = omega arith
-factors_from_least e (s ∷ signs) (more {m = x} h k) =
-    let a = factors_from_least (multiplied s.op e (x.made true)) signs k in
-    let b = multiplied_tokens s.op e (x.made true) in
-    let c = h.made true in
-    omega (arith, a, b, c)
+factor_least : (s : RawFactorSign) (e : Expr) (x : Made) (n : ℕ) → Sized x n → expression_tokens (factor_joined s e x) ≤ suc (expression_tokens e + n)
+factor_least s e x n h = let a = multiplied_tokens s.op e (x.made true) in let b = h.made true in omega (arith, a, b)
 
 pub term_sized : (signs : List RawFactorSign) {x : Made} {n : ℕ} {xs : List Made} {ns : List ℕ} → Sized x n → Sizes xs ns → Sized (term_of (x ∷ xs) signs) (between (n ∷ ns))
-term_sized signs {x = x} {n = n} {xs = xs} {ns = ns} h k =
-    let s = h.some in
-    let t = h.handed in
-    record {
-      some = omega (arith, s);
-      made = λ operand.
-          let a = factors_from_least (x.made (operand_for (length xs == 0) operand)) signs k in
-          let b = h.made (operand_for (length xs == 0) operand) in
-          omega (arith, a, b);
-      handed = handed_if_least (length xs == 0) x.handed (n + separated ns) (omega (arith, s)) (omega (arith, t));
-    }
+term_sized signs {xs = xs} {ns = ns} h k = from_sized (λ e. factors_from e xs signs) xs ns (λ e. chain_least factors factor_least e signs k) h
 
 -- ---- terms, the first with its sign
 
-terms_from_least : (e : Expr) {xs : List Made} {ns : List ℕ} (signs : List RawSign) → Sizes xs ns → expression_tokens (terms_from e xs signs) ≤ expression_tokens e + separated ns
-terms_from_least e signs none = omega arith
-terms_from_least e [] (more h k) = omega arith
-terms_from_least e (s ∷ signs) (more {m = x} h k) =
-    let a = terms_from_least (added s.op e (x.made false)) signs k in
-    let b = added_tokens s.op e (x.made false) in
-    let c = h.made false in
-    omega (arith, a, b, c)
+term_least : (s : RawSign) (e : Expr) (x : Made) (n : ℕ) → Sized x n → expression_tokens (term_joined s e x) ≤ suc (expression_tokens e + n)
+term_least s e x n h = let a = added_tokens s.op e (x.made false) in let b = h.made false in omega (arith, a, b)
 
 minus_if_least : (b : Bool) (e : Expr) → expression_tokens (if b then minus e else e) ≤ suc (expression_tokens e)
 minus_if_least true e = let a : expression_tokens (minus e) ≡ suc (expression_tokens e) = expression_rolled (layer.Minus e) in omega (arith, a)
@@ -86,7 +84,7 @@ sum_from_least : (alone operand : Bool) (o : Option RawSign) (signs : List RawSi
 sum_from_least true operand o signs h k = let a = h.made operand in omega (arith, a)
 sum_from_least false operand o signs {x = x} {xs = xs} h k =
     let a = whole_part_if_least operand (terms_from (signed_term o (x.made false)) xs signs) in
-    let b = terms_from_least (signed_term o (x.made false)) signs k in
+    let b = chain_least terms term_least (signed_term o (x.made false)) signs k in
     let c = signed_term_least o (x.made false) in
     let d = h.made false in
     omega (arith, a, b, c, d)
@@ -127,22 +125,15 @@ prim_sized bs {x = x} {n = n} h =
 
 -- ---- conditions
 
-all_from_least : (c : Cond) {cs : List Cond} {ns : List ℕ} → SizedTests cs ns → condition_tokens (all_from c cs) ≤ condition_tokens c + separated ns
-all_from_least c no_test = omega arith
-all_from_least c (more_tests {c = d} h k) =
-    let a = all_from_least (both c d) k in
-    let b : condition_tokens (both c d) ≡ suc (condition_tokens c + condition_tokens d) = condition_rolled (layer.And c d) in
-    omega (arith, a, b, h)
+joined_least : (join : Cond → Cond → Cond) (from : Cond → List Cond → Cond) → ((c d : Cond) → condition_tokens (join c d) ≡ suc (condition_tokens c + condition_tokens d)) → ((c : Cond) → from c [] ≡ c)
+    → ((c d : Cond) (ds : List Cond) → from c (d ∷ ds) ≡ from (join c d) ds) → (c : Cond) {cs : List Cond} {ns : List ℕ} → SizedTests cs ns → condition_tokens (from c cs) ≤ condition_tokens c + separated ns
+joined_least join from joins alone next c no_test = omega (arith, ap condition_tokens (alone c))
+joined_least join from joins alone next c (more_tests {c = d} {cs = ds} h k) =
+    let a = joined_least join from joins alone next (join c d) k in
+    omega (arith, ap condition_tokens (next c d ds), a, joins c d, h)
 
 pub all_sized : (c : Cond) {n : ℕ} {cs : List Cond} {ns : List ℕ} → condition_tokens c ≤ n → SizedTests cs ns → condition_tokens (all_of (c ∷ cs)) ≤ between (n ∷ ns)
-all_sized c h k = let a = all_from_least c k in omega (arith, a, h)
-
-any_from_least : (c : Cond) {cs : List Cond} {ns : List ℕ} → SizedTests cs ns → condition_tokens (any_from c cs) ≤ condition_tokens c + separated ns
-any_from_least c no_test = omega arith
-any_from_least c (more_tests {c = d} h k) =
-    let a = any_from_least (either c d) k in
-    let b : condition_tokens (either c d) ≡ suc (condition_tokens c + condition_tokens d) = condition_rolled (layer.Or c d) in
-    omega (arith, a, b, h)
+all_sized c h k = let a = joined_least both all_from (λ c d. condition_rolled (layer.And c d)) (λ c. refl) (λ c d ds. refl) c k in omega (arith, a, h)
 
 pub any_sized : (c : Cond) {n : ℕ} {cs : List Cond} {ns : List ℕ} → condition_tokens c ≤ n → SizedTests cs ns → condition_tokens (any_of (c ∷ cs)) ≤ between (n ∷ ns)
-any_sized c h k = let a = any_from_least c k in omega (arith, a, h)
+any_sized c h k = let a = joined_least either any_from (λ c d. condition_rolled (layer.Or c d)) (λ c. refl) (λ c d ds. refl) c k in omega (arith, a, h)

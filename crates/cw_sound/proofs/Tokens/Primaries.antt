@@ -107,10 +107,7 @@ separated_least (p ∷ params) (more h k) =
 pub arguments_least : {ms : List Made} {ns : List ℕ} (params : List RawPs) → Sizes ms ns → arguments (map argument_tokens (arguments_for ms params)) ≤ arguments ns
 arguments_least params none = omega arith
 arguments_least [] (more h k) = omega arith
-arguments_least (p ∷ params) (more h k) =
-    let a = argument_least p h in
-    let b = separated_least params k in
-    omega (arith, a, b)
+arguments_least (p ∷ params) (more h k) = let a = separated_least (p ∷ params) (more h k) in omega (arith, a)
 
 pub call_sized : (t : Target) (params : List RawPs) {ms : List Made} {ns : List ℕ} → Sizes ms ns → Sized (simply (call t (arguments_for ms params))) (suc (arguments ns))
 call_sized t params {ms = ms} {ns = ns} h =

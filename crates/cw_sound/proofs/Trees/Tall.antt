@@ -18,34 +18,10 @@ use Rattle.cw_sound.specs.Expressions.Levels as levels
 use Rattle.cw_sound.specs.Expressions.Levels.{largest}
 use Rattle.cw_sound.specs.Statements.Levels as statement_levels
 use Rattle.cw_sound.specs.Statements.Levels.{element_levels, block_levels}
+use Rattle.cw_sound.proofs.Expressions.Folds.{levels_pass}
+use Rattle.cw_sound.proofs.Statements.Folds.{levels_pass as statement_levels_pass}
 use Rattle.cw_sound.proofs.Trees.Many.{Many, none, more}
-use Rattle.cw_sound.proofs.Trees.Trees.{Steps, StatementSteps, Closed, StatementsClosed, Element, one, while, step, holds}
-
-abbrev steps : Steps ℕ
-steps = record {
-  expression = levels.expression_step;
-  primary = levels.primary_step;
-  reference = levels.reference_step;
-  conjunction = levels.conjunction_step;
-  comparison = levels.comparison_step;
-  condition = levels.condition_step;
-  differ = levels.differ_step;
-  mask = levels.mask_step;
-  prim = levels.prim_step;
-  sum = levels.sum_step;
-  term = levels.term_step;
-  union = levels.union_step;
-}
-
-abbrev statement_steps : StatementSteps ℕ ℕ
-statement_steps = record {
-  declaration = statement_levels.declaration_step;
-  form = statement_levels.form_step;
-  simple = statement_levels.simple_step;
-  block = statement_levels.block_step;
-  procedure = statement_levels.procedure_step;
-  statement = statement_levels.statement_step;
-}
+use Rattle.cw_sound.proofs.Trees.Trees.{Closed, StatementsClosed, Element, one, while, step, holds}
 
 abbrev Within : ℕ → ℕ → List ℕ → Type 0
 Within n c a = c ≤ n
@@ -66,7 +42,7 @@ many_within : {n : ℕ} {cs a : List ℕ} → Many ℕ (Within n) cs a → large
 many_within none = omega arith
 many_within {n = n} (more {x = c} {xs = cs} h k) = both_within n c (largest cs) h (many_within k)
 
-expressions : Closed ℕ steps Within
+expressions : Closed ℕ levels_pass Within
 expressions = record {
   wider = λ w h. h;
   deeper = λ h. one_more h;
@@ -96,12 +72,12 @@ expressions = record {
   choice = λ at h k l. three_within _ _ _ _ (one_more h) (omega (arith, k)) (one_more l);
 }
 
-element_within : {n : ℕ} {x : RawFelem} {a : List ℕ} → Element ℕ steps (Within n) x a → element_levels x ≤ suc n
+element_within : {n : ℕ} {x : RawFelem} {a : List ℕ} → Element ℕ levels_pass (Within n) x a → element_levels x ≤ suc n
 element_within (one h) = omega (arith, h)
 element_within (while h k) = both_within _ _ _ (one_more h) (one_more k)
 element_within (step h k l) = three_within _ _ _ _ (one_more h) (one_more k) (one_more l)
 
-elements_within : {n : ℕ} {xs : List RawFelem} {a : List ℕ} → Many RawFelem (Element ℕ steps (Within n)) xs a → largest (map element_levels xs) ≤ suc n
+elements_within : {n : ℕ} {xs : List RawFelem} {a : List ℕ} → Many RawFelem (Element ℕ levels_pass (Within n)) xs a → largest (map element_levels xs) ≤ suc n
 elements_within none = omega arith
 elements_within {n = n} (more {x = x} {xs = xs} h k) = both_within (suc n) (element_levels x) (largest (map element_levels xs)) (element_within h) (elements_within k)
 
@@ -112,7 +88,7 @@ arguments_within {n = n} (more {x = x} {xs = xs} h k) = both_within n (levels.th
 for_within : (n r e b : ℕ) → r ≤ n → e ≤ suc n → b ≤ n → max r (max e (max 1 b)) ≤ suc n
 for_within n r e b h k l = three_within (suc n) r e (max 1 b) (one_more h) k (both_within (suc n) 1 b (omega arith) (one_more l))
 
-statements : StatementsClosed ℕ steps Within ℕ ℕ statement_steps StatementWithin StatementWithin
+statements : StatementsClosed ℕ levels_pass Within ℕ ℕ statement_levels_pass StatementWithin StatementWithin
 statements = record {
   wider = λ w h. h;
   deeper = λ h. one_more h;
@@ -139,11 +115,11 @@ statements = record {
 }
 
 raw_within : {n : ℕ} {x : Raw} {a : List ℕ} → IsNormal n false a_raw x a → block_levels x.block ≤ n
-raw_within (normal.is_raw f tokens h e k) = holds ℕ steps Within ℕ ℕ statement_steps StatementWithin StatementWithin expressions statements k
+raw_within (normal.is_raw f tokens h e k) = holds ℕ levels_pass Within ℕ ℕ statement_levels_pass StatementWithin StatementWithin expressions statements k
 
 pub within_levels : (n : ℕ) (ts : List Lexeme) (raw : Raw) → Derives n a_raw text (numbered 1 ts) raw → block_levels raw.block ≤ n
 within_levels n ts raw d = raw_within (derived_normal false text_normal d).normal
 
 -- so does the body of a procedure
 pub body_within : {n : ℕ} {u : List Item} {x : RawStmt} → Derives n a_stmt (again (labelled true)) u x → statement_levels.statement_levels x ≤ n
-body_within d = holds ℕ steps Within ℕ ℕ statement_steps StatementWithin StatementWithin expressions statements (derived_normal true (stmt_again true) d).normal
+body_within d = holds ℕ levels_pass Within ℕ ℕ statement_levels_pass StatementWithin StatementWithin expressions statements (derived_normal true (stmt_again true) d).normal

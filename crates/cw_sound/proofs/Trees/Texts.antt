@@ -23,36 +23,12 @@ use Rattle.cw_grammar.specs.Grammar.{a_list, an_option, a_name, a_type, a_param,
 use Rattle.cw_derived.specs.NormalForm as normal
 use Rattle.cw_derived.specs.NormalForm.{IsNormal}
 use Rattle.cw_derived.proofs.Withins.{all_within, front}
+use Rattle.cw_sound.proofs.Expressions.Folds.{uses_pass}
+use Rattle.cw_sound.proofs.Statements.Folds.{facts_pass}
 use Rattle.cw_sound.proofs.Trees.Many.{Many, none, more}
-use Rattle.cw_sound.proofs.Trees.Trees.{Steps, StatementSteps, Closed, StatementsClosed, Element, one, while, step, holds}
+use Rattle.cw_sound.proofs.Trees.Trees.{Closed, StatementsClosed, Element, one, while, step, holds}
 use Rattle.cw_sound.proofs.Trees.Said.{Said, nothing, widened, together, uses_said, loop_said, text_said, block_said, procedure_said}
 use Rattle.cw_sound.proofs.Trees.Leaves.{name_said, names_said, listed_said, data_said, base_said, parameters_said, answers_core, answers_places, communicators_said, proc_said}
-
-abbrev steps : Steps Uses
-steps = record {
-  expression = uses.expression_step;
-  primary = uses.primary_step;
-  reference = uses.reference_step;
-  conjunction = uses.conjunction_step;
-  comparison = uses.comparison_step;
-  condition = uses.condition_step;
-  differ = uses.differ_step;
-  mask = uses.mask_step;
-  prim = uses.prim_step;
-  sum = uses.sum_step;
-  term = uses.term_step;
-  union = uses.union_step;
-}
-
-abbrev statement_steps : StatementSteps (List Fact) BlockFacts
-statement_steps = record {
-  declaration = facts.declaration_step;
-  form = facts.form_step;
-  simple = facts.simple_step;
-  block = facts.block_step;
-  procedure = facts.procedure_step;
-  statement = facts.statement_step;
-}
 
 abbrev Speaks : Uses → List ℕ → Type 0
 Speaks u a = (r : Reading) (i : Bool) → Said i (u r) a
@@ -70,7 +46,7 @@ each_said : {us : List Uses} {a : List ℕ} (r : Reading) (i : Bool) → Many Us
 each_said r i none = nothing i []
 each_said r i (more h k) = together (h r i) (each_said r i k)
 
-expressions : Closed Uses steps Says
+expressions : Closed Uses uses_pass Says
 expressions = record {
   wider = λ w h r i. widened w (h r i);
   deeper = λ h. h;
@@ -100,12 +76,12 @@ expressions = record {
   choice = λ at h k l r i. together (h reading.Value i) (together (k reading.Value i) (l reading.Value i));
 }
 
-element_says : {x : RawFelem} {a : List ℕ} (i : Bool) → Element Uses steps Speaks x a → Said i (felem_facts x) a
+element_says : {x : RawFelem} {a : List ℕ} (i : Bool) → Element Uses uses_pass Speaks x a → Said i (felem_facts x) a
 element_says i (one h) = h reading.Value i
 element_says i (while h k) = together (h reading.Value i) (k reading.Value i)
 element_says i (step h k l) = together (h reading.Value i) (together (k reading.Value i) (l reading.Value i))
 
-elements_say : {xs : List RawFelem} {a : List ℕ} (i : Bool) → Many RawFelem (Element Uses steps Speaks) xs a → Said i (felems_facts xs) a
+elements_say : {xs : List RawFelem} {a : List ℕ} (i : Bool) → Many RawFelem (Element Uses uses_pass Speaks) xs a → Said i (felems_facts xs) a
 elements_say i none = nothing i []
 elements_say i (more h k) = together (element_says i h) (elements_say i k)
 
@@ -133,7 +109,7 @@ procedure_says : {n : ℕ} {o : Option RawType} {f : RawName} {xs : List RawPara
 procedure_says {o = o} {f = f} {xs = xs} b t h k l =
     procedure_said f.at.token b (proc_said false (kind.Proc o) o (flattened xs) h) (answers_core true o) (answers_places t) (together (parameters_said true k) l)
 
-statements : StatementsClosed Uses steps Says (List Fact) BlockFacts statement_steps StatementSays BlockSays
+statements : StatementsClosed Uses uses_pass Says (List Fact) BlockFacts facts_pass StatementSays BlockSays
 statements = record {
   wider = λ w h. widened w h;
   deeper = λ h. h;
@@ -160,7 +136,7 @@ statements = record {
 }
 
 pub block_says : {n : ℕ} {p : Bool} {x : RawBlock} {a : List ℕ} → IsNormal n p a_block x a → (outermost : Bool) → Said p (block_facts x outermost) a
-block_says h = holds Uses steps Says (List Fact) BlockFacts statement_steps StatementSays BlockSays expressions statements h
+block_says h = holds Uses uses_pass Says (List Fact) BlockFacts facts_pass StatementSays BlockSays expressions statements h
 
 pub raw_says : {n : ℕ} {x : Raw} {a : List ℕ} → IsNormal n false a_raw x a → Said false (text_facts x) a
 raw_says (normal.is_raw f tokens {a = a} {b = b} h e k) =

@@ -5,8 +5,7 @@ use Rattle.std.specs.declared.result.Result.TheVariants.{Ok}
 use Rattle.std.proofs.lemmas.List.Elements.{All-head, All-tail}
 use Rattle.cw_table.specs.declared.table.Row.{Row}
 use Rattle.cw_table.specs.Rows.{item_at}
-use Rattle.cw_facts.specs.declared.fact.Fact.{Fact, Fact-F, map-Fact, roll-Fact}
-use Rattle.cw_facts.specs.declared.fact.Fact.TheFolds.{fold-roll-Fact, ind-Fact}
+use Rattle.cw_facts.specs.declared.fact.Fact.{Fact, Fact-F, map-Fact}
 use Rattle.cw_facts.specs.declared.fact.Fact.TheOpen as layer
 use Rattle.cw_facts.specs.declared.fact.Declaration.{Declaration}
 use Rattle.cw_facts.specs.declared.fact.Kind.{Kind}
@@ -23,6 +22,7 @@ use Rattle.cw_sound.specs.Uses.Mentions.{In, Mention, Here, here, declares, uses
 use Rattle.cw_sound.specs.Names.Standing as names
 use Rattle.cw_sound.specs.Names.Standing.{is_item, IsItemFrom}
 use Rattle.cw_sound.proofs.Names.Lists.{in_left, in_right}
+use Rattle.cw_sound.proofs.Names.FactFolds.{RelatedLayer, each_related}
 use Rattle.cw_sound.proofs.Names.Rows.{row, in_rows, facts_rows}
 use Rattle.cw_sound.specs.Items.Bodies.{Stored, AllStored, stored_at, declared_stored, is_other, stored_step, fact_stored, facts_stored}
 use Rattle.cw_sound.specs.Items.Items.{ItemsStand, IsThere}
@@ -63,17 +63,13 @@ module _ (numbers : Numbers) where
   all_have [] who = refl
   all_have (e ∷ es) who = stored_append (fact_mentions numbers e.0 who) (facts_mentions numbers (map (λ z. z.0) es) who) ∙ ap₂ (λ a b. a ++ b) (e.1 who) (all_have es who)
 
-  have_stored : (y : Fact-F ((f : Fact) × FactHas f)) → let x : Fact-F Fact = map-Fact ((f : Fact) × FactHas f) Fact (λ e. e.0) y in HasStored (mentions_step numbers (map-Fact Fact Mentions (fact_mentions numbers) x)) (stored_step numbers (map-Fact Fact AllStored (fact_stored numbers) x))
+  have_stored : (y : Fact-F ((f : Fact) × FactHas f)) → RelatedLayer (mentions_step numbers) (stored_step numbers) HasStored (map-Fact ((f : Fact) × FactHas f) Fact (λ e. e.0) y)
   have_stored (layer.Declares d) who = append-nil (declared_stored d.kind d.name.at.token who)
   have_stored (layer.Block owner es) who = all_have es (proc_within numbers owner who)
   have_stored _ who = refl
 
   fact_has : (f : Fact) → FactHas f
-  fact_has = ind-Fact FactHas (λ x y is.
-      let at : HasStored (mentions_step numbers (map-Fact Fact Mentions (fact_mentions numbers) x)) (stored_step numbers (map-Fact Fact AllStored (fact_stored numbers) x)) =
-      subst (λ z. HasStored (mentions_step numbers (map-Fact Fact Mentions (fact_mentions numbers) z)) (stored_step numbers (map-Fact Fact AllStored (fact_stored numbers) z))) is (have_stored y) in
-      subst (λ ms. HasStored ms (fact_stored numbers (roll-Fact x))) (sym (fold-roll-Fact Mentions (mentions_step numbers) x))
-      (subst (HasStored (mentions_step numbers (map-Fact Fact Mentions (fact_mentions numbers) x))) (sym (fold-roll-Fact AllStored (stored_step numbers) x)) at))
+  fact_has = each_related (mentions_step numbers) (stored_step numbers) HasStored have_stored
 
   facts_have : (fs : List Fact) (who : Option ℕ) → stored_in (facts_mentions numbers fs who) ≡ facts_stored numbers fs who
   facts_have [] who = refl
@@ -90,17 +86,6 @@ one_word (kind.Location t) token who h = inl refl
 one_word (kind.ArrayParam t) token who h = inl refl
 one_word (kind.TableParam s) token who h = inl refl
 one_word _ token who h = absurd (cc)
-
-same_other : (k : Kind) → IsTrue (names.is_other k) → is_other k ≡ true
-same_other (kind.Single t) h = absurd (cc)
-same_other (kind.Array t b) h = absurd (cc)
-same_other (kind.Table s) h = absurd (cc)
-same_other (kind.Value t) h = absurd (cc)
-same_other (kind.Location t) h = absurd (cc)
-same_other (kind.ArrayParam t) h = absurd (cc)
-same_other (kind.TableParam s) h = absurd (cc)
-same_other (kind.Answer t) h = absurd (cc)
-same_other _ h = refl
 
 -- ---- the text
 
@@ -120,7 +105,7 @@ module _ (named : Named) (resolves : Resolves named.raw.now (Ok named)) (stand :
   others : (owner : Option ℕ) (d : Declaration) → IsTrue (names.is_other d.kind) → In (here owner (declares d)) all → item_at (item_rows 0 (text_things named named.raw.now)) d.name.at.token ≡ None
   others owner d h i =
       let r : In (row d) named.declarations = subst (In (row d)) (facts_rows (numbers_of named) (text_facts named.raw.now) None ∙ sym resolves.3) (in_rows owner d all i) in
-      each (λ (x : Row Declaration). is_other x.item.kind ≡ true → item_at (item_rows 0 (text_things named named.raw.now)) x.token ≡ None) named.declarations stand.others (row d) r (same_other d.kind h)
+      each (λ (x : Row Declaration). is_other x.item.kind ≡ true → item_at (item_rows 0 (text_things named named.raw.now)) x.token ≡ None) named.declarations stand.others (row d) r h
 
   pub items_declared : names.ItemsStand named (numbers_of named) (unit_of named)
   items_declared = record {

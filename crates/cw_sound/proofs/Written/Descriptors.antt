@@ -37,12 +37,14 @@ use Rattle.cw_make_items.specs.Descriptors.{dimension, second_dimension, dimensi
 use Rattle.cw_unit.specs.declared.descriptor.Desc.{Desc}
 use Rattle.cw_unit.specs.declared.descriptor.DescBody.{DescBody}
 use Rattle.cw_unit.specs.declared.descriptor.DescBody.TheVariants as bodies
+use Rattle.cw_unit.specs.declared.descriptor.Spec.{Spec}
+use Rattle.cw_unit.specs.declared.descriptor.SpecParam.{SpecParam, SpecParam-F, out-SpecParam}
 use Rattle.cw_unit.specs.declared.descriptor.SpecParam.TheVariants as takes
 use Rattle.cw_unit.specs.declared.descriptor.SpecParam.TheOpen as spec_layer
 use Rattle.cw_unit.specs.declared.descriptor.SpecParam.TheViews.{out-roll-SpecParam}
 use Rattle.cw_word.specs.FixedPoint.{fits_word}
 use Rattle.cw_fields.specs.Names.{is_name}
-use Rattle.cw_object.specs.Fits.{is_byte, is_word, fits_scale, fits_answer, fits_plain_parameter, fits_spec, fits_layer, fits_parameter, fits_bounds, fits_element, is_few, fits_body, fits_overlay, fits_descriptor}
+use Rattle.cw_object.specs.Fits.{is_byte, is_word, fits_scale, fits_answer, fits_plain_layer, fits_plain_parameter, fits_spec, fits_layer, fits_parameter, fits_bounds, fits_element, is_few, fits_body, fits_overlay, fits_descriptor}
 use Rattle.cw_writable.proofs.Front.Truth.{lt_true, both, first_of_two, second_of_two}
 use Rattle.cw_writable.proofs.Front.Families.{all_append}
 use Rattle.cw_sound.specs.Written.Counts.{Each, HasFewPlain, SpecCounts, DataCounts, CitemCounts, CommCounts, CountsFit}
@@ -110,14 +112,12 @@ plain_fits (inner.Table at s) = word_within (place_amount s.first)
 plain_fits (inner.Label at) = refl
 plain_fits (inner.Switch at) = refl
 
+no_procedure : (l : SpecParam-F SpecParam Spec) → IsTrue (fits_plain_layer l) → IsTrue (fits_layer l)
+no_procedure (spec_layer.Proc s) h = absurd (cc)
+no_procedure _ h = h
+
 plain_parameter : (p : RawIps) → IsTrue (fits_parameter (plain_taken p))
-unfolding Rattle.cw_unit.specs.declared.descriptor.SpecParam.TheViews.out-SpecParam denote.Hole.Carrier.out
-plain_parameter (inner.Value at t) = scale_fits t
-plain_parameter (inner.Location at t) = scale_fits t
-plain_parameter (inner.Array t) = scale_fits t
-plain_parameter (inner.Table at s) = word_within (place_amount s.first)
-plain_parameter (inner.Label at) = refl
-plain_parameter (inner.Switch at) = refl
+plain_parameter p = no_procedure (out-SpecParam (plain_taken p)) (plain_fits p)
 
 plains_fit : (xs : List RawIps) → IsTrue (list_all fits_plain_parameter (each_plain_taken xs))
 plains_fit [] = refl

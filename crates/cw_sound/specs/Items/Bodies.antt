@@ -6,6 +6,7 @@ use Rattle.cw_facts.specs.declared.fact.Kind.{Kind}
 use Rattle.cw_facts.specs.declared.fact.Kind.TheVariants as kind
 use Rattle.cw_make_items.specs.Lookup.{Numbers, proc_here}
 use Rattle.cw_make.specs.Labels.{proc_within}
+pub use Rattle.cw_sound.specs.Names.Standing.{is_other}
 
 -- the bodies that may name what stands in a frame: that of its procedure, and where it stands in none, each
 abbrev pub MayName : Numbers → (who frame : Option ℕ) → Type 0
@@ -39,18 +40,6 @@ declared_stored (kind.Location t) token who = stored_at who token 1 ∷ []
 declared_stored (kind.ArrayParam t) token who = stored_at who token 1 ∷ []
 declared_stored (kind.TableParam s) token who = stored_at who token 1 ∷ []
 declared_stored _ token who = []
-
--- what is declared at a name of its own, and is no item
-abbrev pub is_other : Kind → Bool
-is_other (kind.Single t) = false
-is_other (kind.Array t b) = false
-is_other (kind.Table s) = false
-is_other (kind.Value t) = false
-is_other (kind.Location t) = false
-is_other (kind.ArrayParam t) = false
-is_other (kind.TableParam s) = false
-is_other (kind.Answer t) = false
-is_other _ = true
 
 module _ (numbers : Numbers) where
   abbrev pub stored_step : Fact-F AllStored → AllStored

@@ -1,34 +1,23 @@
 -- Statements whose lines are numbered from 1, as are those of the tokens of a text.
-use Rattle.std.specs.Prelude.{◌<◌, nat_le, Bool, true, ◌&&◌, IsTrue, Option, Some, None}
+use Rattle.std.specs.Prelude.{◌<◌, nat_le, Bool, true, ◌&&◌, IsTrue}
 use Rattle.std.specs.List.{list_all}
 use Rattle.cw_tree.specs.declared.leaf.Position.{Position}
 use Rattle.cw_tree.specs.declared.segment.Raw.{Raw}
-use Rattle.cw_tree.specs.declared.statement.RawDecl.{RawDecl, RawDecl-F, fold-RawDecl}
 use Rattle.cw_tree.specs.declared.statement.RawDecl.TheOpen as layer
-use Rattle.cw_tree.specs.declared.statement.RawDecl.TheOpen.{RawForm-F, RawSimple-F, RawBlock-F, RawProc-F, RawStmt-F}
-use Rattle.cw_tree.specs.declared.statement.RawForm.{RawForm, fold-RawForm}
-use Rattle.cw_tree.specs.declared.statement.RawSimple.{RawSimple, fold-RawSimple}
-use Rattle.cw_tree.specs.declared.statement.RawBlock.{RawBlock, fold-RawBlock}
-use Rattle.cw_tree.specs.declared.statement.RawProc.{RawProc, fold-RawProc}
-use Rattle.cw_tree.specs.declared.statement.RawStmt.{RawStmt, fold-RawStmt}
+use Rattle.cw_tree.specs.declared.statement.RawDecl.TheOpen.{RawForm-F, RawSimple-F}
+use Rattle.cw_tree.specs.declared.statement.RawBlock.{RawBlock}
+use Rattle.cw_tree.specs.declared.statement.RawStmt.{RawStmt}
 use Rattle.cw_make_stmt.specs.Made.{ref_position}
-use Rattle.cw_writable.specs.Back.Ready.{all}
+use Rattle.cw_sound.specs.Expressions.Regular.{by_all}
+use Rattle.cw_sound.specs.Statements.Gathered.{gathered_if, block_gathered, statement_gathered}
 use Rattle.cw_sound.specs.Statements.Bodies.{Body, block_bodies}
 
 abbrev pub is_numbered : Position → Bool
 is_numbered at = nat_le 1 at.line
 
-abbrev pub lined_if : Option Bool → Bool
-lined_if None = true
-lined_if (Some b) = b
-
--- what a declaration holds is no statement of the body in which it stands
-abbrev pub declaration_step : RawDecl-F Bool Bool Bool Bool Bool Bool → Bool
-declaration_step d = true
-
 abbrev pub form_step : RawForm-F Bool Bool Bool Bool Bool Bool → Bool
 form_step (layer.Simple s) = s
-form_step (layer.If at test labels first second) = is_numbered at && (first && lined_if second)
+form_step (layer.If at test labels first second) = is_numbered at && (first && gathered_if by_all second)
 form_step (layer.For at variable elems body) = is_numbered at && body
 
 abbrev pub simple_step : RawSimple-F Bool Bool Bool Bool Bool Bool → Bool
@@ -41,32 +30,12 @@ simple_step (layer.Call n es) = is_numbered n.at
 simple_step (layer.Answer at e) = is_numbered at
 simple_step (layer.Block b) = b
 
-abbrev pub block_step : RawBlock-F Bool Bool Bool Bool Bool Bool → Bool
-block_step b = all b.stmts
-
-abbrev pub procedure_step : RawProc-F Bool Bool Bool Bool Bool Bool → Bool
-procedure_step p = p.body
-
-abbrev pub statement_step : RawStmt-F Bool Bool Bool Bool Bool Bool → Bool
-statement_step s = s.form
-
-abbrev pub is_lined_declaration : RawDecl → Bool
-is_lined_declaration = fold-RawDecl Bool Bool Bool Bool Bool Bool declaration_step form_step simple_step block_step procedure_step statement_step
-
-abbrev pub is_lined_form : RawForm → Bool
-is_lined_form = fold-RawForm Bool Bool Bool Bool Bool Bool declaration_step form_step simple_step block_step procedure_step statement_step
-
-abbrev pub is_lined_simple : RawSimple → Bool
-is_lined_simple = fold-RawSimple Bool Bool Bool Bool Bool Bool declaration_step form_step simple_step block_step procedure_step statement_step
-
+-- what a declaration holds is no statement of the body in which it stands
 abbrev pub is_lined_block : RawBlock → Bool
-is_lined_block = fold-RawBlock Bool Bool Bool Bool Bool Bool declaration_step form_step simple_step block_step procedure_step statement_step
-
-abbrev pub is_lined_procedure : RawProc → Bool
-is_lined_procedure = fold-RawProc Bool Bool Bool Bool Bool Bool declaration_step form_step simple_step block_step procedure_step statement_step
+is_lined_block = block_gathered by_all form_step simple_step
 
 abbrev pub is_lined_statement : RawStmt → Bool
-is_lined_statement = fold-RawStmt Bool Bool Bool Bool Bool Bool declaration_step form_step simple_step block_step procedure_step statement_step
+is_lined_statement = statement_gathered by_all form_step simple_step
 
 -- What is asked of where the parts of a text stand. Each tree of the grammar is so.
 pub record PositionsFit (raw : Raw) : Type 0 where

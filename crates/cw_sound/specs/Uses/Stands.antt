@@ -38,20 +38,14 @@ use Rattle.cw_sound.specs.Uses.Mentions.{In, Mention, Here, declares, uses, stor
 -- ---- what parameters take, as they are specified
 
 abbrev pub kind_of_plain : RawIps → Kind
-kind_of_plain (inner.Value at t) = WordKind
-kind_of_plain (inner.Location at t) = WordKind
-kind_of_plain (inner.Array t) = WordKind
-kind_of_plain (inner.Table at s) = WordKind
 kind_of_plain (inner.Label at) = LabelKind
 kind_of_plain (inner.Switch at) = SwitchKind
+kind_of_plain _ = WordKind
 
 abbrev pub taken_by_plain : RawIps → Taken
-taken_by_plain (inner.Value at t) = TakesWord
-taken_by_plain (inner.Location at t) = TakesWord
-taken_by_plain (inner.Array t) = TakesWord
-taken_by_plain (inner.Table at s) = TakesWord
 taken_by_plain (inner.Label at) = TakesLabel
 taken_by_plain (inner.Switch at) = TakesSwitch
+taken_by_plain _ = TakesWord
 
 abbrev pub kind_specified : RawPs → Kind
 kind_specified (ps.Plain p) = kind_of_plain p

@@ -13,6 +13,7 @@ ghost use Rattle.cw_sound.specs.Uses.Stands.{FactsStand};
 ghost use Rattle.cw_sound.specs.Uses.Mentions.{listed_mentions, block_mentions, text_mentions};
 ghost use Rattle.cw_sound.specs.Names.Placed.{Placed};
 ghost use Rattle.cw_sound.specs.Names.Found.{UsesFound};
+ghost use Rattle.cw_sound.specs.Names.Faultless.{WhereItemsStand};
 ghost use Rattle.cw_sound.specs.Names.Standing.{AnswersAreCalled, AnswersFit, CountsOwn, FewParameters, Stand, ItemsStand, is_element, is_own_procedure};
 ghost use Rattle.cw_sound.specs.Names.Standing.{is_control, is_built_in, is_common};
 ghost use Rattle.cw_tokens.specs.SetLabels.{LabelsStand};
@@ -24,15 +25,13 @@ pub fn uses_found()
 
 /// What the outermost block declares has the next number of its sort.
 pub fn counts()
-    ensures { (named : Named) → Resolves named.raw.now (results.Ok named) → Placed named.raw.now
-        → ItemsStand named (numbers_of named) (unit_of named) → CountsOwn named (numbers_of named) }
+    ensures { WhereItemsStand (λ named. CountsOwn named (numbers_of named)) }
 {}
 
 /// Each element stands for one of a table that its body may name.
 pub fn elements()
-    ensures { (named : Named) → Resolves named.raw.now (results.Ok named) → Placed named.raw.now
-        → ItemsStand named (numbers_of named) (unit_of named)
-        → Stand named (numbers_of named) (unit_of named) is_element (text_mentions (numbers_of named) named.raw.now) }
+    ensures { WhereItemsStand (λ named. Stand named (numbers_of named) (unit_of named) is_element
+        (text_mentions (numbers_of named) named.raw.now)) }
 {}
 
 /// Each procedure that is specified has at most 32 parameters.
@@ -42,10 +41,8 @@ pub fn few_parameters()
 
 /// The number of each procedure is that of the unit's procedure with parameters as they are specified.
 pub fn procedures()
-    ensures { (named : Named) → Resolves named.raw.now (results.Ok named) → Placed named.raw.now
-        → ItemsStand named (numbers_of named) (unit_of named)
-        → Stand named (numbers_of named) (unit_of named) is_own_procedure
-        (block_mentions (numbers_of named) named.raw.now) }
+    ensures { WhereItemsStand (λ named. Stand named (numbers_of named) (unit_of named) is_own_procedure
+        (block_mentions (numbers_of named) named.raw.now)) }
 {
     counts();
 }
@@ -63,20 +60,16 @@ pub fn parameters()
 
 /// The number of each label is that of one that its body sets.
 pub fn labels()
-    ensures { (named : Named) → Resolves named.raw.now (results.Ok named) → Placed named.raw.now
-        → ItemsStand named (numbers_of named) (unit_of named)
-        → Stand named (numbers_of named) (unit_of named) is_own_label
-        (block_mentions (numbers_of named) named.raw.now) }
+    ensures { WhereItemsStand (λ named. Stand named (numbers_of named) (unit_of named) is_own_label
+        (block_mentions (numbers_of named) named.raw.now)) }
 {
     counts();
 }
 
 /// The number of each switch is that of one whose labels its body reaches.
 pub fn switches()
-    ensures { (named : Named) → Resolves named.raw.now (results.Ok named) → Placed named.raw.now
-        → ItemsStand named (numbers_of named) (unit_of named)
-        → Stand named (numbers_of named) (unit_of named) is_own_switch
-        (block_mentions (numbers_of named) named.raw.now) }
+    ensures { WhereItemsStand (λ named. Stand named (numbers_of named) (unit_of named) is_own_switch
+        (block_mentions (numbers_of named) named.raw.now)) }
 {
     counts();
     uses_found();
@@ -91,20 +84,16 @@ pub fn descriptors_named()
 
 /// The number of each label, switch and procedure that the communicators list is that of a descriptor that says so.
 pub fn listed()
-    ensures { (named : Named) → Resolves named.raw.now (results.Ok named) → Placed named.raw.now
-        → ItemsStand named (numbers_of named) (unit_of named)
-        → Stand named (numbers_of named) (unit_of named) is_common
-        (listed_mentions (numbers_of named) named.raw.now) }
+    ensures { WhereItemsStand (λ named. Stand named (numbers_of named) (unit_of named) is_common
+        (listed_mentions (numbers_of named) named.raw.now)) }
 {
     descriptors_named();
 }
 
 /// READBYTE and WRITEBYTE are what they are.
 pub fn built_ins()
-    ensures { (named : Named) → Resolves named.raw.now (results.Ok named) → Placed named.raw.now
-        → ItemsStand named (numbers_of named) (unit_of named)
-        → Stand named (numbers_of named) (unit_of named) is_built_in
-        (text_mentions (numbers_of named) named.raw.now) }
+    ensures { WhereItemsStand (λ named. Stand named (numbers_of named) (unit_of named) is_built_in
+        (text_mentions (numbers_of named) named.raw.now)) }
 {}
 
 /// What answers by itself is a procedure.
@@ -114,8 +103,7 @@ pub fn answers_are_called()
 
 /// ANSWER is that of the procedure in whose body it stands.
 pub fn answers_fit()
-    ensures { (named : Named) → Resolves named.raw.now (results.Ok named) → Placed named.raw.now
-        → ItemsStand named (numbers_of named) (unit_of named) → AnswersFit named (numbers_of named) (unit_of named) }
+    ensures { WhereItemsStand (λ named. AnswersFit named (numbers_of named) (unit_of named)) }
 {
     counts();
     uses_found();

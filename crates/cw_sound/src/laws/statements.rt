@@ -41,9 +41,8 @@ ghost use Rattle.cw_sound.specs.Ranges.Declared.{DeclarationsInRange};
 ghost use Rattle.cw_sound.specs.Storage.Frames.{FramesFit};
 ghost use Rattle.cw_sound.specs.Units.TreeFits.{TreeFits};
 
-use crate::laws::names::all_stand;
-use crate::laws::storage::{frames_fit, items_stand, parts_free};
-use crate::laws::units::{answers_stand, bodies_counted, items_declared};
+use crate::laws::storage::{frames_fit, parts_free};
+use crate::laws::units::parts_stand;
 
 /// The trees have orders that do what they mean, within the levels that they need.
 pub fn built()
@@ -148,12 +147,7 @@ pub fn procedures()
 pub fn unit_ranged()
     ensures { (raw : Raw) (named : Named) → Resolves raw (Ok named) → first_type_fault named ≡ None → TreeFits raw → IsTrue (is_ranged (unit_of named)) }
 {
-    items_stand();
-    parts_free();
-    items_declared();
-    bodies_counted();
-    answers_stand();
-    all_stand();
+    parts_stand();
     frames_fit();
     declarations();
     switches();

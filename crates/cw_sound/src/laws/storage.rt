@@ -23,10 +23,7 @@ ghost use Rattle.cw_sound.specs.Items.Free.{PartsFree};
 ghost use Rattle.cw_lex.specs.declared.token.Form.TheVariants.{Source};
 ghost use Rattle.cw_lex.specs.Lexical.{Lexeme, Tokenizes, first_place};
 ghost use Rattle.cw_macro.specs.Expansion.{Expands};
-ghost use Rattle.cw_grammar.specs.Tokens.{numbered};
-ghost use Rattle.cw_grammar.specs.Grammar.{a_raw};
-ghost use Rattle.cw_grammar.specs.Statements.{text};
-ghost use Rattle.cw_grammar.specs.Derives.{Derives};
+ghost use Rattle.cw_tokens.specs.Texts.{IsTreeOf};
 ghost use Rattle.cw_writable.specs.Front.Front.{PresetsFit};
 ghost use Rattle.cw_sound.specs.Presets.Bytes.{AreBytes, HasBytes};
 
@@ -112,7 +109,7 @@ pub fn unit_storable()
 
 /// The items of a text's unit hold words at offsets of their own words, and what stands in a frame holds none, where the text is of bytes.
 pub fn presets_fit()
-    ensures { (n : ℕ) (ts : List Lexeme) (named : Named) → Derives n a_raw text (numbered 1 ts) named.raw.now
+    ensures { (n : ℕ) (ts : List Lexeme) (named : Named) → IsTreeOf n ts named.raw.now
         → All HasBytes ts → Resolves named.raw.now (results.Ok named) → first_type_fault named ≡ None
         → HasRisingTokens named.raw.now → HasPlainProcedures named.raw.now → PresetsFit (unit_of named) }
 {

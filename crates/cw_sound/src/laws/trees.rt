@@ -2,10 +2,8 @@
 ghost use Rattle.std.specs.Prelude.{ℕ, ◌≤◌, List, length, All, IsTrue, suc, ◌+◌, Bool, map, Option};
 ghost use Rattle.cw_lex.specs.Lexical.{Lexeme, Tokenizes, first_place};
 ghost use Rattle.cw_tree.specs.declared.segment.Raw.{Raw};
-ghost use Rattle.cw_grammar.specs.Tokens.{numbered};
-ghost use Rattle.cw_grammar.specs.Grammar.{a_raw, a_list, an_expr, a_cond, a_ref, a_stmt, a_block};
-ghost use Rattle.cw_grammar.specs.Statements.{text};
-ghost use Rattle.cw_grammar.specs.Derives.{Derives};
+ghost use Rattle.cw_tokens.specs.Texts.{IsTreeOf};
+ghost use Rattle.cw_grammar.specs.Grammar.{a_list, an_expr, a_cond, a_ref, a_stmt, a_block};
 ghost use Rattle.cw_sound.specs.Statements.Levels.{block_levels};
 ghost use Rattle.cw_sound.specs.Names.Placed.{Placed};
 ghost use Rattle.cw_sound.specs.Items.Derived.{HasRisingTokens, HasNames, HasPlainProcedures};
@@ -40,34 +38,34 @@ use cw_derived::laws::in_normal_form;
 
 /// The tokens of the facts of a text rise, its names have characters, and no procedure stands in another.
 pub fn items_derived()
-    ensures rising { (n : ℕ) (ts : List Lexeme) (raw : Raw) → length ts ≤ 65535 → Derives n a_raw text (numbered 1 ts) raw → HasRisingTokens raw }
-    ensures named { (n : ℕ) (ts : List Lexeme) (raw : Raw) → Derives n a_raw text (numbered 1 ts) raw → HasNames raw }
-    ensures plain { (n : ℕ) (ts : List Lexeme) (raw : Raw) → Derives n a_raw text (numbered 1 ts) raw → HasPlainProcedures raw }
+    ensures rising { (n : ℕ) (ts : List Lexeme) (raw : Raw) → length ts ≤ 65535 → IsTreeOf n ts raw → HasRisingTokens raw }
+    ensures named { (n : ℕ) (ts : List Lexeme) (raw : Raw) → IsTreeOf n ts raw → HasNames raw }
+    ensures plain { (n : ℕ) (ts : List Lexeme) (raw : Raw) → IsTreeOf n ts raw → HasPlainProcedures raw }
 {}
 
 /// A text needs as many levels as its tokens open inside one another, at most.
 pub fn within_levels()
-    ensures { (n : ℕ) (ts : List Lexeme) (raw : Raw) → Derives n a_raw text (numbered 1 ts) raw → block_levels raw.block ≤ n }
+    ensures { (n : ℕ) (ts : List Lexeme) (raw : Raw) → IsTreeOf n ts raw → block_levels raw.block ≤ n }
 {}
 
 /// The names of a text stand at tokens of their own, those of communicators before those of the outermost block.
 pub fn placed()
-    ensures { (n : ℕ) (ts : List Lexeme) (raw : Raw) → length ts ≤ 65535 → Derives n a_raw text (numbered 1 ts) raw → Placed raw }
+    ensures { (n : ℕ) (ts : List Lexeme) (raw : Raw) → length ts ≤ 65535 → IsTreeOf n ts raw → Placed raw }
 {}
 
 /// The trees of a text are as the grammar gives them: its literals are bytes, no FOR has too many elements, and procedures' bodies are so too.
 pub fn regular()
     ensures block { (n : ℕ) (ts : List Lexeme) (raw : Raw) → All IsProperToken ts → length ts ≤ 65535
-        → Derives n a_raw text (numbered 1 ts) raw → text_tokens raw ≤ length ts
+        → IsTreeOf n ts raw → text_tokens raw ≤ length ts
         → IsTrue (is_regular_block raw.block) }
     ensures bodies { (n : ℕ) (ts : List Lexeme) (raw : Raw) → All IsProperToken ts → length ts ≤ 65535
-        → Derives n a_raw text (numbered 1 ts) raw → text_tokens raw ≤ length ts → n ≤ most_levels
+        → IsTreeOf n ts raw → text_tokens raw ≤ length ts → n ≤ most_levels
         → BodiesFit (block_bodies raw.block) }
 {}
 
 /// The statements of a text have lines, which are numbered from 1.
 pub fn positions_fit()
-    ensures { (n : ℕ) (ts : List Lexeme) (raw : Raw) → All HasLine ts → length ts ≤ 65535 → Derives n a_raw text (numbered 1 ts) raw → PositionsFit raw }
+    ensures { (n : ℕ) (ts : List Lexeme) (raw : Raw) → All HasLine ts → length ts ≤ 65535 → IsTreeOf n ts raw → PositionsFit raw }
 {}
 
 /// Each token of what a text expands to has a line, counted from 1.
@@ -105,7 +103,7 @@ pub fn statements_counted()
 
 /// A text's unit has no more tokens than its tree.
 pub fn unit_counted()
-    ensures { (n : ℕ) (ts : List Lexeme) (named : Named) → Derives n a_raw text (numbered 1 ts) named.raw.now
+    ensures { (n : ℕ) (ts : List Lexeme) (named : Named) → IsTreeOf n ts named.raw.now
         → least_tokens (unit_of named) ≤ text_tokens named.raw.now }
 {
     in_normal_form();

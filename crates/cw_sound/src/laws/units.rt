@@ -19,6 +19,7 @@ ghost use Rattle.cw_sound.specs.Names.Placed.{Placed};
 ghost use Rattle.cw_sound.specs.Names.Standing.{ItemsStand, FewParameters};
 ghost use Rattle.cw_sound.specs.Items.Items.{ItemsStand as StoredItemsStand};
 ghost use Rattle.cw_sound.specs.Units.TreeFits.{TreeFits};
+ghost use Rattle.cw_sound.specs.Units.PartsStand.{PartsStand};
 ghost use Rattle.std.specs.List.{list_all};
 ghost use Rattle.cw_unit.specs.declared.unit.Proc.{Proc};
 ghost use Rattle.cw_unit.specs.declared.unit.Switch.{Switch};
@@ -26,10 +27,7 @@ ghost use Rattle.cw_writable.specs.Back.Ready.{has_lines, is_goal, are_rising, I
 ghost use Rattle.cw_sound.specs.Items.Derived.{HasRisingTokens, HasPlainProcedures};
 ghost use Rattle.cw_sound.specs.Ready.Lined.{PositionsFit};
 ghost use Rattle.cw_lex.specs.Lexical.{Lexeme};
-ghost use Rattle.cw_grammar.specs.Tokens.{numbered};
-ghost use Rattle.cw_grammar.specs.Grammar.{a_raw};
-ghost use Rattle.cw_grammar.specs.Statements.{text};
-ghost use Rattle.cw_grammar.specs.Derives.{Derives};
+ghost use Rattle.cw_tokens.specs.Texts.{IsTreeOf};
 ghost use Rattle.cw_make_expr.specs.Parts.{Numbers};
 ghost use Rattle.cw_make_stmt.specs.Made.{statement_of, block_of};
 ghost use Rattle.cw_unit.specs.StackBound.{body_depth, unit_need};
@@ -74,9 +72,9 @@ pub fn answers_stand()
     answers_fit();
 }
 
-/// The bodies of the unit are well formed.
-pub fn unit_formed()
-    ensures { (raw : Raw) (named : Named) → Resolves raw (Ok named) → first_type_fault named ≡ None → TreeFits raw → IsTrue (is_formed (unit_of named)) }
+/// What stands in the outermost block of a text without faults is right.
+pub fn parts_stand()
+    ensures { (raw : Raw) (named : Named) → Resolves raw (Ok named) → first_type_fault named ≡ None → TreeFits raw → PartsStand named }
 {
     items_stand();
     parts_free();
@@ -84,6 +82,13 @@ pub fn unit_formed()
     bodies_counted();
     answers_stand();
     all_stand();
+}
+
+/// The bodies of the unit are well formed.
+pub fn unit_formed()
+    ensures { (raw : Raw) (named : Named) → Resolves raw (Ok named) → first_type_fault named ≡ None → TreeFits raw → IsTrue (is_formed (unit_of named)) }
+{
+    parts_stand();
     unit_bodies();
 }
 
@@ -91,12 +96,7 @@ pub fn unit_formed()
 pub fn unit_built()
     ensures { (raw : Raw) (named : Named) → Resolves raw (Ok named) → first_type_fault named ≡ None → TreeFits raw → IsTrue (are_built (unit_of named ∷ [])) }
 {
-    items_stand();
-    parts_free();
-    items_declared();
-    bodies_counted();
-    answers_stand();
-    all_stand();
+    parts_stand();
     unit_bodies();
     counts();
     few_parameters();
@@ -143,17 +143,17 @@ pub fn unit_ready()
 /// The bodies of a text have at most 72 words in hand for each level that its tokens open, and 7, where its procedures have at most 32 parameters.
 pub fn words_in_hand()
     ensures block { (n : ℕ) (ts : List Lexeme) (raw : Raw) (named : Named) (numbers : Numbers)
-        → Derives n a_raw text (numbered 1 ts) raw → FewParameters named
+        → IsTreeOf n ts raw → FewParameters named
         → body_depth (block_of named numbers raw.block) ≤ 72 * n + 7 }
     ensures procedures { (n : ℕ) (ts : List Lexeme) (raw : Raw) (named : Named) (numbers : Numbers) (x : Body)
-        → Derives n a_raw text (numbered 1 ts) raw → FewParameters named → In x (block_bodies raw.block)
+        → IsTreeOf n ts raw → FewParameters named → In x (block_bodies raw.block)
         → body_depth (statement_of named numbers x.statement) ≤ 72 * n + 7 }
 {}
 
 /// The records of a text's bodies on the control stack have fewer than 65,536 words, where its tokens open at most 64 levels inside one another.
 pub fn need_fits()
     ensures { (n : ℕ) (ts : List Lexeme) (raw : Raw) (named : Named) → n ≤ 64
-        → Derives n a_raw text (numbered 1 ts) raw → Resolves raw (Ok named) → first_type_fault named ≡ None
+        → IsTreeOf n ts raw → Resolves raw (Ok named) → first_type_fault named ≡ None
         → TreeFits raw → unit_need (unit_of named) < 65536 }
 {
     words_in_hand();
@@ -163,14 +163,14 @@ pub fn need_fits()
 
 /// The name of a text's segment is a name of the format.
 pub fn segment_named()
-    ensures { (n : ℕ) (ts : List Lexeme) (raw : Raw) (named : Named) → Derives n a_raw text (numbered 1 ts) raw
+    ensures { (n : ℕ) (ts : List Lexeme) (raw : Raw) (named : Named) → IsTreeOf n ts raw
         → Resolves raw (results.Ok named) → IsTrue (is_name (unit_of named).name) }
 {}
 
 /// The descriptors of a text's unit fit the fields of the format, where no procedure that is specified has more than 255 parameters and no table
 /// 65,536 elements.
 pub fn descriptors_fit()
-    ensures { (n : ℕ) (ts : List Lexeme) (raw : Raw) (named : Named) → Derives n a_raw text (numbered 1 ts) raw
+    ensures { (n : ℕ) (ts : List Lexeme) (raw : Raw) (named : Named) → IsTreeOf n ts raw
         → Resolves raw (results.Ok named) → CountsFit raw.comms
         → IsTrue (list_all fits_descriptor (unit_of named).descs) }
 {}
@@ -203,7 +203,7 @@ pub fn homes_fit()
 /// What the communicators of a text without faults list has few enough parts for the format: parameters, and elements of tables.
 pub fn counts_fit()
     ensures { (n : ℕ) (ts : List Lexeme) (raw : Raw) (named : Named) → length ts ≤ 65535
-        → Derives n a_raw text (numbered 1 ts) raw → Resolves raw (results.Ok named) → first_type_fault named ≡ None
+        → IsTreeOf n ts raw → Resolves raw (results.Ok named) → first_type_fault named ≡ None
         → CountsFit raw.comms }
 {
     crate::laws::trees::placed();
@@ -212,13 +212,13 @@ pub fn counts_fit()
 
 /// Each name that a text declares is an identifier.
 pub fn names_identified()
-    ensures { (n : ℕ) (ts : List Lexeme) (raw : Raw) → Derives n a_raw text (numbered 1 ts) raw → HasIdentifiers raw }
+    ensures { (n : ℕ) (ts : List Lexeme) (raw : Raw) → IsTreeOf n ts raw → HasIdentifiers raw }
 {}
 
 /// Each item of a text's unit has a name, but for its strings and the words of its FORs, which no COMMON list has.
 pub fn items_called()
     ensures { (n : ℕ) (ts : List Lexeme) (raw : Raw) (named : Named) → length ts ≤ 65535
-        → Derives n a_raw text (numbered 1 ts) raw → Resolves raw (results.Ok named) → (i : ℕ) (x : Item)
+        → IsTreeOf n ts raw → Resolves raw (results.Ok named) → (i : ℕ) (x : Item)
         → slice_get (unit_of named).items i ≡ Some x → IsTrue (is_named (entry_of (unit_of named) (0, 0) x)) }
 {
     names_identified();
@@ -228,7 +228,7 @@ pub fn items_called()
 /// The descriptors of the unit of a text without faults are in the format, and each that is overlaid has its base before it.
 pub fn bases_listed()
     ensures { (n : ℕ) (ts : List Lexeme) (raw : Raw) (named : Named) → length ts ≤ 65535
-        → Derives n a_raw text (numbered 1 ts) raw → Resolves raw (results.Ok named) → first_type_fault named ≡ None
+        → IsTreeOf n ts raw → Resolves raw (results.Ok named) → first_type_fault named ≡ None
         → IsTrue (are_listed 0 (unit_of named).descs) }
 {
     counts_fit();

@@ -10,14 +10,14 @@ use Rattle.cw_unit.specs.declared.unit.Felem.TheVariants as element
 use Rattle.cw_unit.specs.declared.unit.Expr.{Expr}
 use Rattle.cw_unit.specs.declared.unit.Cond.{Cond}
 use Rattle.cw_unit.specs.declared.unit.Ref.{Ref, out-Ref}
-use Rattle.cw_unit.specs.declared.unit.Stmt.{Stmt, Stmt-F, out-Stmt, map-Stmt, fold-Stmt, fold_out-Stmt}
+use Rattle.cw_unit.specs.declared.unit.Stmt.{Stmt, Stmt-F, out-Stmt, map-Stmt, fold_out-Stmt}
 use Rattle.cw_unit.specs.declared.unit.Stmt.TheOpen as statement
 use Rattle.cw_unit.specs.Begun.{line_of}
 use Rattle.cw_gen_expr.specs.Pieces.{Piece, plain, followed_by, sequence, with_end}
 use Rattle.cw_gen_expr.specs.ReferenceExpressions.{Scope, at_line, argument_words, control_place, item_order, store_orders, call_order, condition_piece, reference_of, expression_piece}
 use Rattle.cw_gen_expr.proofs.Layers.{total}
 use Rattle.cw_gen_unit.specs.Endings.{comes_to_end}
-use Rattle.cw_gen_unit.proofs.Layers.{statement_layer, statement-made, jump-holds}
+use Rattle.cw_gen_unit.proofs.Layers.{statement_layer, statement-made, statement_size, size_layer, statement-size, jump-holds}
 use Rattle.cw_gen_unit.specs.ReferenceStatements.{after_statement_call, goal_order, owned_marks, switch_order, jump_piece, with_middle, keep_orders, number_orders, set_orders, bump_orders, turn_piece, while_values, step_values, element_piece, elements_piece, element_ways, ring_piece, loop_place, simple_beginning, first_turn, stepped_piece, begun_loop, jump_past, statement_piece}
 use Rattle.cw_gen_unit.specs.declared.simple.SimpleStep.{SimpleStep}
 use Rattle.cw_gen_unit.specs.SimpleLoops.{simple_step}
@@ -33,22 +33,6 @@ lines_layer x = lines_step (map-Stmt Stmt (List ℕ) lines_in x)
 
 lines-made : (t : Stmt) → lines_in t ≡ lines_layer (out-Stmt t)
 lines-made = fold_out-Stmt (List ℕ) lines_step
-
-abbrev size_step : Stmt-F ℕ → ℕ
-size_step (statement.If line c a b) = 1 + (a + b)
-size_step (statement.For line item r es a) = 1 + a
-size_step (statement.Seq ss) = 1 + total ss
-size_step (statement.Mark ls a) = 1 + a
-size_step _ = 0
-
-abbrev statement_size : Stmt → ℕ
-statement_size = fold-Stmt ℕ size_step
-
-abbrev size_layer : Stmt-F Stmt → ℕ
-size_layer x = size_step (map-Stmt Stmt ℕ statement_size x)
-
-statement-size : (x : Stmt) → statement_size x ≡ size_layer (out-Stmt x)
-statement-size = fold_out-Stmt ℕ size_step
 
 -- ---- by parts
 

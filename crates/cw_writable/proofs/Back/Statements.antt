@@ -39,7 +39,7 @@ use Rattle.cw_gen_expr.specs.UnitTables.{label_mark}
 use Rattle.cw_gen_expr.proofs.Layers.{total}
 use Rattle.cw_gen_unit.specs.BuiltStatements as built
 use Rattle.cw_gen_unit.specs.Endings.{comes_to_end}
-use Rattle.cw_gen_unit.proofs.Layers.{statement_layer, statement-made, jump-holds}
+use Rattle.cw_gen_unit.proofs.Layers.{statement_layer, statement-made, statement_size, size_layer, statement-size, jump-holds}
 use Rattle.cw_gen_unit.specs.ReferenceStatements.{begin_orders, after_statement_call, from_procedure, own_order, goal_order, owned_marks, switch_order, jump_piece, with_middle, keep_orders, number_orders, set_orders, bump_orders, turn_piece, while_values, step_values, element_piece, elements_piece, element_ways, ring_piece, loop_place, value_orders, past_orders, turn_orders, simple_orders, simple_beginning, first_turn, stepped_piece, begun_loop, jump_past, statement_piece}
 use Rattle.cw_gen_unit.specs.declared.simple.Simple.{Simple}
 use Rattle.cw_gen_unit.specs.declared.simple.Simple.TheVariants as simple
@@ -48,7 +48,6 @@ use Rattle.cw_gen_unit.specs.SimpleLoops.{simple_step}
 use Rattle.cw_built.specs.Listed.{are_named}
 use Rattle.cw_built.specs.Built.{alone}
 use Rattle.cw_writable.proofs.Coded.Fine.{no, both, parts}
-use Rattle.cw_writable.proofs.Coded.Statements.{statement_size, size_layer, statement-size}
 use Rattle.cw_writable.specs.Back.Ready.{all, is_line, lines_step, has_lines}
 use Rattle.cw_writable.proofs.Back.Fit.{passed, plainly, both_good, ended_good, labels_good, begin_good}
 use Rattle.cw_writable.proofs.Back.Names.{place-named, listed}

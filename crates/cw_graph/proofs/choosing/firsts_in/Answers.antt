@@ -10,3 +10,6 @@ loop-number-preserved c =
       size = grind (arith, common_steps);
       firsts = stand_more c.args.graph.now c.args.levels.now c.loop-number.firsts.items _ c.loop-number.number c.first_of-first.result (omega arith) more c.loop-number.invariant.firsts c.first_of-first.ensures;
     }
+
+pub returns : goal.returns
+returns c = record { size = grind (arith, common_steps); stand = c.loop-number.invariant.firsts }

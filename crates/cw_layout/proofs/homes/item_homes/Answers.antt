@@ -1,6 +1,6 @@
-use Rattle.std.proofs.Common.{◌≡◌, ℕ, List, length, get_or, Some, None, is_none, cond, ap, ◌∙◌, arith, rules}
+use Rattle.std.proofs.Common.{◌≡◌, ℕ, List, length, get_or, Some, None, refl, ap, ◌∙◌, arith, rules}
 use Rattle.cw_unit.specs.Storage.{base_of_home}
-use Rattle.cw_layout.proofs.Passes.{IsAt, roots_few, roots_next}
+use Rattle.cw_layout.proofs.Passes.{IsAt, roots_few, roots_more}
 use Rattle.cw_layout.proofs.Tables.{ends_within, base_place, base_within, next_by_base, next_by_root}
 use Rattle.cw_layout.proofs.homes.item_homes.Goals as goal
 use Rattle.cw_layout.proofs.homes.item_homes.Goals.{in-Some+in_ok-push-in-Some, in-None+in_ok-push-in-None}
@@ -39,24 +39,12 @@ loop-n-preserved c =
           (let based : base_of_home u i.home ≡ Some (w.in-Some.under, w.in-Some.offset) = search rules in
           record {
             homes = w.homes-is ∙ next_by_base u c.loop-n.n i (w.in-Some.under, w.in-Some.offset) c.loop-n.homes _ c.requires at based c.loop-n.invariant.homes (search rules);
-            roots =
-                let one : ℕ = 1 in
-                let nothing : ℕ = 0 in
-                let more = roots_next u c.loop-n.n i at in
-                let none : cond (is_none (base_of_home u i.home)) one nothing ≡ nothing = ap (λ b. cond (is_none b) one nothing) based in
-                let was = w.roots-is in
-                omega (arith, more, none, was, c.loop-n.invariant.roots);
+            roots = roots_more u c.loop-n.n i _ 0 _ _ at based refl c.loop-n.invariant.roots (omega (arith, w.roots-is));
           })
       | in-None+in_ok-push-in-None w ↦
           (let based : base_of_home u i.home ≡ None = search rules in
           record {
             homes = w.homes-is ∙ next_by_root u c.loop-n.n i c.loop-n.roots c.loop-n.homes _ at based c.loop-n.invariant.homes c.loop-n.invariant.roots (search rules);
-            roots =
-                let one : ℕ = 1 in
-                let nothing : ℕ = 0 in
-                let more = roots_next u c.loop-n.n i at in
-                let counted : cond (is_none (base_of_home u i.home)) one nothing ≡ one = ap (λ b. cond (is_none b) one nothing) based in
-                let was = w.roots-is in
-                omega (arith, more, counted, was, c.loop-n.invariant.roots);
+            roots = roots_more u c.loop-n.n i _ 1 _ _ at based refl c.loop-n.invariant.roots (omega (arith, w.roots-is));
           })
     ]

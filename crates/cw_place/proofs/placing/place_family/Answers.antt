@@ -51,17 +51,16 @@ returns-in-Own-clause-address c = λ s f is at.
 pub returns-in-Some-clause-placed : goal.returns-in-Some-clause-placed
 returns-in-Some-clause-placed c =
     let q = first_read c.args.spaces.now c.args.segment c.args.number c.index-spaces-segment.result c.as_slice.result.now _ c.requires.segment c.index-spaces-segment.is c.requires.number (search rules) c.in-Common.is in
-    let l = looked_up c.args.agreed.now c.args.spaces.now c.requires.of c.args.spans.now (placed_before c.args.agreed.now c.args.spaces.now c.args.segment c.args.number) c.args.placing.now c.requires.placed c.args.segment c.args.number c.in-Common.descriptor c.index-spaces-segment.result c.as_slice-in-Common-2.result.now c.index.result.now q.sorted c.requires.segment c.index-spaces-segment.is
-    (c.requires.number c.index-spaces-segment.result q.here.segment) (search rules) c.index.ensures in
+    let l = looked_up c.args.agreed.now c.args.spaces.now c.requires.of c.args.spans.now (placed_before c.args.agreed.now c.args.spaces.now c.args.segment c.args.number) c.args.placing.now c.requires.placed c.args.segment c.args.number c.in-Common.descriptor c.index-spaces-segment.result c.as_slice.result.now c.as_slice-in-Common-2.result.now c.index.result.now
+    c.requires.segment c.index-spaces-segment.is c.requires.number (search rules) c.in-Common.is (search rules) c.index.ensures in
     subst (λ qs. HasPlaced c.args.agreed.now c.args.spans.now qs c.args.placing.now)
     (sym (at_old c.args.agreed.now c.args.spaces.now c.requires.of c.args.segment c.args.number c.index-spaces-segment.result _ q.here c.in-Common.descriptor c.in-Some.start q.sorted l.below (l.placed ∙ c.in-Some.is))) c.requires.placed
 
 pub returns-in-Some-clause-address : goal.returns-in-Some-clause-address
 returns-in-Some-clause-address c = λ s f is at.
     let r = known_read c.args.spaces.now c.args.segment c.args.number s f c.index-spaces-segment.result c.as_slice.result.now _ (record { segment = is; family = at }) c.index-spaces-segment.is (search rules) c.in-Common.is in
-    let q = first_read c.args.spaces.now c.args.segment c.args.number c.index-spaces-segment.result c.as_slice.result.now _ c.requires.segment c.index-spaces-segment.is c.requires.number (search rules) c.in-Common.is in
-    let l = looked_up c.args.agreed.now c.args.spaces.now c.requires.of c.args.spans.now (placed_before c.args.agreed.now c.args.spaces.now c.args.segment c.args.number) c.args.placing.now c.requires.placed c.args.segment c.args.number c.in-Common.descriptor c.index-spaces-segment.result c.as_slice-in-Common-2.result.now c.index.result.now q.sorted c.requires.segment c.index-spaces-segment.is
-    (c.requires.number c.index-spaces-segment.result q.here.segment) (search rules) c.index.ensures in
+    let l = looked_up c.args.agreed.now c.args.spaces.now c.requires.of c.args.spans.now (placed_before c.args.agreed.now c.args.spaces.now c.args.segment c.args.number) c.args.placing.now c.requires.placed c.args.segment c.args.number c.in-Common.descriptor c.index-spaces-segment.result c.as_slice.result.now c.as_slice-in-Common-2.result.now c.index.result.now
+    c.requires.segment c.index-spaces-segment.is c.requires.number (search rules) c.in-Common.is (search rules) c.index.ensures in
     start_found (Shared (name_at c.args.agreed.now.names (get_or (numbers_of c.args.agreed.now c.args.segment) c.in-Common.descriptor 0))) (told (placed_before c.args.agreed.now c.args.spaces.now c.args.segment c.args.number)) c.in-Some.start (l.placed ∙ c.in-Some.is)
     ∙ ap (λ qs. start_of (Shared (name_at c.args.agreed.now.names (get_or (numbers_of c.args.agreed.now c.args.segment) c.in-Common.descriptor 0))) (told qs)) (sym (at_old c.args.agreed.now c.args.spaces.now c.requires.of c.args.segment c.args.number s f r.here c.in-Common.descriptor c.in-Some.start r.sorted l.below (l.placed ∙ c.in-Some.is)))
     ∙ sym (common_address c.args.agreed.now c.args.spaces.now c.requires.of c.args.segment c.args.number s f r.here c.in-Common.descriptor (told (placed_before c.args.agreed.now c.args.spaces.now c.args.segment (c.args.number + 1))) r.sorted l.below)
@@ -69,8 +68,8 @@ returns-in-Some-clause-address c = λ s f is at.
 pub returns-in-None-clause-placed : goal.returns-in-None-clause-placed
 returns-in-None-clause-placed c =
     let q = first_read c.args.spaces.now c.args.segment c.args.number c.index-spaces-segment.result c.as_slice.result.now _ c.requires.segment c.index-spaces-segment.is c.requires.number (search rules) c.in-Common.is in
-    let l = looked_up c.args.agreed.now c.args.spaces.now c.requires.of c.args.spans.now (placed_before c.args.agreed.now c.args.spaces.now c.args.segment c.args.number) c.args.placing.now c.requires.placed c.args.segment c.args.number c.in-Common.descriptor c.index-spaces-segment.result c.as_slice-in-Common-2.result.now c.index.result.now q.sorted c.requires.segment c.index-spaces-segment.is
-    (c.requires.number c.index-spaces-segment.result q.here.segment) (search rules) c.index.ensures in
+    let l = looked_up c.args.agreed.now c.args.spaces.now c.requires.of c.args.spans.now (placed_before c.args.agreed.now c.args.spaces.now c.args.segment c.args.number) c.args.placing.now c.requires.placed c.args.segment c.args.number c.in-Common.descriptor c.index-spaces-segment.result c.as_slice.result.now c.as_slice-in-Common-2.result.now c.index.result.now
+    c.requires.segment c.index-spaces-segment.is c.requires.number (search rules) c.in-Common.is (search rules) c.index.ensures in
     let extent = ap (λ k. get_or c.args.extents.now k 0) l.named ∙ c.requires.extents.extent (get_or (numbers_of c.args.agreed.now c.args.segment) c.in-Common.descriptor 0) l.known in
     subst (λ qs. HasPlaced c.args.agreed.now c.args.spans.now qs (record { starts = with_item c.args.placing.now.starts (get_or c.as_slice-in-Common-2.result.now c.in-Common.descriptor 0) (Some c.place_next-start.result); sweep = c.place_next-start.new.sweep }))
     (sym (at_new c.args.agreed.now c.args.spaces.now c.requires.of c.args.segment c.args.number c.index-spaces-segment.result _ q.here c.in-Common.descriptor q.sorted l.below (l.placed ∙ c.in-None.is)))
@@ -81,9 +80,8 @@ returns-in-None-clause-placed c =
 pub returns-in-None-clause-address : goal.returns-in-None-clause-address
 returns-in-None-clause-address c = λ s f is at.
     let r = known_read c.args.spaces.now c.args.segment c.args.number s f c.index-spaces-segment.result c.as_slice.result.now _ (record { segment = is; family = at }) c.index-spaces-segment.is (search rules) c.in-Common.is in
-    let q = first_read c.args.spaces.now c.args.segment c.args.number c.index-spaces-segment.result c.as_slice.result.now _ c.requires.segment c.index-spaces-segment.is c.requires.number (search rules) c.in-Common.is in
-    let l = looked_up c.args.agreed.now c.args.spaces.now c.requires.of c.args.spans.now (placed_before c.args.agreed.now c.args.spaces.now c.args.segment c.args.number) c.args.placing.now c.requires.placed c.args.segment c.args.number c.in-Common.descriptor c.index-spaces-segment.result c.as_slice-in-Common-2.result.now c.index.result.now q.sorted c.requires.segment c.index-spaces-segment.is
-    (c.requires.number c.index-spaces-segment.result q.here.segment) (search rules) c.index.ensures in
+    let l = looked_up c.args.agreed.now c.args.spaces.now c.requires.of c.args.spans.now (placed_before c.args.agreed.now c.args.spaces.now c.args.segment c.args.number) c.args.placing.now c.requires.placed c.args.segment c.args.number c.in-Common.descriptor c.index-spaces-segment.result c.as_slice.result.now c.as_slice-in-Common-2.result.now c.index.result.now
+    c.requires.segment c.index-spaces-segment.is c.requires.number (search rules) c.in-Common.is (search rules) c.index.ensures in
     let extent = ap (λ k. get_or c.args.extents.now k 0) l.named ∙ c.requires.extents.extent (get_or (numbers_of c.args.agreed.now c.args.segment) c.in-Common.descriptor 0) l.known in
     start_placed c.args.agreed.now c.args.spaces.now c.requires.of c.args.spans.now c.requires.spans (placed_before c.args.agreed.now c.args.spaces.now c.args.segment c.args.number) c.args.placing.now c.requires.placed (Shared (name_at c.args.agreed.now.names (get_or (numbers_of c.args.agreed.now c.args.segment) c.in-Common.descriptor 0))) _ _ extent (l.placed ∙ c.in-None.is) (c.place_next-start.ensures.start (last_end_of 0 (placed_before c.args.agreed.now c.args.spaces.now c.args.segment c.args.number)) c.requires.placed.end)
     ∙ ap (λ qs. start_of (Shared (name_at c.args.agreed.now.names (get_or (numbers_of c.args.agreed.now c.args.segment) c.in-Common.descriptor 0))) (told qs)) (sym (at_new c.args.agreed.now c.args.spaces.now c.requires.of c.args.segment c.args.number s f r.here c.in-Common.descriptor r.sorted l.below (l.placed ∙ c.in-None.is)))

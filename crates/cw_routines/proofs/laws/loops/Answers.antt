@@ -1,6 +1,5 @@
 use Rattle.std.proofs.Common.{◌+◌, ◌<◌, ℕ, arith}
 use Rattle.cw_routines.specs.Results.{Quiet}
-use Rattle.cw_routines.proofs.Facts.{WordLaws}
 use Rattle.cw_routines.proofs.Loops.{sets, adds, puts, exhausts}
 use Rattle.cw_routines.proofs.NextStep.{goes_on}
 use Rattle.cw_routines.proofs.laws.loops.Goals as goal
@@ -11,13 +10,7 @@ first_inside a area lt = omega arith
 pub returns : goal.returns
 returns c =
     let finds = c.fetching.ensures.finds in
-    let words : WordLaws = record {
-      signed_is = c.readings.ensures.signed_is;
-      unsigned_fits = c.readings.ensures.unsigned_fits;
-      back = c.readings.ensures.back;
-      forth = c.readings.ensures.forth;
-      sum = c.sums.ensures.sum;
-    } in
+    let words = c.word_laws.ensures.words in
     record {
       set_variable = λ quiet code stands library area a line bp n r segment back cx bx si x flags cells stack input told w p fx small h line_small n_low way value back_small record_is s.
           sets finds words (Quiet quiet) code stands library area a line bp n r segment back stack input told small line_small way back_small x fx n_low value record_is w h s;

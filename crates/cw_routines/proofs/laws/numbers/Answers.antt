@@ -2,8 +2,7 @@ use Rattle.std.proofs.Common.{◌≢◌, ◌≤◌, ◌<◌, ℕ, suc, ℤ, pos,
 use Rattle.cw_word.specs.FixedPoint.{FitsWord, fits_word, scaled_product, scaled_quotient}
 use Rattle.cw_word.specs.Word.{signed, unsigned}
 use Rattle.cw_routines.specs.Results.{Quiet}
-use Rattle.cw_routines.proofs.Facts.{WordLaws}
-use Rattle.cw_routines.proofs.Numbers.{NumberLaws}
+use Rattle.cw_routines.specs.WordLaws.{WordLaws}
 use Rattle.cw_routines.proofs.Quotients.{product_comes, down_comes, up_comes}
 use Rattle.cw_routines.proofs.laws.numbers.Goals as goal
 
@@ -17,33 +16,15 @@ not_zero laws y fy ne e = ne (sym (laws.back y fy) ∙ ap signed e)
 pub returns : goal.returns
 returns c =
     let finds = c.fetching.ensures.finds in
-    let words : WordLaws = record { signed_is = c.readings.ensures.signed_is; unsigned_fits = c.readings.ensures.unsigned_fits; back = c.readings.ensures.back; forth = c.readings.ensures.forth; sum = c.sums.ensures.sum } in
-    let laws : NumberLaws = record {
-      words = words;
-      product_fits = c.products.ensures.product_fits;
-      high = c.products.ensures.high;
-      low = c.products.ensures.low;
-      halves = c.products.ensures.halves;
-      pair_fits = c.products.ensures.fits;
-      pair_value = c.products.ensures.value;
-      quotient_up = c.quotients.ensures.up;
-      quotient_down = c.quotients.ensures.down;
-      quotient_fits = c.quotients.ensures.fits;
-      quotient_value = c.quotients.ensures.value;
-      divides = c.quotients.ensures.divides;
-      scaled_down = c.scaling.ensures.down;
-      down_fits = c.many_places.ensures.down_fits;
-      pair_down = c.many_places.ensures.pair_down;
-      pair_up = c.many_places.ensures.pair_up;
-    } in
+    let laws = c.word_laws.ensures in
     record {
       product = λ quiet code stands library x y j fx fy few dx si bp n back area flags cells stack input told p low way small s.
           product_comes finds laws (Quiet quiet) code stands library bp n back area cells stack input told low way small x y fx fy j (suc j) refl (few_places j few)
           (fits_word (scaled_product x y (negsuc j))) refl s;
       quotient_down = λ quiet code stands library x y j fx fy ne few dx si bp n back area flags cells stack input told p low way small s.
-          down_comes finds laws (Quiet quiet) code stands library bp n back area cells stack input told low way small x y fx fy (not_zero words y fy ne) j (suc j) refl
+          down_comes finds laws (Quiet quiet) code stands library bp n back area cells stack input told low way small x y fx fy (not_zero laws.words y fy ne) j (suc j) refl
           (few_places j few) (fits_word (scaled_quotient x y (negsuc j))) refl s;
       quotient_up = λ quiet code stands library x y k fx fy ne few dx si bp n back area flags cells stack input told p low way small s.
-          up_comes finds laws (Quiet quiet) code stands library bp n back area cells stack input told low way small x y fx fy (not_zero words y fy ne) k few
+          up_comes finds laws (Quiet quiet) code stands library bp n back area cells stack input told low way small x y fx fy (not_zero laws.words y fy ne) k few
           (fits_word (scaled_quotient x y (pos k))) refl s;
     }

@@ -1,13 +1,14 @@
+use Rattle.std.proofs.Common.{◌∙◌}
 use Rattle.cw_say.proofs.link.write_unlinked.Goals as goal
 
 pub returns-in-SegmentTwice : goal.returns-in-SegmentTwice
 returns-in-SegmentTwice g c = rw (c.in-SegmentTwice.is, ← c.bytes.ensures.value) c.write_name.ensures
 
 pub returns-in-Differs : goal.returns-in-Differs
-returns-in-Differs g c = rw c.in-Differs.is c.write_named_clash.ensures
+returns-in-Differs g c = rw (c.in-Differs.is, ← c.bytes-in-Differs.ensures.value) c.write_segments.ensures
 
 pub returns-in-DefinedTwice : goal.returns-in-DefinedTwice
-returns-in-DefinedTwice g c = rw c.in-DefinedTwice.is c.write_named_clash-in-DefinedTwice.ensures
+returns-in-DefinedTwice g c = rw (c.in-DefinedTwice.is, ← c.bytes-in-DefinedTwice.ensures.value) c.write_segments-in-DefinedTwice.ensures
 
 pub returns-in-Undefined : goal.returns-in-Undefined
 returns-in-Undefined g c = rw (c.in-Undefined.is, ← c.bytes-in-Undefined.ensures.value) c.write_name-in-Undefined.ensures
@@ -25,7 +26,7 @@ pub returns-in-ControlTooBig : goal.returns-in-ControlTooBig
 returns-in-ControlTooBig g c = rw c.in-ControlTooBig.is c.write_number-in-ControlTooBig.ensures
 
 pub returns-in-PresetClash : goal.returns-in-PresetClash
-returns-in-PresetClash g c = rw c.in-PresetClash.is c.write_clash.ensures
+returns-in-PresetClash g c = rw (c.in-PresetClash.is, ← (c.as_bytes-digits.ensures.value ∙ c.format.ensures.text)) c.write_segments-in-PresetClash.ensures
 
 pub returns-in-CodeTooBig : goal.returns-in-CodeTooBig
 returns-in-CodeTooBig g c = rw c.in-CodeTooBig.is c.write_number-in-CodeTooBig.ensures

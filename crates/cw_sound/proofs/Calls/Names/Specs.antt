@@ -155,13 +155,13 @@ plain_same (inner.Label p) (inner.Label q) h = refl
 plain_same (inner.Switch p) (inner.Switch q) h = refl
 plain_same _ _ h = no h
 
+more_same : (a b : Bool) {p q : SpecParam} {ps qs : List SpecParam} → (IsTrue a → p ≡ q) → (IsTrue b → ps ≡ qs) → IsTrue (a && b) → p ∷ ps ≡ q ∷ qs
+more_same a b f g h = let halves = both_true a b h in ap₂ (λ (p : SpecParam) (more : List SpecParam). p ∷ more) (f halves.0) (g halves.1)
+
 plains_same : (xs ys : List RawIps) → IsTrue (each_same_plain xs ys) → each_plain_taken xs ≡ each_plain_taken ys
 plains_same [] [] h = refl
-plains_same [] (y ∷ ys) h = no h
-plains_same (x ∷ xs) [] h = no h
-plains_same (x ∷ xs) (y ∷ ys) h =
-    let halves = both_true (same_plain x y) (each_same_plain xs ys) h in
-    ap₂ (λ (p : SpecParam) (more : List SpecParam). p ∷ more) (plain_same x y halves.0) (plains_same xs ys halves.1)
+plains_same (x ∷ xs) (y ∷ ys) h = more_same (same_plain x y) (each_same_plain xs ys) (plain_same x y) (plains_same xs ys) h
+plains_same _ _ h = no h
 
 abbrev spec_with : Option Scale → List SpecParam → Spec
 spec_with answer params = record { answer = answer; params = params }
@@ -176,11 +176,8 @@ param_same (ps.Proc t p xs) (ps.Plain y) h = no h
 
 params_same : (xs ys : List RawPs) → IsTrue (each_same xs ys) → each_taken xs ≡ each_taken ys
 params_same [] [] h = refl
-params_same [] (y ∷ ys) h = no h
-params_same (x ∷ xs) [] h = no h
-params_same (x ∷ xs) (y ∷ ys) h =
-    let halves = both_true (same_param x y) (each_same xs ys) h in
-    ap₂ (λ (p : SpecParam) (more : List SpecParam). p ∷ more) (param_same x y halves.0) (params_same xs ys halves.1)
+params_same (x ∷ xs) (y ∷ ys) h = more_same (same_param x y) (each_same xs ys) (param_same x y) (params_same xs ys) h
+params_same _ _ h = no h
 
 -- what is specified the same
 pub signature_spec : (a b : Signature) → IsTrue (same_signature a b) → spec_of a.answer a.params ≡ spec_of b.answer b.params
@@ -190,9 +187,7 @@ signature_spec a b h =
 
 these_same : (xs : List RawPs) (ys : List RawIps) → IsTrue (takes_these xs ys) → each_taken xs ≡ each_plain_taken ys
 these_same [] [] h = refl
-these_same (ps.Plain x ∷ xs) (y ∷ ys) h =
-    let halves = both_true (same_plain x y) (takes_these xs ys) h in
-    ap₂ (λ (p : SpecParam) (more : List SpecParam). p ∷ more) (plain_same x y halves.0) (these_same xs ys halves.1)
+these_same (ps.Plain x ∷ xs) (y ∷ ys) h = more_same (same_plain x y) (takes_these xs ys) (plain_same x y) (these_same xs ys) h
 these_same _ _ h = no h
 
 -- a procedure that a parameter takes

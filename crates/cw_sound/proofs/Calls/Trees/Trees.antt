@@ -17,15 +17,16 @@ use Rattle.cw_scope.specs.declared.resolve.Named.{Named}
 use Rattle.cw_scale.specs.TypeRules.{Judged}
 use Rattle.cw_scale.specs.TypeRules as judged
 use Rattle.cw_make_expr.specs.Parts.{Numbers}
-use Rattle.cw_make_expr.specs.Made.{Made}
+use Rattle.cw_make_expr.specs.Made.{Made, Placed}
 use Rattle.cw_make_expr.specs.Made as made
 use Rattle.cw_unit.specs.declared.unit.LogicOp.TheVariants as logic_op
 use Rattle.cw_unit.specs.declared.unit.Cond.{Cond}
-use Rattle.cw_sound.proofs.Calls.Trees.Parts.{Context, Right, RightTest, Rights, none, more, RightTests, no_test, more_tests}
+use Rattle.cw_sound.proofs.Calls.Trees.Parts.{Context, Right, RightTest, RightPlace, Rights, none, more, RightTests, no_test, more_tests}
 use Rattle.cw_sound.proofs.Calls.Trees.Rules.{logic_right, prim_right, term_right, sum_right}
 use Rattle.cw_sound.proofs.Calls.Trees.Primaries.{number_right, octal_right, literal_right, string_right, location_right, forced_right, bracket_right, call_right, choice_right, name_right, one_right, two_right, bare_right}
 use Rattle.cw_sound.proofs.Calls.Trees.Conditions.{conjunction_right, condition_right, comparison_right}
-use Rattle.cw_sound.proofs.Calls.Trees.Layers.{IsExpressionRight, IsExpressionLayerRight, expression_rolls, IsPrimaryRight, IsPrimaryLayerRight, primary_rolls, IsReferenceRight, IsReferenceLayerRight, reference_rolls, IsConjunctionRight, IsConjunctionLayerRight, conjunction_rolls, IsComparisonRight, IsComparisonLayerRight, comparison_rolls, IsConditionRight, IsConditionLayerRight, condition_rolls, IsDifferRight, IsDifferLayerRight, differ_rolls, IsMaskRight, IsMaskLayerRight, mask_rolls, IsPrimRight, IsPrimLayerRight, prim_rolls, IsSumRight, IsSumLayerRight, sum_rolls, IsTermRight, IsTermLayerRight, term_rolls, IsUnionRight, IsUnionLayerRight, union_rolls}
+use Rattle.cw_sound.proofs.Expressions.Layers as layers
+use Rattle.cw_sound.proofs.Expressions.Layers.{Values, expr_layer_values, primary_layer_values, ref_layer_values, cand_layer_values, cmp_layer_values, cond_layer_values, differ_layer_values, mask_layer_values, prim_layer_values, sum_layer_values, term_layer_values, union_layer_values}
 use Rattle.cw_sound.proofs.Expressions.Schema.{Known, ExprParts, PrimaryParts, RefParts, CandParts, CmpParts, CondParts, DifferParts, MaskParts, PrimParts, SumParts, TermParts, UnionParts, expr_layer, primary_layer, ref_layer, cand_layer, cmp_layer, cond_layer, differ_layer, mask_layer, prim_layer, sum_layer, term_layer, union_layer, Rules, each_expr, each_ref, each_cond}
 
 module _ (named : Named) (numbers : Numbers) (body : Context named numbers) where
@@ -37,28 +38,24 @@ module _ (named : Named) (numbers : Numbers) (body : Context named numbers) wher
   tests T j c x [] = no_test
   tests T j c x (t ∷ ts) = more_tests t.1 (tests T j c x ts)
 
-  abbrev known : Known
-  known = record {
-    Expr = IsExpressionRight named numbers body;
-    Primary = IsPrimaryRight named numbers body;
-    Ref = IsReferenceRight named numbers body;
-    Cand = IsConjunctionRight named numbers body;
-    Cmp = IsComparisonRight named numbers body;
-    Cond = IsConditionRight named numbers body;
-    Differ = IsDifferRight named numbers body;
-    Mask = IsMaskRight named numbers body;
-    Prim = IsPrimRight named numbers body;
-    Sum = IsSumRight named numbers body;
-    Term = IsTermRight named numbers body;
-    Union = IsUnionRight named numbers body;
-  }
+  abbrev Value : Values Made → Type 0
+  Value v = Right named numbers body v.judged v.made v.uses
 
-  expression_rule : (y : ExprParts known) → IsExpressionLayerRight named numbers body (expr_layer known y)
+  abbrev Test : Values Cond → Type 0
+  Test v = RightTest named numbers body v.judged v.made v.uses
+
+  abbrev Place : Values Placed → Type 0
+  Place v = RightPlace named numbers body v.judged v.made v.uses
+
+  abbrev known : Known
+  known = layers.known named numbers Value Test Place
+
+  expression_rule : (y : ExprParts known) → Value (expr_layer_values named numbers (expr_layer known y))
   expression_rule (layer.Choice at c a b) =
       choice_right named numbers body at (judged.condition named c.0) (judged.expression named a.0) (judged.expression named b.0) (made.condition_made named numbers c.0) (made.expression_made named numbers a.0) (made.expression_made named numbers b.0) (uses.condition_uses c.0) (uses.expression_uses a.0) (uses.expression_uses b.0) c.1 a.1 b.1
   expression_rule (layer.Sum s) = s.1
 
-  primary_rule : (y : PrimaryParts known) → IsPrimaryLayerRight named numbers body (primary_layer known y)
+  primary_rule : (y : PrimaryParts known) → Value (primary_layer_values named numbers (primary_layer known y))
   primary_rule (layer.Number n) = number_right named numbers body n
   primary_rule (layer.Octal n) = octal_right named numbers body n
   primary_rule (layer.Literal c) = literal_right named numbers body c
@@ -69,62 +66,50 @@ module _ (named : Named) (numbers : Numbers) (body : Context named numbers) wher
   primary_rule (layer.Ref r) = λ x h. (r.1 x h).sound
   primary_rule (layer.Call n xs) = call_right named numbers body n (rights RawExpr (judged.expression named) (made.expression_made named numbers) uses.expression_uses xs)
 
-  reference_rule : (y : RefParts known) → IsReferenceLayerRight named numbers body (ref_layer known y)
+  reference_rule : (y : RefParts known) → Place (ref_layer_values named numbers (ref_layer known y))
   reference_rule (layer.Name n) = name_right named numbers body n
   reference_rule (layer.One n e) = one_right named numbers body n (judged.expression named e.0) (made.expression_made named numbers e.0) (uses.expression_uses e.0) e.1
   reference_rule (layer.Two n e g) =
       two_right named numbers body n (judged.expression named e.0) (judged.expression named g.0) (made.expression_made named numbers e.0) (made.expression_made named numbers g.0) (uses.expression_uses e.0) (uses.expression_uses g.0) e.1 g.1
   reference_rule (layer.Bare at e) = bare_right named numbers body at (judged.expression named e.0) (made.expression_made named numbers e.0) (uses.expression_uses e.0) e.1
 
-  conjunction_rule : (y : CandParts known) → IsConjunctionLayerRight named numbers body (cand_layer known y)
+  conjunction_rule : (y : CandParts known) → Test (cand_layer_values named numbers (cand_layer known y))
   conjunction_rule y = conjunction_right named numbers body y.operators (tests RawCmp (judged.comparison named) (made.comparison_made named numbers) uses.comparison_uses y.operands)
 
-  comparison_rule : (y : CmpParts known) → IsComparisonLayerRight named numbers body (cmp_layer known y)
+  comparison_rule : (y : CmpParts known) → Test (cmp_layer_values named numbers (cmp_layer known y))
   comparison_rule y =
       comparison_right named numbers body y.operator (judged.sum named y.left.0) (judged.sum named y.right.0) (made.sum_made named numbers y.left.0) (made.sum_made named numbers y.right.0) (uses.sum_uses y.left.0) (uses.sum_uses y.right.0) y.left.1 y.right.1
 
-  condition_rule : (y : CondParts known) → IsConditionLayerRight named numbers body (cond_layer known y)
+  condition_rule : (y : CondParts known) → Test (cond_layer_values named numbers (cond_layer known y))
   condition_rule y = condition_right named numbers body y.operators (tests RawCand (judged.conjunction named) (made.conjunction_made named numbers) uses.conjunction_uses y.operands)
 
-  differ_rule : (y : DifferParts known) → IsDifferLayerRight named numbers body (differ_layer known y)
+  differ_rule : (y : DifferParts known) → Value (differ_layer_values named numbers (differ_layer known y))
   differ_rule y = logic_right named numbers body logic_op.Differ (rights RawUnion (judged.union named) (made.union_made named numbers) uses.union_uses y.operands)
 
-  mask_rule : (y : MaskParts known) → IsMaskLayerRight named numbers body (mask_layer known y)
+  mask_rule : (y : MaskParts known) → Value (mask_layer_values named numbers (mask_layer known y))
   mask_rule y = logic_right named numbers body logic_op.Mask (rights RawPrim (judged.prim named) (made.prim_made named numbers) uses.prim_uses y.operands)
 
-  prim_rule : (y : PrimParts known) → IsPrimLayerRight named numbers body (prim_layer known y)
+  prim_rule : (y : PrimParts known) → Value (prim_layer_values named numbers (prim_layer known y))
   prim_rule y = prim_right named numbers body y.bits (judged.primary named y.primary.0) (made.primary_made named numbers y.primary.0) (uses.primary_uses y.primary.0) y.primary.1
 
-  sum_rule : (y : SumParts known) → IsSumLayerRight named numbers body (sum_layer known y)
+  sum_rule : (y : SumParts known) → Value (sum_layer_values named numbers (sum_layer known y))
   sum_rule y = sum_right named numbers body y.sign y.operators (rights RawTerm (judged.term named) (made.term_made named numbers) uses.term_uses y.operands)
 
-  term_rule : (y : TermParts known) → IsTermLayerRight named numbers body (term_layer known y)
+  term_rule : (y : TermParts known) → Value (term_layer_values named numbers (term_layer known y))
   term_rule y = term_right named numbers body y.operators (rights RawDiffer (judged.differ named) (made.differ_made named numbers) uses.differ_uses y.operands)
 
-  union_rule : (y : UnionParts known) → IsUnionLayerRight named numbers body (union_layer known y)
+  union_rule : (y : UnionParts known) → Value (union_layer_values named numbers (union_layer known y))
   union_rule y = logic_right named numbers body logic_op.Union (rights RawMask (judged.mask named) (made.mask_made named numbers) uses.mask_uses y.operands)
 
   rules : Rules known
-  rules = record {
-    expr = λ y. expression_rolls named numbers body (expr_layer known y) (expression_rule y);
-    primary = λ y. primary_rolls named numbers body (primary_layer known y) (primary_rule y);
-    ref = λ y. reference_rolls named numbers body (ref_layer known y) (reference_rule y);
-    cand = λ y. conjunction_rolls named numbers body (cand_layer known y) (conjunction_rule y);
-    cmp = λ y. comparison_rolls named numbers body (cmp_layer known y) (comparison_rule y);
-    cond = λ y. condition_rolls named numbers body (cond_layer known y) (condition_rule y);
-    differ = λ y. differ_rolls named numbers body (differ_layer known y) (differ_rule y);
-    mask = λ y. mask_rolls named numbers body (mask_layer known y) (mask_rule y);
-    prim = λ y. prim_rolls named numbers body (prim_layer known y) (prim_rule y);
-    sum = λ y. sum_rolls named numbers body (sum_layer known y) (sum_rule y);
-    term = λ y. term_rolls named numbers body (term_layer known y) (term_rule y);
-    union = λ y. union_rolls named numbers body (union_layer known y) (union_rule y);
-  }
+  rules =
+      layers.known_rules named numbers Value Test Place expression_rule primary_rule reference_rule conjunction_rule comparison_rule condition_rule differ_rule mask_rule prim_rule sum_rule term_rule union_rule
 
-  pub expression_is_right : (x : RawExpr) → IsExpressionRight named numbers body x
+  pub expression_is_right : (x : RawExpr) → Right named numbers body (judged.expression named x) (made.expression_made named numbers x) (uses.expression_uses x)
   expression_is_right = each_expr known rules
 
-  pub reference_is_right : (x : RawRef) → IsReferenceRight named numbers body x
+  pub reference_is_right : (x : RawRef) → RightPlace named numbers body (judged.reference named x) (made.reference_made named numbers x) (uses.reference_uses x)
   reference_is_right = each_ref known rules
 
-  pub condition_is_right : (x : RawCond) → IsConditionRight named numbers body x
+  pub condition_is_right : (x : RawCond) → RightTest named numbers body (judged.condition named x) (made.condition_made named numbers x) (uses.condition_uses x)
   condition_is_right = each_cond known rules

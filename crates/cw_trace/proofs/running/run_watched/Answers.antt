@@ -1,5 +1,6 @@
-use Rattle.std.proofs.Common.{◌≡◌, ◌∙◌, arith}
-use Rattle.cw_trace.proofs.Told.{going_on, comes_to_limit, halts, is_bad, divides, port_fails, say_fails}
+use Rattle.std.proofs.Common.{◌≡◌, ◌∙◌, inl, inr, refl, arith}
+use Rattle.cw_i86.specs.MachineRun.{Undefined, Divides, Bad, Divided}
+use Rattle.cw_trace.proofs.Told.{going_on, comes_to_limit, halts, stops, port_fails, say_fails}
 use Rattle.cw_trace.proofs.running.run_watched.Goals as goal
 
 pub returns-in-Err-clause-answers : goal.returns-in-Err-clause-answers
@@ -13,12 +14,12 @@ returns-in-Halted-clause-answers g c =
 pub returns-in-BadCode-clause-answers : goal.returns-in-BadCode-clause-answers
 returns-in-BadCode-clause-answers g c =
     let step = c.in-BadCode.ensures.answers in
-    is_bad _ _ _ _ _ _ _ _ _ _ _ _ _ c.loop-steps.invariant.going c.in_default.ensures.ok c.loop-steps-test.true step.0 step.1 step.2 step.3
+    stops _ _ _ _ _ _ _ _ _ _ _ _ _ Undefined (Bad _) c.loop-steps.invariant.going c.in_default.ensures.ok c.loop-steps-test.true step.0 step.1 step.2 step.3 (λ _. inr (inl (step.0, refl)))
 
 pub returns-in-Divide-clause-answers : goal.returns-in-Divide-clause-answers
 returns-in-Divide-clause-answers g c =
     let step = c.in-Divide.ensures.answers in
-    divides _ _ _ _ _ _ _ _ _ _ _ _ _ c.loop-steps.invariant.going c.in_default.ensures.ok c.loop-steps-test.true step.0 step.1 step.2 step.3
+    stops _ _ _ _ _ _ _ _ _ _ _ _ _ Divides (Divided _) c.loop-steps.invariant.going c.in_default.ensures.ok c.loop-steps-test.true step.0 step.1 step.2 step.3 (λ _. inr (inr (step.0, refl)))
 
 pub returns-in-PortFault-clause-answers : goal.returns-in-PortFault-clause-answers
 returns-in-PortFault-clause-answers g c =

@@ -17,13 +17,9 @@ returns c raw named resolves fine fits =
     let u : SourceUnit = unit_of named in
     let own = own_text raw named resolves in
     let tree = own_tree raw named resolves fits in
-    let items = c.items_declared.ensures named own (c.items_stand.ensures raw named resolves fine fits.rising fits.plain) in
+    let stand = c.parts_stand.ensures raw named resolves fine fits in
     let declared = c.declarations.ensures named own fine in
-    let counted = c.bodies_counted.ensures named own tree.placed items in
-    let facts = c.all_stand.ensures named own fine tree.placed items in
-    let answers = c.answers_stand.ensures named own tree.placed items in
-    let free = (c.parts_free.ensures named fine).block in
-    let frames = c.frames_fit.ensures named own fine tree.placed tree.rising tree.plain items in
-    let body = c.statements.ensures.block named (sites_of (things_of named)) (numbers_of named) u None true named.raw.now.block declared tree.regular facts answers free tree.levels in
-    let procedures = c.procedures.ensures named (sites_of (things_of named)) (numbers_of named) u named.raw.now.block declared refl tree.bodies counted facts answers free frames in
+    let frames = c.frames_fit.ensures named own fine tree.placed tree.rising tree.plain stand.items in
+    let body = c.statements.ensures.block named (sites_of (things_of named)) (numbers_of named) u None true named.raw.now.block declared tree.regular stand.mentions stand.answers stand.types tree.levels in
+    let procedures = c.procedures.ensures named (sites_of (things_of named)) (numbers_of named) u named.raw.now.block declared refl tree.bodies stand.bodies stand.mentions stand.answers stand.types frames in
     both (is_ranged_statement u 0 u.body) (are_ranged_procedures u 0 u.procs && list_all is_small u.switches) body (both (are_ranged_procedures u 0 u.procs) (list_all is_small u.switches) procedures (c.switches.ensures named fine))

@@ -12,10 +12,6 @@ pub returns : goal.returns
 returns c raw named resolves fine fits =
     let own = own_text raw named resolves in
     let tree = own_tree raw named resolves fits in
-    let items = c.items_declared.ensures named own (c.items_stand.ensures raw named resolves fine fits.rising fits.plain) in
-    unit_built named (numbers_of named) (unit_of named) own tree.placed (c.counts.ensures named own tree.placed items) items (c.few_parameters.ensures named own fine tree.placed) refl
-    (c.unit_bodies.ensures.built named (sites_of (things_of named)) (numbers_of named) (unit_of named) named.raw.now.block refl refl tree.regular tree.levels tree.bodies
-    (c.bodies_counted.ensures named own tree.placed items)
-    (c.all_stand.ensures named own fine tree.placed items)
-    (c.answers_stand.ensures named own tree.placed items)
-    (c.parts_free.ensures named fine).block)
+    let stand = c.parts_stand.ensures raw named resolves fine fits in
+    unit_built named (numbers_of named) (unit_of named) own tree.placed (c.counts.ensures named own tree.placed stand.items) stand.items (c.few_parameters.ensures named own fine tree.placed) refl
+    (c.unit_bodies.ensures.built named (sites_of (things_of named)) (numbers_of named) (unit_of named) named.raw.now.block refl refl tree.regular tree.levels tree.bodies stand.bodies stand.mentions stand.answers stand.types)
