@@ -2,7 +2,7 @@
 #![tactic(auto)]
 
 use cw_io::Sink;
-use cw_outside::{Files, Reading, Writing};
+use cw_outside::{Files, Stream};
 use cw_top::{Status, coral66};
 use std::io::ErrorKind;
 use std::process::ExitCode;
@@ -15,9 +15,9 @@ fn words_of(rt: &HostRuntime) -> io::Result<Vec<String>> {
 
 fn main(rt: HostRuntime) -> ExitCode {
     let mut files = Files::new(&rt);
-    let mut input = Reading::new(rt.stdin());
-    let mut out = Writing::new(rt.stdout());
-    let mut say = Writing::new(rt.stderr());
+    let mut input = Stream::new(rt.stdin());
+    let mut out = Stream::new(rt.stdout());
+    let mut say = Stream::new(rt.stderr());
     let words = match words_of(&rt) {
         Ok(words) => words,
         Err(error) if error.kind() == ErrorKind::OutOfMemory => {

@@ -3,4 +3,3 @@ pub mod Steps
 pub mod Parts
 pub mod Linked
 pub mod Archived
-pub mod Idle

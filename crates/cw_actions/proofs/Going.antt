@@ -1,5 +1,6 @@
 pub mod Unlinked
 pub mod Library
+pub mod Loading
 pub mod Meant
 pub mod Given
 pub mod Called

@@ -14,8 +14,8 @@ pub mod Sizes
 pub mod Maps
 pub mod Shows
 pub mod Filing
+pub mod Rights
 pub mod Compiles
 pub mod Migrates
 pub mod Hexes
-pub mod Idle
 pub mod Statuses

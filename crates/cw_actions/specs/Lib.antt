@@ -4,3 +4,4 @@ pub mod Resulting
 pub mod Archiving
 pub mod Coding
 pub mod Tracing
+pub mod Telling

@@ -1,7 +1,7 @@
-//! The action `depth`.
+//! What the action `depth` writes: the depth report of units.
 
 pub mod laws;
 mod telling;
 mod text;
 
-pub use telling::depth_files;
+pub(crate) use telling::depth_units;

@@ -12,5 +12,5 @@ pub use cw_texts::laws::compiled_units;
 pub use cw_texts::{compile_text, read_units};
 pub use going::go;
 pub use linking::link_segments;
-pub use running::load_and_run;
+pub(crate) use running::{load, load_and_run, storage_text};
 pub use statuses::status_of;

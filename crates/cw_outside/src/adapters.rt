@@ -65,24 +65,24 @@ impl Store for Files<'_> {
     }
 }
 
-/// A source over any reader.
+/// A source over any reader, or a sink over any writer. A write that takes no byte of some is a fault.
 #[derive(Drop)]
-pub struct Reading<R> {
-    inner: R,
+pub struct Stream<T> {
+    inner: T,
     faults: u64,
 }
 
-impl<R> Reading<R> {
-    /// A source of which no read has failed yet.
-    pub fn new(inner: R) -> Reading<R> {
-        Reading { inner, faults: 0 }
+impl<T> Stream<T> {
+    /// One of which no read and no write has failed yet.
+    pub fn new(inner: T) -> Stream<T> {
+        Stream { inner, faults: 0 }
     }
 }
 
-impl<R: Read> Source for Reading<R> {
+impl<R: Read> Source for Stream<R> {
     ghost left = { λ _. None };
 
-    ghost faults = { λ reading. reading.faults };
+    ghost faults = { λ stream. stream.faults };
 
     fn read(&mut self, buf: &mut [u8]) -> Result<usize, Failed> {
         match self.inner.read(buf) {
@@ -95,24 +95,10 @@ impl<R: Read> Source for Reading<R> {
     }
 }
 
-/// A sink over any writer. A write that takes no byte of some is a fault.
-#[derive(Drop)]
-pub struct Writing<W> {
-    inner: W,
-    faults: u64,
-}
-
-impl<W> Writing<W> {
-    /// A sink of which no write has failed yet.
-    pub fn new(inner: W) -> Writing<W> {
-        Writing { inner, faults: 0 }
-    }
-}
-
-impl<W: Write> Sink for Writing<W> {
+impl<W: Write> Sink for Stream<W> {
     ghost held = { λ _. None };
 
-    ghost faults = { λ writing. writing.faults };
+    ghost faults = { λ stream. stream.faults };
 
     fn write(&mut self, piece: &[u8]) -> Result<usize, Failed> {
         match self.inner.write(piece) {
@@ -180,20 +166,20 @@ mod tests {
     #[test]
     fn reading_gives_the_bytes_and_counts_faults(rt: HostRuntime) {
         let mut buf = [0u8; 4];
-        let mut reading = Reading::new(b"abcdef".as_slice());
+        let mut reading = Stream::new(b"abcdef".as_slice());
         assert!(&rt; matches!(reading.read(&mut buf), Ok(4)));
         assert_eq!(&rt; (buf, reading.faults), (*b"abcd", 0));
-        let mut broken = Reading::new(Broken);
+        let mut broken = Stream::new(Broken);
         assert!(&rt; broken.read(&mut buf).is_err());
         assert_eq!(&rt; broken.faults, 1);
     }
 
     #[test]
     fn writing_takes_the_bytes_and_counts_faults(rt: HostRuntime) {
-        let mut writing = Writing::new(io::sink());
+        let mut writing = Stream::new(io::sink());
         assert!(&rt; matches!(writing.write(b"abc"), Ok(3)));
         assert_eq!(&rt; writing.faults, 0);
-        let mut broken = Writing::new(Broken);
+        let mut broken = Stream::new(Broken);
         assert!(&rt; broken.write(b"abc").is_err());
         assert_eq!(&rt; broken.faults, 1);
     }

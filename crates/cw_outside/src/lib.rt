@@ -5,4 +5,4 @@
 mod adapters;
 mod replace;
 
-pub use adapters::{Files, Reading, Writing};
+pub use adapters::{Files, Stream};

@@ -10,7 +10,6 @@ use Rattle.cw_correct.specs.Calls.{Call, over_others, told_files, NoFault}
 use Rattle.cw_correct.specs.Tracing.{TracesRight}
 use Rattle.cw_correct.specs.Making.{program_line, in_memory, over_program, MakesRight}
 use Rattle.cw_correct.specs.Correct.{CorrectAs, TellsBytes, HasOneStatus}
-use Rattle.cw_correct.specs.Results.{MapsRight, DepthsRight, CodesRight, ShowsRight, CompilesRight, LibsRight, LinksRight, MigratesRight, HexesRight}
 use Rattle.cw_say.specs.declared.status.Status.{Status}
 use Rattle.cw_say.specs.declared.status.Status.TheVariants.{NoMemory, TooLong}
 use Rattle.cw_say.specs.declared.status.Long.TheVariants as long
@@ -18,22 +17,16 @@ use Rattle.cw_actions.specs.Going.Laws as going
 use Rattle.cw_actions.proofs.Resulting.Readings.{map_twice}
 use Rattle.cw_actions.specs.Executing.Laws as executing
 use Rattle.cw_actions.specs.Resulting.OneStatus.{AllowsOneStatus}
+use Rattle.cw_actions.specs.Resulting.Laws.{OfResults, OfLibraries}
 use Rattle.cw_actions.specs.Tracing.Laws as tracing
-use Rattle.cw_actions.proofs.Archiving.Archived.{behind_first}
+use Rattle.cw_actions.proofs.Resulting.Told.{behind_first}
 
 -- the same of each action
 pub record OneEach : Type 0 where
   pub texts : going.HasOneStatus
   pub exec : executing.HasOneStatus
-  pub map : AllowsOneStatus MapsRight
-  pub depth : AllowsOneStatus DepthsRight
-  pub code : AllowsOneStatus CodesRight
-  pub list : AllowsOneStatus ShowsRight
-  pub compile : AllowsOneStatus CompilesRight
-  pub lib : AllowsOneStatus LibsRight
-  pub link : AllowsOneStatus LinksRight
-  pub migrate : AllowsOneStatus MigratesRight
-  pub hex : AllowsOneStatus HexesRight
+  pub results : OfResults AllowsOneStatus
+  pub libraries : OfLibraries AllowsOneStatus
   pub trace : tracing.HasOneStatus
 
 module _ (each : OneEach) (c : Call) (input : List ℕ) (a b : Status) (found : List (Option (List ℕ))) (told : told_files c ≡ map Some found) (bytes : All TellsBytes found) (quiet : NoFault c.before c.after) (other : a ≢ NoMemory)
@@ -51,15 +44,15 @@ module _ (each : OneEach) (c : Call) (input : List ℕ) (a b : Status) (found : 
   pub one_of : (action : Action) → CorrectAs action c input a → CorrectAs action c input b → a ≡ b
   one_of Go x y = each.texts (λ us. map_text us c.limits) c input a b found told quiet other also telling x y
   one_of Exec x y = each.exec c input a b found told quiet other also telling x y
-  one_of Map x y = each.map c a b found told bytes quiet other also x y
-  one_of Depth x y = each.depth c a b found told bytes quiet other also x y
-  one_of Code x y = each.code c a b found told bytes quiet other also x y
-  one_of Show x y = each.list c a b found told bytes quiet other also x y
-  one_of Compile x y = each.compile c a b found told bytes quiet other also x y
-  one_of Lib x y = each.lib c a b found told bytes quiet other also x y
-  one_of Link x y = each.link c a b found told bytes quiet other also x y
-  one_of Migrate x y = each.migrate c a b found told bytes quiet other also x y
-  one_of Hex x y = each.hex c a b found told bytes quiet other also x y
+  one_of Map x y = each.results.map c a b found told bytes quiet other also x y
+  one_of Depth x y = each.results.depth c a b found told bytes quiet other also x y
+  one_of Code x y = each.results.code c a b found told bytes quiet other also x y
+  one_of Show x y = each.results.list c a b found told bytes quiet other also x y
+  one_of Compile x y = each.results.compile c a b found told bytes quiet other also x y
+  one_of Lib x y = each.libraries.lib c a b found told bytes quiet other also x y
+  one_of Link x y = each.libraries.link c a b found told bytes quiet other also x y
+  one_of Migrate x y = each.results.migrate c a b found told bytes quiet other also x y
+  one_of Hex x y = each.results.hex c a b found told bytes quiet other also x y
   one_of Big (m, is, x) (n, also_is, y) =
       let same : n ≡ m = number_of (sym also_is ∙ is) in
       let again = subst (λ k. MakesRight k c input b) same y in

@@ -1,6 +1,5 @@
 -- A call that did nothing but write its closing line keeps its promise.
-use Rattle.std.proofs.Common.{◌≡◌, ◌⊎◌, ℕ, List, [], drop, Option, Some, None, refl, sym, ap, subst, inl, inr, arith, append-nil}
-use Rattle.cw_io.specs.Bytes.{after_told}
+use Rattle.std.proofs.Common.{◌≡◌, ◌⊎◌, ℕ, List, [], drop, Option, Some, None, refl, sym, ap, subst, inl, inr, arith}
 use Rattle.cw_words.specs.Parts.{Parts, parts_of, copies_of, stop_of}
 use Rattle.cw_words.specs.Copies.{TellsCopies, TellsStop}
 use Rattle.cw_stop.specs.declared.stopping.Stop.{Stop}
@@ -15,33 +14,24 @@ use Rattle.cw_correct.specs.Making.{program_line, in_memory, MakesRight}
 use Rattle.cw_correct.specs.Closing.{Closes}
 use Rattle.cw_correct.specs.Saying.{IsFirstPart, SaysLast}
 use Rattle.cw_correct.specs.Correct.{DoesNothing, IsCorrectRequest}
-use Rattle.cw_correct.specs.Results.{MapsRight, DepthsRight, CodesRight, ShowsRight, CompilesRight, LibsRight, LinksRight, MigratesRight, HexesRight}
 use Rattle.cw_say.specs.declared.status.Status.{Status}
 use Rattle.cw_say.specs.declared.status.Status.TheVariants.{Usage, NoMemory}
 use Rattle.cw_actions.specs.Going.Laws as going
+use Rattle.cw_actions.proofs.Going.Called.{closes_wanted}
+use Rattle.cw_actions.proofs.Executing.Running.{after_nothing}
 use Rattle.cw_actions.specs.Executing.Laws as executing
 use Rattle.cw_actions.specs.Resulting.Idle.{IsIdle, AllowsIdle}
+use Rattle.cw_actions.specs.Resulting.Laws.{OfResults, OfLibraries}
 use Rattle.cw_actions.specs.Tracing.Laws as tracing
 use Rattle.cw_top.specs.Quits.{MayQuit}
 use Rattle.cw_top.proofs.Asked.{asked, asked_so, copies_told, stop_told, no_stop}
-
-after_nothing : (told : Option (List ℕ)) → after_told told [] ≡ told
-after_nothing None = refl
-after_nothing (Some held) = ap Some (append-nil held)
 
 -- the promises of all actions for want of memory
 pub record Idles : Type 0 where
   pub texts : going.IsRightIdle
   pub exec : executing.IsRightIdle
-  pub map : AllowsIdle MapsRight
-  pub depth : AllowsIdle DepthsRight
-  pub code : AllowsIdle CodesRight
-  pub list : AllowsIdle ShowsRight
-  pub compile : AllowsIdle CompilesRight
-  pub lib : AllowsIdle LibsRight
-  pub link : AllowsIdle LinksRight
-  pub migrate : AllowsIdle MigratesRight
-  pub hex : AllowsIdle HexesRight
+  pub results : OfResults AllowsIdle
+  pub libraries : OfLibraries AllowsIdle
   pub trace : tracing.IsRightIdle
 
 module _ (before after : Surroundings) where
@@ -68,17 +58,7 @@ module _ (before after : Surroundings) where
 
   -- the names of the files are of no account where memory was wanted
   named : (names : List (List ℕ)) → Closes before after [] [] NoMemory → Closes before after names [] NoMemory
-  named names closes = record {
-    says = closes.says;
-    ended = closes.ended;
-    files = closes.files;
-    store_faults = closes.store_faults;
-    absences = closes.absences;
-    left = closes.left;
-    input_faults = closes.input_faults;
-    out = closes.out;
-    out_faults = closes.out_faults;
-  }
+  named names closes = closes_wanted before after [] [] names [] closes
 
   module _ (idles : Idles) (parts : Parts) (closes : Closes before after [] [] NoMemory) where
     abbrev call : Action → Call
@@ -109,15 +89,15 @@ module _ (before after : Surroundings) where
     of_action : (action : Action) → copies_of action parts.names ≡ Some parts.copies → stop_of action parts.names ≡ Some parts.stop → parts.action ≡ action → IsCorrectRequest (Some parts) before after NoMemory
     of_action Go told stops is = asked Go parts before after NoMemory is (idles.texts (λ us. map_text us (limits_of parts)) Go (limits_of parts) parts.steps parts.names before after (named parts.names closes))
     of_action Exec told stops is = asked_so Exec parts before after NoMemory is (λ input. idles.exec (call Exec) input (named parts.names closes))
-    of_action Map told stops is = asked_so Map parts before after NoMemory is (λ input. idles.map (call Map) (is_idle Map))
-    of_action Depth told stops is = asked_so Depth parts before after NoMemory is (λ input. idles.depth (call Depth) (is_idle Depth))
-    of_action Code told stops is = asked_so Code parts before after NoMemory is (λ input. idles.code (call Code) (is_idle Code))
-    of_action Show told stops is = asked_so Show parts before after NoMemory is (λ input. idles.list (call Show) (is_idle Show))
-    of_action Compile told stops is = asked_so Compile parts before after NoMemory is (λ input. idles.compile (call Compile) (is_idle Compile))
-    of_action Lib told stops is = asked_so Lib parts before after NoMemory is (λ input. idles.lib (call Lib) (is_idle Lib))
-    of_action Link told stops is = asked_so Link parts before after NoMemory is (λ input. idles.link (call Link) (is_idle Link))
-    of_action Migrate told stops is = asked_so Migrate parts before after NoMemory is (λ input. idles.migrate (call Migrate) (is_idle Migrate))
-    of_action Hex told stops is = asked_so Hex parts before after NoMemory is (λ input. idles.hex (call Hex) (is_idle Hex))
+    of_action Map told stops is = asked_so Map parts before after NoMemory is (λ input. idles.results.map (call Map) (is_idle Map))
+    of_action Depth told stops is = asked_so Depth parts before after NoMemory is (λ input. idles.results.depth (call Depth) (is_idle Depth))
+    of_action Code told stops is = asked_so Code parts before after NoMemory is (λ input. idles.results.code (call Code) (is_idle Code))
+    of_action Show told stops is = asked_so Show parts before after NoMemory is (λ input. idles.results.list (call Show) (is_idle Show))
+    of_action Compile told stops is = asked_so Compile parts before after NoMemory is (λ input. idles.results.compile (call Compile) (is_idle Compile))
+    of_action Lib told stops is = asked_so Lib parts before after NoMemory is (λ input. idles.libraries.lib (call Lib) (is_idle Lib))
+    of_action Link told stops is = asked_so Link parts before after NoMemory is (λ input. idles.libraries.link (call Link) (is_idle Link))
+    of_action Migrate told stops is = asked_so Migrate parts before after NoMemory is (λ input. idles.results.migrate (call Migrate) (is_idle Migrate))
+    of_action Hex told stops is = asked_so Hex parts before after NoMemory is (λ input. idles.results.hex (call Hex) (is_idle Hex))
     of_action Big told stops is =
         let (input, is_input, runs) = idles.texts (program_line parts.copies) Big (limits_of parts) parts.steps (large_program parts.copies) (in_memory before) (in_memory after) (in_memory_closes (large_program parts.copies)) in
         let right : MakesRight parts.copies (call Big) input NoMemory = record {

@@ -7,12 +7,10 @@ ghost use Rattle.cw_write.specs.Said.{Says};
 ghost use Rattle.cw_say.specs.Closing.{closing_line};
 
 use cw_actions::big::big;
-use cw_actions::code::code_files;
-use cw_actions::depth::depth_files;
 use cw_actions::exec::exec;
 use cw_actions::go::go;
 use cw_actions::libraries::{link, make_library};
-use cw_actions::results::{compile, hex, map_files, migrate, show};
+use cw_actions::results::{code_files, compile, depth_files, hex, map_files, migrate, show};
 use cw_actions::trace::trace;
 use cw_io::{Sink, Source, Store};
 use cw_say::{Status, write_last};

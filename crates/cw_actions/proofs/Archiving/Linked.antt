@@ -17,8 +17,10 @@ use Rattle.cw_files.specs.Texts.{object_limit}
 use Rattle.cw_files.specs.Reading.{HaveBytes, HaveValues, AllTaken, Stopped, SameCounts}
 use Rattle.cw_correct.specs.Calls.{Call, told_files, NoFault, IsUntouched, IsUnwritten}
 use Rattle.cw_correct.specs.Files.{counts_before, counts_after}
+use Rattle.cw_correct.specs.Saying.{SaysLast}
 use Rattle.cw_correct.specs.Results.{WritesFile, IsDone, AreListed, AreFew, all_contents, image_file, LinkComes, LinksRight}
 use Rattle.cw_actions.specs.Resulting.Outside.{Files, files_at}
+use Rattle.cw_actions.specs.Resulting.Idle.{AllowsIdle}
 use Rattle.cw_actions.specs.Resulting.OneStatus.{AllowsOneStatus}
 use Rattle.cw_actions.specs.Archiving.Linking.{LinksList, LinksTaken}
 use Rattle.cw_say.specs.declared.status.Status.{Status}
@@ -58,17 +60,17 @@ module _ (given : OneOfFiles) where
         let same : xs ≡ ys = same_parts given.no_fault given.library found xs ys x y in
         one_list ys a b (subst (λ zs. IsLinkList zs a) same listed) also
 
-    module _ (untouched : IsUntouched c.before c.after) (unwritten : IsUnwritten c.before c.after) (s : Status) (closed : Closed c s) where
-      make : (texts : List (List ℕ)) (parts : List Part) (list : List (List ℕ)) → HaveBytes object_limit (told_files c) texts → HaveValues HasPart texts parts → LinkComes c texts parts list s
+    module _ (untouched : IsUntouched c.before c.after) (unwritten : IsUnwritten c.before c.after) (s : Status) where
+      right : SaysLast c.before c.after c.names [] s → (texts : List (List ℕ)) (parts : List Part) (list : List (List ℕ)) → HaveBytes object_limit (told_files c) texts → HaveValues HasPart texts parts → LinkComes c texts parts list s
           → WritesFile c (codes "A.IMG") (image_file list c.limits) (AreAll parts list) s → LinksRight c s
-      make texts parts list have values comes writes = record {
+      right says texts parts list have values comes writes = record {
         texts = texts;
         parts = parts;
         list = list;
         have_bytes = have;
         have_parts = values;
         comes = comes;
-        says = says_last c s (λ e. subst (λ t. LinkComes c texts parts list t) e comes) closed;
+        says = says;
         writes = writes;
         untouched = untouched;
         unwritten = unwritten;
@@ -81,14 +83,21 @@ module _ (given : OneOfFiles) where
             (λ t x. stop_done kind c (map Some told) tell_all texts parts have values quiet others taken t x) s comes;
       }
 
-      pub stopped : AllStay c.before.files c.after.files → Stopped object_limit HasPart (λ texts taken. StopsParts (told_files c) texts taken (counts_before c) (counts_after c) s) (told_files c) → LinksRight c s
+    -- where the call was closed so
+    module _ (untouched : IsUntouched c.before c.after) (unwritten : IsUnwritten c.before c.after) (s result : Status) (answers : result ≡ s) (closed : Closed c s) where
+      make : (texts : List (List ℕ)) (parts : List Part) (list : List (List ℕ)) → HaveBytes object_limit (told_files c) texts → HaveValues HasPart texts parts → LinkComes c texts parts list s
+          → WritesFile c (codes "A.IMG") (image_file list c.limits) (AreAll parts list) s → LinksRight c result
+      make texts parts list have values comes writes =
+          subst (LinksRight c) (sym answers) (right untouched unwritten s (says_last c s (λ e. subst (λ t. LinkComes c texts parts list t) e comes) closed) texts parts list have values comes writes)
+
+      pub stopped : AllStay c.before.files c.after.files → Stopped object_limit HasPart (λ texts taken. StopsParts (told_files c) texts taken (counts_before c) (counts_after c) s) (told_files c) → LinksRight c result
       stopped stay x =
           make x.texts x.values [] x.have_bytes x.have_values
           (stops_come c x.texts x.values s x.stops)
           (keeps_file kind c x.texts (length x.values) stay (codes "A.IMG") (image_file [] c.limits) (AreAll x.values []) s x.stops)
 
       -- nothing came of the files for want of memory
-      unlisted : (parts : List Part) → AllTaken object_limit HasPart (told_files c) parts → s ≡ NoMemory → AllStay c.before.files c.after.files → LinksRight c s
+      unlisted : (parts : List Part) → AllTaken object_limit HasPart (told_files c) parts → s ≡ NoMemory → AllStay c.before.files c.after.files → LinksRight c result
       unlisted parts x wanted stay =
           make x.texts parts [] x.have_bytes x.have_values (subst (λ t. LinkComes c x.texts parts [] t) (sym wanted) tt) (subst (λ t. WritesFile c (codes "A.IMG") (image_file [] c.limits) (AreAll parts []) t) (sym wanted) stay)
 
@@ -99,7 +108,7 @@ module _ (given : OneOfFiles) where
         listed_all : (list : List (List ℕ)) → IsLinkList parts list → AreListed c parts list
         listed_all list is = record { all = x.all ∙ length-map c.names c.before.files; listed = is }
 
-        of_list : (list : List (List ℕ)) → IsLinkList parts list → LinksList list c.limits between after s → LinksRight c s
+        of_list : (list : List (List ℕ)) → IsLinkList parts list → LinksList list c.limits between after s → LinksRight c result
         of_list list is links =
             let are : AreListed c parts list = listed_all list is in
             make x.texts parts list x.have_bytes x.have_values
@@ -121,9 +130,9 @@ module _ (given : OneOfFiles) where
             t linked)
             s links closed)
 
-        pub written : (taken : LinkFiles) → AreFilesOf parts taken → LinksTaken taken.objects taken.members c.limits between after s → LinksRight c s
+        pub written : (taken : LinkFiles) → AreFilesOf parts taken → LinksTaken taken.objects taken.members c.limits between after s → LinksRight c result
         written taken are links =
-            links_taken (λ t. t ≡ s → LinksRight c s) taken.objects taken.members c.limits between after
+            links_taken (λ t. t ≡ s → LinksRight c result) taken.objects taken.members c.limits between after
             (λ y e. unlisted parts x (sym e) (λ other. y other ∙ stay other))
             (λ t list is linked e.
             of_list list
@@ -169,6 +178,9 @@ module _ (given : OneOfFiles) where
       where
         run : AreListed c x.parts x.list → FileRuns kind found x.parts None
         run are = all_run kind c found told x.texts x.parts x.have_bytes x.have_parts are.all
+
+  pub idle : AllowsIdle LinksRight
+  idle c x = right c x.untouched x.unwritten NoMemory x.says [] [] [] tt tt tt x.stays
 
   pub links_once : HasOneFault → libraries.HasOneFault → AllowsOneStatus LinksRight
   links_once object_fault library_fault c a b found told all quiet m n x y =

@@ -1,5 +1,5 @@
 -- The files of `link` as they are read.
-use Rattle.std.proofs.Common.{◌≡◌, ◌⊎◌, ℕ, Bool, true, false, List, map, None, refl, sym, ap, ◌∙◌, subst, inl, inr, slice_get}
+use Rattle.std.proofs.Common.{◌≡◌, ℕ, Bool, true, false, List, map, None, sym, ap, ◌∙◌, subst, inl}
 use Rattle.std.specs.Borrow.{Bor}
 use Rattle.cw_io.specs.File.{Told}
 use Rattle.cw_cpu86.specs.Ports.{AreBytes}
@@ -10,21 +10,20 @@ use Rattle.cw_lib.specs.Uniqueness as libraries
 use Rattle.cw_link_files.specs.Parts.{Part, Given, Members, begins_library, TellsPart, HasPart, IsBadPart}
 use Rattle.cw_link_files.specs.Taken.{StopsParts}
 use Rattle.cw_files.specs.Texts.{object_limit}
-use Rattle.cw_files.specs.Reading.{Counts, AllTaken, Stopped, IsUnread}
+use Rattle.cw_files.specs.Reading.{Counts, AllTaken, Stopped}
 use Rattle.cw_say.specs.declared.status.Bad.{Bad}
 use Rattle.cw_say.specs.declared.status.Bad.TheVariants.{Object, Image as BadImage, Hex, Library}
 use Rattle.cw_say.specs.declared.status.Status.{Status}
 use Rattle.cw_say.specs.declared.status.Status.TheVariants.{BadFile}
-use Rattle.cw_actions.proofs.Resulting.Readings.{Found, bad_at, same_values}
+use Rattle.cw_actions.proofs.Resulting.Readings.{Found, same_values}
 use Rattle.cw_actions.proofs.Resulting.Told.{same_told}
-use Rattle.cw_actions.proofs.Resulting.Outcomes.{IsRefusedAs, Kind, FileRuns}
+use Rattle.cw_actions.proofs.Resulting.Outcomes.{Kind, BadStop, bad_stop, bad_files, FileRuns}
 
 true_false : (b : Bool) → b ≡ true → b ≡ false → ⊥
 true_false b e f = absurd (cc (e, f))
 
-pub stop_is : (files : List Told) (texts : List (List ℕ)) (taken : ℕ) (before after : Counts) (s : Status) → StopsParts files texts taken before after s
-    → IsUnread object_limit files taken before after s ⊎ IsRefusedAs Bad IsBadPart BadFile texts taken s
-stop_is files texts taken before after (BadFile number fault) x = inr (number, fault, x.0, bad_at IsBadPart (λ fault. fault) (slice_get texts number) fault x.1, refl)
+pub stop_is : (files : List Told) (texts : List (List ℕ)) (taken : ℕ) (before after : Counts) (s : Status) → StopsParts files texts taken before after s → BadStop Bad IsBadPart (λ fault. fault) files texts taken before after s
+stop_is files texts taken before after (BadFile number fault) x = bad_stop Bad IsBadPart (λ fault. fault) files texts taken before after number fault x
 stop_is files texts taken before after _ x = inl x
 
 -- ---- what is taken is one thing, and is not refused
@@ -53,18 +52,7 @@ module _ (no_fault : HasNotBoth) where
   not_bad bytes part (Hex fault) is bad = absurd bad
 
   abbrev pub parts : Kind
-  parts = record {
-    Value = Part;
-    Wrong = Bad;
-    limit = object_limit;
-    Accepts = HasPart;
-    Refuses = IsBadPart;
-    status_of = BadFile;
-    is_refusal = λ number fault. tt;
-    not_both = not_bad;
-    Stops = StopsParts;
-    stop_is = stop_is;
-  }
+  parts = bad_files Bad IsBadPart (λ fault. fault) Part HasPart not_bad StopsParts stop_is
 
 -- of the names of a call
 module _ (file : List ℕ → Told) (names : List (Bor (List ℕ))) where

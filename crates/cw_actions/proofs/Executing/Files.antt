@@ -1,5 +1,5 @@
 -- The file of `exec` as it is read: an image, or a HEX text.
-use Rattle.std.proofs.Common.{◌≡◌, ◌⊎◌, ℕ, List, Bool, true, false, Result, Ok, refl, sym, ap, ◌∙◌, subst, inl, inr, slice_get}
+use Rattle.std.proofs.Common.{◌≡◌, ℕ, List, Bool, true, false, Result, Ok, sym, ap, ◌∙◌, subst, inl}
 use Rattle.cw_io.specs.File.{Told}
 use Rattle.cw_i86.specs.State.{State}
 use Rattle.cw_i86.specs.MachineRun.{IsStart}
@@ -7,14 +7,13 @@ use Rattle.cw_hex.proofs.Faults.{not_both, one_state, one_fault}
 use Rattle.cw_image.specs.declared.image.Image.{Image}
 use Rattle.cw_image.specs.declared.fault.ImageFault.{ImageFault}
 use Rattle.cw_files.specs.declared.images.Runnable.{Runnable}
-use Rattle.cw_files.specs.Texts.{HasImage, TellsRunnable, HasRunnable, IsBadRunnable, begins_hex, object_limit}
-use Rattle.cw_files.specs.Reading.{Counts, IsUnread, StopsRunnables}
+use Rattle.cw_files.specs.Texts.{HasImage, TellsRunnable, HasRunnable, IsBadRunnable, begins_hex}
+use Rattle.cw_files.specs.Reading.{Counts, StopsRunnables}
 use Rattle.cw_say.specs.declared.status.Bad.{Bad}
 use Rattle.cw_say.specs.declared.status.Bad.TheVariants as bad
 use Rattle.cw_say.specs.declared.status.Status.{Status}
 use Rattle.cw_say.specs.declared.status.Status.TheVariants.{BadFile}
-use Rattle.cw_actions.proofs.Resulting.Readings.{bad_at}
-use Rattle.cw_actions.proofs.Resulting.Outcomes.{IsRefusedAs, Kind}
+use Rattle.cw_actions.proofs.Resulting.Outcomes.{Kind, BadStop, bad_stop, bad_files}
 use Rattle.cw_actions.proofs.Resulting.Images as no_image
 
 -- ---- bytes that tell what runs are not bad
@@ -72,21 +71,9 @@ one_bad bytes (bad.Hex f) _ x y = absurd y
 
 -- ---- its kind
 
-pub stop_is : (files : List Told) (texts : List (List ℕ)) (taken : ℕ) (before after : Counts) (s : Status) → StopsRunnables files texts taken before after s
-    → IsUnread object_limit files taken before after s ⊎ IsRefusedAs Bad IsBadRunnable BadFile texts taken s
-stop_is files texts taken before after (BadFile number fault) x = inr (number, fault, x.0, bad_at IsBadRunnable (λ fault. fault) (slice_get texts number) fault x.1, refl)
+pub stop_is : (files : List Told) (texts : List (List ℕ)) (taken : ℕ) (before after : Counts) (s : Status) → StopsRunnables files texts taken before after s → BadStop Bad IsBadRunnable (λ fault. fault) files texts taken before after s
+stop_is files texts taken before after (BadFile number fault) x = bad_stop Bad IsBadRunnable (λ fault. fault) files texts taken before after number fault x
 stop_is files texts taken before after _ x = inl x
 
 abbrev pub runnable_files : Kind
-runnable_files = record {
-  Value = Runnable;
-  Wrong = Bad;
-  limit = object_limit;
-  Accepts = HasRunnable;
-  Refuses = IsBadRunnable;
-  status_of = BadFile;
-  is_refusal = λ number fault. tt;
-  not_both = not_bad;
-  Stops = StopsRunnables;
-  stop_is = stop_is;
-}
+runnable_files = bad_files Bad IsBadRunnable (λ fault. fault) Runnable HasRunnable not_bad StopsRunnables stop_is

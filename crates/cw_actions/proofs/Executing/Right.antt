@@ -1,5 +1,5 @@
 -- What `exec` does keeps its promise.
-use Rattle.std.proofs.Common.{◌≡◌, ℕ, List, [], ◌∷◌, length, map, Some, refl, sym, ap, ◌∙◌, subst, arith}
+use Rattle.std.proofs.Common.{◌≡◌, ◌≢◌, ℕ, List, [], ◌∷◌, length, map, Some, refl, sym, ap, ◌∙◌, subst, arith}
 use Rattle.cw_io.specs.File.{AllStay}
 use Rattle.cw_i86.specs.MachineRun as run
 use Rattle.cw_ports.specs.Running as ports
@@ -23,6 +23,7 @@ use Rattle.cw_say.specs.declared.status.Status.{Status}
 use Rattle.cw_say.specs.declared.status.Status.TheVariants.{NoFile, Outside, NoMemory, BadFile, TooLong}
 use Rattle.cw_say.specs.declared.status.Which.TheVariants.{Store}
 use Rattle.cw_say.specs.declared.status.Long.TheVariants.{File}
+use Rattle.cw_say.specs.declared.status.Long.TheVariants as long
 use Rattle.cw_actions.specs.Executing.Runs.{image_side, Runs}
 use Rattle.cw_actions.specs.Going.Runs.{status_of}
 use Rattle.cw_actions.specs.Executing.Laws.{IsRightIdle}
@@ -63,6 +64,27 @@ run_completes c input ends.OutFault cause = λ texts runnables told taken quiet 
 run_completes c input ends.TooLong cause = λ texts runnables told taken quiet short. absurd (omega (arith, short, cause.1))
 run_completes c input _ cause = λ texts runnables told taken quiet short. tt
 
+-- ---- what is told of a call
+
+module _ (c : Call) (input : List ℕ) (texts : List (List ℕ)) (runnables : List Runnable) (n : ℕ) (shown : run.Observed) (status : Status) where
+  make : HaveBytes object_limit (told_files c) texts → HaveValues HasRunnable texts runnables → ExecComes c texts runnables status → SaysLast c.before c.after c.names (first_names runnables) status → RunsImage c input (begins_first runnables) n shown status
+      → ReadsInput c input (begins_first runnables) n shown status → (status ≢ TooLong long.Input → ports.TakenWithin c.before.left c.after.left) → CompletesExec c input status → AllStay c.before.files c.after.files → ExecutesRight c input status
+  make have values comes says runs reads within completes stays = record {
+    texts = texts;
+    runnables = runnables;
+    instructions = n;
+    shown = shown;
+    have_bytes = have;
+    have_runnables = values;
+    comes = comes;
+    says = says;
+    runs_image = runs;
+    read_ahead = reads;
+    within_limit = within;
+    completes = completes;
+    stays = stays;
+  }
+
 -- ---- where nothing ran
 
 -- the surroundings as far as a run uses them are as before the call, and nothing was said
@@ -79,21 +101,7 @@ module _ (c : Call) (b : Surroundings) (stays : AllStay c.before.files c.after.f
       → CompletesExec c input status → ExecutesRight c input status
   still input segments status texts runnables quiet closes have values comes says runs reads completes =
       let untouched : IsUntouched c.before c.after = record { input = closes.left ∙ ap (λ s. s.left) quiet.side; faults = closes.input_faults ∙ ap (λ s. s.input_faults) quiet.side } in
-      record {
-        texts = texts;
-        runnables = runnables;
-        instructions = 0;
-        shown = nothing;
-        have_bytes = have;
-        have_runnables = values;
-        comes = comes;
-        says = says;
-        runs_image = runs (closes.out ∙ ap (λ s. s.held) quiet.side);
-        read_ahead = reads untouched;
-        within_limit = λ other. untaken c.before.left c.after.left untouched.input;
-        completes = completes;
-        stays = stays;
-      }
+      make c input texts runnables 0 nothing status have values comes says (runs (closes.out ∙ ap (λ s. s.held) quiet.side)) (reads untouched) (λ other. untaken c.before.left c.after.left untouched.input) completes stays
 
   pub no_memory : (input : List ℕ) (segments : List (List ℕ)) → IsQuiet c b → Closes b c.after c.names segments NoMemory → ExecutesRight c input NoMemory
   no_memory input segments quiet closes =
@@ -152,21 +160,9 @@ module _ (c : Call) (b : Surroundings) (name : List ℕ) (runnable : Runnable) (
   files = sym (ap (λ names. map c.before.files names) one)
 
   ran_right : (input : List ℕ) (n : ℕ) (shown : run.Observed) (end : ImageEnd) → Answers c input (begins_first (runnable ∷ [])) n shown end → Closes b c.after c.names runnable.names (status_of c.steps end) → ExecutesRight c input (status_of c.steps end)
-  ran_right input n shown end a closes = record {
-    texts = all.texts;
-    runnables = runnable ∷ [];
-    instructions = n;
-    shown = shown;
-    have_bytes = subst (λ files. HaveBytes object_limit files all.texts) files all.have_bytes;
-    have_runnables = all.have_values;
-    comes = run_comes c input all.texts (runnable ∷ []) end (sym (ap length one)) a.cause;
-    says = says_last c b c.names runnable.names (status_of c.steps end) said quiet_say (run_first c.steps c.before.say_faults b.say_faults end) closes.says;
-    runs_image = a.runs_image;
-    read_ahead = a.read_ahead;
-    within_limit = a.within_limit;
-    completes = run_completes c input end a.cause;
-    stays = stays;
-  }
+  ran_right input n shown end a closes =
+      make c input all.texts (runnable ∷ []) n shown (status_of c.steps end) (subst (λ files. HaveBytes object_limit files all.texts) files all.have_bytes) all.have_values (run_comes c input all.texts (runnable ∷ []) end (sym (ap length one)) a.cause)
+      (says_last c b c.names runnable.names (status_of c.steps end) said quiet_say (run_first c.steps c.before.say_faults b.say_faults end) closes.says) a.runs_image a.read_ahead a.within_limit (run_completes c input end a.cause) stays
 
   pub run_right : (status : Status) → Runs runnable.cpu c.steps (image_side c.before) (image_side b) status → Closes b c.after c.names runnable.names status → IsRight c status
   run_right status r closes =

@@ -18,7 +18,7 @@ use Rattle.cw_correct.specs.Correct.{IsCorrectCall}
 use Rattle.cw_write.specs.Said.{Says}
 use Rattle.cw_say.specs.Closing.{closing_line}
 use Rattle.cw_say.specs.declared.status.Status.{Status}
-use Rattle.cw_say.specs.declared.status.Status.TheVariants.{Ended}
+use Rattle.cw_say.specs.declared.status.Status.TheVariants.{Ended, NoMemory}
 use Rattle.cw_actions.specs.Going.Runs.{Streams, Runs}
 use Rattle.cw_actions.specs.Going.Goes.{Goes}
 use Rattle.cw_actions.specs.Going.Laws.{KeepsPromise}
@@ -46,18 +46,33 @@ abbrev pub named : List (Bor (List ℕ)) → List (List ℕ)
 named names = map (λ name. name.now) names
 
 -- only `say` changes while the line is written
-pub closes_by : (between : Surroundings) (say : Option (List ℕ)) (say_faults : ℕ) (names segments : List (List ℕ)) (status : Status) → Says between.say say between.say_faults say_faults (closing_line names segments status)
-    → (status ≡ Ended → say_faults ≡ between.say_faults) → Closes between (after_line between say say_faults) names segments status
-closes_by between say say_faults names segments status says ended = record {
-  says = says;
-  ended = ended;
-  files = refl;
-  store_faults = refl;
-  absences = refl;
-  left = refl;
-  input_faults = refl;
-  out = refl;
-  out_faults = refl;
+module _ (between : Surroundings) (say : Option (List ℕ)) (say_faults : ℕ) where
+  pub closes_by : (names segments : List (List ℕ)) (status : Status) → Says between.say say between.say_faults say_faults (closing_line names segments status) → (status ≡ Ended → say_faults ≡ between.say_faults)
+      → Closes between (after_line between say say_faults) names segments status
+  closes_by names segments status says ended = record {
+    says = says;
+    ended = ended;
+    files = refl;
+    store_faults = refl;
+    absences = refl;
+    left = refl;
+    input_faults = refl;
+    out = refl;
+    out_faults = refl;
+  }
+
+-- the line of want of memory names nothing
+pub closes_wanted : (between after : Surroundings) (names segments others called : List (List ℕ)) → Closes between after names segments NoMemory → Closes between after others called NoMemory
+closes_wanted between after names segments others called closes = record {
+  says = closes.says;
+  ended = closes.ended;
+  files = closes.files;
+  store_faults = closes.store_faults;
+  absences = closes.absences;
+  left = closes.left;
+  input_faults = closes.input_faults;
+  out = closes.out;
+  out_faults = closes.out_faults;
 }
 
 -- what stood before it, where `say` held this

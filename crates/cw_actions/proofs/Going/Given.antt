@@ -1,6 +1,6 @@
 -- The laws that the promise of `go` stands on.
-use Rattle.std.proofs.Common.{◌≡◌, ◌≢◌, ℕ, ◌+◌, ◌*◌, ◌<◌, ◌≤◌, List, [], length, map}
-use Rattle.std.specs.Prelude.{All, sum}
+use Rattle.std.proofs.Common.{◌≡◌, ◌≢◌, ℕ, ◌<◌, ◌≤◌, List, [], length}
+use Rattle.std.specs.Prelude.{All}
 use Rattle.cw_i86.specs.State.{State}
 use Rattle.cw_i86.specs.MachineRun as run
 use Rattle.cw_unit.specs.declared.unit.Unit.{Unit as SourceUnit}
@@ -13,16 +13,9 @@ use Rattle.cw_unit.specs.Configuration.{FramesApart, activations_of}
 use Rattle.cw_unit.specs.Behaviour.{configuration_after}
 use Rattle.cw_sim.specs.Preservation.{IsLoaded, Preserves, Completes}
 use Rattle.cw_place.specs.Placement.{IsLimits}
-use Rattle.cw_link.specs.LinkedImage.{linked_size}
-use Rattle.cw_build.specs.Compiled.{IsCompilable, contents_of_units}
+use Rattle.cw_build.specs.Compiled.{IsCompilable}
 use Rattle.cw_build.specs.Linking.{Links, image_of}
-use Rattle.cw_files.specs.Texts.{HasUnit}
-use Rattle.cw_files.specs.Reading.{HaveValues}
-use Rattle.cw_actions.proofs.Resulting.Texts.{OneOfText}
-
--- on the units of texts
-abbrev pub AreCompilable : Type 0
-AreCompilable = (texts : List (List ℕ)) (us : List SourceUnit) → HaveValues HasUnit texts us → All IsCompilable us
+use Rattle.cw_actions.specs.Resulting.Texts.{OneOfText, AreCompilable, HasSizes}
 
 -- on storage: the map of what links, and the frames of a run
 pub record OnStorage : Type 0 where
@@ -36,10 +29,6 @@ pub record OnRuns : Type 0 where
   pub preserves : (us : List SourceUnit) (m : Map) (limits : Limits) (input : List ℕ) (s : State) (k : ℕ) (shown : run.Observed) → IsLoaded us m limits input s → run.Shows s input k shown → Preserves (program_at us m limits) input k shown
   pub completes : (us : List SourceUnit) (m : Map) (limits : Limits) (input : List ℕ) (s : State) (steps : ℕ) → IsLoaded us m limits input s → Completes (program_at us m limits) input steps s
   pub once : (s : State) (input : List ℕ) (n : ℕ) (a b : run.Observed) → run.Shows s input n a → run.Shows s input n b → a ≡ b
-
--- on sizes
-abbrev pub HasSizes : Type 0
-HasSizes = (us : List SourceUnit) (limits : Limits) → All IsCompilable us → linked_size (contents_of_units us) ≤ 32 * sum (map (λ u. u.tokens) us) + 4096
 
 pub record Given : Type 0 where
   pub texts : OneOfText

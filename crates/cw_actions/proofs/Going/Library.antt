@@ -12,6 +12,7 @@ use Rattle.cw_build.specs.Linking.{Links, image_of}
 use Rattle.cw_image.specs.declared.image.Image.{Image}
 use Rattle.cw_place.specs.Placement.{IsLimits}
 use Rattle.cw_correct.specs.Going.{names_of}
+use Rattle.cw_actions.specs.Going.Loads.{CanLoad}
 
 library_is_some : 0 < length library_bytes
 library_is_some = let size : 438 ≡ length library_bytes = refl in subst (λ n. 0 < n) size (lit< tt)
@@ -64,14 +65,9 @@ names_are us limits = all_names us
 pub named_so : (us : List SourceUnit) (limits : Limits) (image : Image) (segments : List (List ℕ)) → image ≡ image_of us limits → segments ≡ image.names → segments ≡ names_of us
 named_so us limits image segments is e = e ∙ ap (λ (i : Image). i.names) is ∙ names_are us limits
 
--- an image of units that link can be loaded: it has code, and neither that nor the words are too many
-pub record CanLoad (bytes held : List ℕ) : Type 0 where
-  pub some : 0 < length bytes
-  pub code : length bytes ≤ 65536
-  pub words : length held ≤ 32768
-
-pub can_load : HasCode → (us : List SourceUnit) (limits : Limits) → IsLimits limits → Links us limits → (code words : List ℕ) (image : Image) → code ≡ image.code → words ≡ image.words → image ≡ image_of us limits → CanLoad code words
-can_load size us limits within links code words image is_code is_words is =
-    let bytes : length code ≡ linked_size (contents_of_units us) = ap length is_code ∙ ap (λ (i : Image). length i.code) is ∙ size us limits in
-    let count : length words ≡ length (image_of us limits).words = ap length is_words ∙ ap (λ (i : Image). length i.words) is in
+-- an image of units that link can be loaded
+pub can_load : HasCode → (us : List SourceUnit) (limits : Limits) → IsLimits limits → Links us limits → (image : Image) → image ≡ image_of us limits → CanLoad image
+can_load size us limits within links image is =
+    let bytes : length image.code ≡ linked_size (contents_of_units us) = ap (λ (i : Image). length i.code) is ∙ size us limits in
+    let count : length image.words ≡ length (image_of us limits).words = ap (λ (i : Image). length i.words) is in
     record { some = omega (arith, bytes, some_code us); code = omega (arith, bytes, links.code); words = omega (arith, count, few_words us limits, within.1) }

@@ -17,7 +17,8 @@ use Rattle.cw_build.specs.Compiled.{IsCompilable}
 use Rattle.cw_build.specs.Linking.{Links, image_of}
 use Rattle.cw_files.specs.Texts.{HasUnit}
 use Rattle.cw_files.specs.Reading.{HaveValues}
-use Rattle.cw_actions.proofs.Going.Given.{AreCompilable, OnStorage, OnRuns}
+use Rattle.cw_actions.specs.Resulting.Texts.{AreCompilable}
+use Rattle.cw_actions.proofs.Going.Given.{OnStorage, OnRuns}
 
 -- ---- units of texts
 

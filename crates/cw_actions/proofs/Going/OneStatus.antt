@@ -9,7 +9,7 @@ use Rattle.cw_link.specs.declared.fault.LinkFault.{LinkFault}
 use Rattle.cw_build.specs.Compiled.{contents_of_units}
 use Rattle.cw_build.specs.Linking.{Links, IsLinkFault, image_of}
 use Rattle.cw_files.specs.Texts.{HasUnit}
-use Rattle.cw_files.specs.Reading.{HaveBytes, HaveValues, StopsTexts}
+use Rattle.cw_files.specs.Reading.{AllTaken, StopsTexts}
 use Rattle.cw_correct.specs.Calls.{Call, told_files, NoFault}
 use Rattle.cw_correct.specs.Running.{begins_as, ImageShows, Tells, Ran}
 use Rattle.cw_correct.specs.Going.{Telling, RunsTexts}
@@ -22,10 +22,10 @@ use Rattle.cw_correct.specs.Files.{counts_before, counts_after, AllAccepted}
 use Rattle.cw_actions.specs.Going.Laws.{HasOneStatus}
 use Rattle.cw_actions.proofs.Resulting.Links.{links_not_faulty, one_fault}
 use Rattle.cw_actions.proofs.Resulting.Readings.{Found, all_told}
-use Rattle.cw_actions.proofs.Resulting.Outcomes.{all_run, stop_runs}
+use Rattle.cw_actions.proofs.Resulting.Outcomes.{all_taken, all_run, stop_runs}
 use Rattle.cw_actions.proofs.Resulting.Fates.{Fate, stopped, one_fate, Any, any}
 use Rattle.cw_actions.proofs.Resulting.Units.{units, same_units}
-use Rattle.cw_actions.proofs.Resulting.Texts.{OneOfText}
+use Rattle.cw_actions.specs.Resulting.Texts.{OneOfText}
 use Rattle.cw_actions.proofs.Going.Given.{OneRun}
 use Rattle.cw_actions.proofs.Executing.Ends.{not_too_long, TellsInput, too_many, one_of_runs}
 
@@ -43,11 +43,8 @@ WhereRan status Holds = Unit {0}
 
 -- The files have units, and these link; of them and the status something holds, where their image is not to run.
 pub record IsNotRun (Never : List SourceUnit → Status → Type 0) (c : Call) (status : Status) : Type 0 where
-  pub texts : List (List ℕ)
   pub units : List SourceUnit
-  pub have_texts : HaveBytes text_limit (told_files c) texts
-  pub have_units : HaveValues HasUnit texts units
-  pub all : AllAccepted c units
+  pub taken : AllTaken text_limit HasUnit (told_files c) units
   pub links : Links units c.limits
   pub never : Never units status
 
@@ -115,7 +112,7 @@ module _ (Also : List SourceUnit → Type 0) (Never : List SourceUnit → Status
 
     fate : (s : Status) → Comes Also Never c input s → FateOf s
     fate s (inl (said, x, also)) = of_call said s x also
-    fate s (inr x) = inr (inr (x.units, all_run (units texts) c found told x.texts x.units x.have_texts x.have_units x.all, inr (inr (inr (x.links, x.never)))))
+    fate s (inr x) = inr (inr (x.units, all_taken (units texts) c found told x.units x.taken, inr (inr (inr (x.links, x.never)))))
 
 module _ (runs : OneRun) (Also : List SourceUnit → Type 0) (Never : List SourceUnit → Status → Type 0) (rules : AreApart Also Never) (c : Call) (input : List ℕ) where
   one_of_units : (us : List SourceUnit) (s t : Status) → TellsInput c s t → OfUnits Also Never c input us s → OfUnits Also Never c input us t → s ≡ t

@@ -44,7 +44,7 @@ use Rattle.cw_actions.specs.Going.Goes.{streams_of, IsUnlinked, StopsReading, Go
 use Rattle.cw_actions.proofs.Resulting.Links.{links_not_faulty}
 use Rattle.cw_actions.proofs.Going.Meant as meant
 use Rattle.cw_actions.proofs.Going.Given.{Given}
-use Rattle.cw_actions.proofs.Resulting.Sizes.{HasSizes, same_length, cause}
+use Rattle.cw_actions.proofs.Resulting.Sizes.{same_length, cause}
 use Rattle.cw_actions.proofs.Resulting.Readings.{all_told, tells as told_texts}
 use Rattle.cw_actions.proofs.Resulting.Outcomes.{Kind, all_taken, stop_done}
 use Rattle.cw_actions.proofs.Resulting.Units.{units as unit_files, same_units}
@@ -186,13 +186,10 @@ module _ (given : Given) (telling : Telling) (action : Action) (limits : Limits)
 
     -- ---- that do not link
 
-    sizes : HasSizes
-    sizes texts vs have = given.sizes vs limits (given.units texts vs have)
-
     unlinked : (input : List ℕ) (fault : LinkFault) → b ≡ a → IsLinkFault us limits fault → ClosesBy (Unlinked fault) → RunsTexts telling c input (Unlinked fault)
     unlinked input fault same faulty closes =
         let L : List SourceUnit → Type 0 = λ vs. Links vs limits in
-        let items = cause given.texts sizes limits taken.texts us taken.have_values (same_length (told_files c) taken.texts us taken.have_bytes taken.have_values taken.all) fault faulty in
+        let items = cause given.texts given.sizes limits taken.texts us taken.have_values (same_length (told_files c) taken.texts us taken.have_bytes taken.have_values taken.all) fault faulty in
         still input (Unlinked fault) same closes taken.texts us taken.have_bytes taken.have_values (all_of, faulty, items) refl closes.says (λ x. x) (λ x. x) (λ bytes. tt)
         (λ vs m tells links quiet bytes short soon ends. absurd (links_not_faulty (contents_of_units us) limits fault (subst L (units_are vs tells) links) faulty))
 

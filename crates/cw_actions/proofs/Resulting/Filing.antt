@@ -14,7 +14,7 @@ use Rattle.cw_say.specs.declared.status.Status.TheVariants.{Ended, Outside, NoMe
 use Rattle.cw_say.specs.declared.status.Which.TheVariants.{Store, Say}
 use Rattle.cw_actions.specs.Resulting.Outside.{Files, files_at}
 use Rattle.cw_actions.specs.Resulting.Written.{GivesFile}
-use Rattle.cw_actions.specs.Resulting.Idle.{IsIdle}
+use Rattle.cw_actions.specs.Resulting.Idle.{IsIdle, AllowsIdle}
 use Rattle.cw_actions.proofs.Resulting.Cases.{gives_file}
 use Rattle.cw_actions.proofs.Resulting.Keeping.{Closed, says_last, writes_file}
 use Rattle.cw_actions.proofs.Resulting.Readings.{Found, all_told, tells}
@@ -75,7 +75,7 @@ module _ (k : Kind) (c : Call) where
   abbrev pub StopsReading : Status → Type 0
   StopsReading s = Stopped k.limit k.Accepts (λ texts taken. StopsAt texts taken s) (told_files c)
 
-  abbrev files_after : Files
+  abbrev pub files_after : Files
   files_after = files_at c.after.files c.after.store_faults c.after.absences
 
   pub accepted : (xs : List k.Value) → AllTaken k.limit k.Accepts (told_files c) xs → AllAccepted c xs
@@ -108,18 +108,6 @@ module _ (k : Kind) (c : Call) where
   pub idle : IsIdle c → Reads [] [] NoMemory
   idle x = record { have_bytes = tt; have_values = tt; comes = tt; says = x.says; completes = λ told others tell taken quiet. tt }
 
-  -- ---- a promise of a result that is told by what was read, and written to the file of this name
-
-  module _ (name : List ℕ) (result : List k.Value → List ℕ) (Right : Status → Type 0)
-      (right : (texts : List (List ℕ)) (xs : List k.Value) (s : Status) → Reads texts xs s → WritesFile c name (result xs) (AllAccepted c xs) s → Right s) where
-    pub stopped : (s : Status) → Closed c s → AllStay c.before.files c.after.files → StopsReading s → Right s
-    stopped s closed stay x = right x.texts x.values s (read_stopped s closed x) (keeps_file x.texts (length x.values) stay name (result x.values) (AllAccepted c x.values) s x.stops)
-
-    pub written : IsUntouched c.before c.after → IsUnwritten c.before c.after → (s : Status) → Closed c s → (xs : List k.Value) → AllTaken k.limit k.Accepts (told_files c) xs → (between : Files) → AllStay c.before.files between.told
-        → SameCounts (counts_before c) between.counts → GivesFile name (result xs) between files_after s → Right s
-    written untouched unwritten s closed xs x between stay same gives =
-        right x.texts xs s (read_all s closed xs x between same name (result xs) gives) (writes_file c untouched name (result xs) (AllAccepted c xs) s (accepted xs x) unwritten between stay same closed gives)
-
   -- ---- one status
 
   pub fate : (texts : List (List ℕ)) (xs : List k.Value) → HaveBytes k.limit (told_files c) texts → HaveValues k.Accepts texts xs → (s : Status) → Comes texts xs s → (found : List Found) → told_files c ≡ all_told found → NoFault c.before c.after
@@ -131,3 +119,39 @@ module _ (k : Kind) (c : Call) where
       (inl refl)
       (λ t x. fates.stopped k (Ends k) found xs t (stop_runs k c found told texts xs have values quiet t x))
       s comes
+
+-- ---- a promise of a call that writes what comes of all its files to one file
+
+-- What its files are read as, the name of that file and its bytes, and how it follows of the reading and the writing.
+pub record FilePromise : Type 1 where
+  pub kind : Kind
+  pub name : Call → List ℕ
+  pub result : List kind.Value → List ℕ
+  pub Right : Call → Status → Type 0
+  pub right : (c : Call) → IsUntouched c.before c.after → IsUnwritten c.before c.after → (texts : List (List ℕ)) (xs : List kind.Value) (s : Status) → Reads kind c texts xs s
+      → WritesFile c (name c) (result xs) (AllAccepted c xs) s → Right c s
+
+module _ (p : FilePromise) where
+  pub allows_idle : AllowsIdle p.Right
+  allows_idle c x = p.right c x.untouched x.unwritten [] [] NoMemory (idle p.kind c x) x.stays
+
+  -- where the call was closed so
+  abbrev pub KeepsStopped : Type 0
+  KeepsStopped =
+      (c : Call) → IsUntouched c.before c.after → IsUnwritten c.before c.after → (s result : Status) → result ≡ s → Closed c s → AllStay c.before.files c.after.files → StopsReading p.kind c s → p.Right c result
+
+  pub stopped : KeepsStopped
+  stopped c untouched unwritten s result same closed stay x =
+      subst (p.Right c) (sym same)
+      (p.right c untouched unwritten x.texts x.values s (read_stopped p.kind c s closed x) (keeps_file p.kind c x.texts (length x.values) stay (p.name c) (p.result x.values) (AllAccepted c x.values) s x.stops))
+
+  abbrev pub KeepsWritten : Type 0
+  KeepsWritten =
+      (c : Call) → IsUntouched c.before c.after → IsUnwritten c.before c.after → (s result : Status) → result ≡ s → Closed c s → (xs : List p.kind.Value) → AllTaken p.kind.limit p.kind.Accepts (told_files c) xs
+      → (between : Files) → AllStay c.before.files between.told → SameCounts (counts_before c) between.counts → GivesFile (p.name c) (p.result xs) between (files_after p.kind c) s → p.Right c result
+
+  pub written : KeepsWritten
+  written c untouched unwritten s result same closed xs x between stay counts gives =
+      subst (p.Right c) (sym same)
+      (p.right c untouched unwritten x.texts xs s (read_all p.kind c s closed xs x between counts (p.name c) (p.result xs) gives)
+      (writes_file c untouched (p.name c) (p.result xs) (AllAccepted c xs) s (accepted p.kind c xs x) unwritten between stay counts closed gives))

@@ -1,5 +1,6 @@
 -- Objects link, or have one first fault of linking.
-use Rattle.std.proofs.Common.{◌≡◌, ◌≢◌, ◌⊎◌, ℕ, zero, suc, ◌+◌, ◌<◌, ◌≤◌, List, [], Option, Some, None, refl, sym, ap, ◌∙◌, inl, inr, arith, slice_get}
+use Rattle.std.proofs.Common.{◌≡◌, ◌≢◌, ◌⊎◌, ℕ, ◌+◌, ◌<◌, List, [], Option, Some, None, refl, sym, ap, ◌∙◌, inl, inr, arith, slice_get}
+use Rattle.std.proofs.lemmas.Bool.{cases_order}
 use Rattle.cw_unit.specs.declared.layout.Limits.{Limits}
 use Rattle.cw_unit.specs.Allocation.{SegmentStorage}
 use Rattle.cw_comm.specs.declared.face.Face.{Face}
@@ -19,16 +20,6 @@ use Rattle.cw_link.specs.LinkFaults.{HavePlace, HaveWords, storages_of, of_clash
 use Rattle.cw_link.specs.declared.fault.LinkFault.{LinkFault}
 use Rattle.cw_link.specs.declared.fault.LinkFault.TheVariants.{SegmentTwice, Differs, DefinedTwice, Undefined, AbsoluteOutside, DataTooBig, ControlTooBig, PresetClash, CodeTooBig, NoMemory}
 use Rattle.cw_build.specs.Linking.{AreLinked, IsFault}
-
-less_or : (a b : ℕ) → (a < b) ⊎ (b ≤ a)
-less_or zero zero = inr (omega arith)
-less_or zero (suc b) = inl (omega arith)
-less_or (suc a) zero = inr (omega arith)
-less_or (suc a) (suc b) = more (less_or a b)
-  where
-    more : (a < b) ⊎ (b ≤ a) → (suc a < suc b) ⊎ (suc b ≤ suc a)
-    more (inl h) = inl (omega (arith, h))
-    more (inr h) = inr (omega (arith, h))
 
 some_and_none : {A : Type 0} (o : Option A) (x : A) → o ≡ Some x → o ≡ None → ⊥
 some_and_none o x e f = absurd (cc (e, f))
@@ -156,12 +147,12 @@ module _ (ss : List SegmentStorage) (spaces : List Space) (limits : Limits) wher
 -- ---- presets
 
 same_address : (ps : List FilledWord) (a b f g s t : ℕ) → IsPresetClash ps a f s → IsPresetClash ps b g t → a ≡ b
-same_address ps a b f g s t x y = at (less_or a b) (less_or b a)
+same_address ps a b f g s t x y = at (cases_order a b)
   where
-    at : (a < b) ⊎ (b ≤ a) → (b < a) ⊎ (a ≤ b) → a ≡ b
-    at (inl h) o = absurd (some_and_none (clash_at a ps) (f, s) x.here (y.lowest a h))
-    at (inr h) (inl k) = absurd (some_and_none (clash_at b ps) (g, t) y.here (x.lowest b k))
-    at (inr h) (inr k) = omega (arith, h, k)
+    at : (a ≡ b) ⊎ ((a < b) ⊎ (b < a)) → a ≡ b
+    at (inl e) = e
+    at (inr (inl h)) = absurd (some_and_none (clash_at a ps) (f, s) x.here (y.lowest a h))
+    at (inr (inr k)) = absurd (some_and_none (clash_at b ps) (g, t) y.here (x.lowest b k))
 
 one_preset : (ps : List FilledWord) (a b f g s t : ℕ) → IsPresetClash ps a f s → IsPresetClash ps b g t → PresetClash a f s ≡ PresetClash b g t
 one_preset ps a b f g s t x y =

@@ -12,26 +12,29 @@ use Rattle.cw_files.specs.Texts.{HasUnit}
 use Rattle.cw_files.specs.Reading.{HaveBytes, HaveValues, AllTaken, Stopped, StopsTexts, SameCounts}
 use Rattle.cw_correct.specs.Calls.{Call, told_files, NoFault, IsUntouched, IsUnwritten}
 use Rattle.cw_correct.specs.Files.{counts_before, counts_after, AllAccepted}
+use Rattle.cw_correct.specs.Saying.{SaysLast}
 use Rattle.cw_correct.specs.Results.{WritesOut, IsDone, IsWritten, MapComes, TellsOfUnits}
 use Rattle.cw_actions.specs.Resulting.Outside.{Out, out_at}
 use Rattle.cw_actions.specs.Resulting.Written.{GivesOut}
+use Rattle.cw_actions.specs.Resulting.Idle.{AllowsIdle}
 use Rattle.cw_actions.specs.Resulting.Results.{TellsUnits}
 use Rattle.cw_say.specs.declared.status.Status.{Status}
-use Rattle.cw_say.specs.declared.status.Status.TheVariants.{Ended, Unlinked}
+use Rattle.cw_say.specs.declared.status.Status.TheVariants.{Ended, Unlinked, NoMemory}
 use Rattle.cw_actions.proofs.Resulting.Cases.{gives_out, tells_units, map_comes, map_stops, none_written, none_out}
 use Rattle.cw_actions.proofs.Resulting.Keeping.{Closed, says_last, unwritten, writes_out}
 use Rattle.cw_actions.proofs.Resulting.Links.{links_not_faulty, one_fault}
 use Rattle.cw_actions.proofs.Resulting.Readings.{Found, all_told, tells}
-use Rattle.cw_actions.proofs.Resulting.Texts.{OneOfText}
+use Rattle.cw_actions.specs.Resulting.Texts.{OneOfText, HasSizes}
 use Rattle.cw_actions.proofs.Resulting.Outcomes.{FileRuns, all_run, all_taken, stop_runs, stop_done}
 use Rattle.cw_actions.proofs.Resulting.Fates.{Fate, stopped as stopped_fate}
-use Rattle.cw_actions.proofs.Resulting.Sizes.{HasSizes, same_length, cause}
+use Rattle.cw_actions.proofs.Resulting.Sizes.{same_length, cause}
 use Rattle.cw_actions.proofs.Resulting.Units.{units, same_units}
 
 module _ (given : OneOfText) (IsText : (texts : List (List ℕ)) → List SourceUnit → Limits → List ℕ → Type 0) where
-  module _ (c : Call) (untouched : IsUntouched c.before c.after) (stay : AllStay c.before.files c.after.files) (s : Status) (closed : Closed c s) where
-    make : (texts : List (List ℕ)) (us : List SourceUnit) (text : List ℕ) → HaveBytes text_limit (told_files c) texts → HaveValues HasUnit texts us → MapComes c texts us s → IsWritten (IsText texts us c.limits) text s → WritesOut c text s → TellsOfUnits IsText c s
-    make texts us text have values comes is writes = record {
+  module _ (c : Call) (untouched : IsUntouched c.before c.after) (stay : AllStay c.before.files c.after.files) (s : Status) where
+    right : SaysLast c.before c.after c.names [] s → (texts : List (List ℕ)) (us : List SourceUnit) (text : List ℕ) → HaveBytes text_limit (told_files c) texts → HaveValues HasUnit texts us → MapComes c texts us s → IsWritten (IsText texts us c.limits) text s
+        → WritesOut c text s → TellsOfUnits IsText c s
+    right says texts us text have values comes is writes = record {
       texts = texts;
       units = us;
       text = text;
@@ -39,7 +42,7 @@ module _ (given : OneOfText) (IsText : (texts : List (List ℕ)) → List Source
       have_units = values;
       comes = comes;
       is_text = is;
-      says = says_last c s (λ e. subst (λ t. MapComes c texts us t) e comes) closed;
+      says = says;
       writes = writes;
       untouched = untouched;
       stays = stay;
@@ -52,15 +55,24 @@ module _ (given : OneOfText) (IsText : (texts : List (List ℕ)) → List Source
           (λ t x w. stop_done (units given) c (map Some told) (tell ∙ tells told) texts us have values quiet ws taken t x) s comes writes;
     }
 
-    pub stopped : IsUnwritten c.before c.after → Stopped text_limit HasUnit (λ texts taken. StopsTexts (told_files c) texts taken (counts_before c) (counts_after c) s) (told_files c) → TellsOfUnits IsText c s
+  pub idle : AllowsIdle (TellsOfUnits IsText)
+  idle c x = right c x.untouched x.stays NoMemory x.says [] [] [] tt tt tt tt x.unwritten
+
+  -- where the call was closed so
+  module _ (c : Call) (untouched : IsUntouched c.before c.after) (stay : AllStay c.before.files c.after.files) (s result : Status) (answers : result ≡ s) (closed : Closed c s) where
+    make : (texts : List (List ℕ)) (us : List SourceUnit) (text : List ℕ) → HaveBytes text_limit (told_files c) texts → HaveValues HasUnit texts us → MapComes c texts us s → IsWritten (IsText texts us c.limits) text s → WritesOut c text s → TellsOfUnits IsText c result
+    make texts us text have values comes is writes =
+        subst (TellsOfUnits IsText c) (sym answers) (right c untouched stay s (says_last c s (λ e. subst (λ t. MapComes c texts us t) e comes) closed) texts us text have values comes is writes)
+
+    pub stopped : IsUnwritten c.before c.after → Stopped text_limit HasUnit (λ texts taken. StopsTexts (told_files c) texts taken (counts_before c) (counts_after c) s) (told_files c) → TellsOfUnits IsText c result
     stopped none x =
         make x.texts x.values [] x.have_bytes x.have_values
         (map_stops c x.texts x.values s x.stops) (none_written c x.texts x.values (IsText x.texts x.values c.limits) s x.stops) (none_out c x.texts x.values none s x.stops)
 
     pub written : HasSizes → (us : List SourceUnit) → (taken : AllTaken text_limit HasUnit (told_files c) us) → SameCounts (counts_before c) (counts_after c)
-        → TellsUnits (IsText taken.texts) us c.limits (out_at c.before.out c.before.out_faults) (out_at c.after.out c.after.out_faults) s → TellsOfUnits IsText c s
+        → TellsUnits (IsText taken.texts) us c.limits (out_at c.before.out c.before.out_faults) (out_at c.after.out c.after.out_faults) s → TellsOfUnits IsText c result
     written sizes us x same told =
-        tells_units (λ t. t ≡ s → TellsOfUnits IsText c s) (IsText x.texts) us c.limits old new
+        tells_units (λ t. t ≡ s → TellsOfUnits IsText c result) (IsText x.texts) us c.limits old new
         (λ fault y e. make x.texts us [] x.have_bytes x.have_values
         (subst (λ u. MapComes c x.texts us u) e (all, y.0, cause given sizes c.limits x.texts us x.have_values (same_length (told_files c) x.texts us x.have_bytes x.have_values x.all) fault y.0))
         (subst (λ u. IsWritten (IsText x.texts us c.limits) [] u) e tt) (subst (λ u. WritesOut c [] u) e (unwritten c y.1)))

@@ -10,6 +10,7 @@ use Rattle.cw_correct.specs.Calls.{Call, told_files, IsUntouched, IsUnwritten, f
 use Rattle.cw_correct.specs.Files.{counts_before, counts_after, AllAccepted}
 use Rattle.cw_correct.specs.Results.{WritesFile, MigratesTo, MigratesRight}
 use Rattle.cw_actions.specs.Resulting.Outside.{Files, files_at}
+use Rattle.cw_actions.specs.Resulting.Idle.{AllowsIdle}
 use Rattle.cw_actions.specs.Resulting.Written.{GivesFile}
 use Rattle.cw_actions.specs.Resulting.Results.{MigratesObject}
 use Rattle.cw_say.specs.declared.status.Status.{Status}
@@ -17,6 +18,8 @@ use Rattle.cw_say.specs.declared.status.Status.TheVariants.{Ended, NoMemory}
 use Rattle.cw_actions.proofs.Resulting.Cases.{gives_file, migrates_object}
 use Rattle.cw_actions.proofs.Resulting.Keeping.{Closed, writes_file}
 use Rattle.cw_actions.proofs.Resulting.Objects.{objects as object_files}
+use Rattle.cw_actions.proofs.Resulting.Rights.{migrates_right}
+use Rattle.cw_actions.proofs.Resulting.Filing as filing
 use Rattle.cw_actions.proofs.Resulting.Filing.{Reads, StopsReading, keeps_file, read_stopped, read_all, accepted, wanted}
 
 -- the first of those that were taken is an object
@@ -30,6 +33,9 @@ migrates_nothing : (objects : List (List ℕ)) (result : List ℕ) → MigratesT
 migrates_nothing [] result = tt
 migrates_nothing (object ∷ objects) result = tt
 
+pub idle : AllowsIdle MigratesRight
+idle c x = migrates_right c x.untouched x.unwritten [] [] [] NoMemory (filing.idle object_files c x) tt x.stays
+
 -- nor one at which the reading stopped
 stops_migrate : (c : Call) (texts objects : List (List ℕ)) (s : Status) → StopsObjects (told_files c) texts (length objects) (counts_before c) (counts_after c) s → MigratesTo objects [] s
 stops_migrate c texts [] s x = tt
@@ -40,21 +46,8 @@ module _ (c : Call) (untouched : IsUntouched c.before c.after) (unwritten : IsUn
   abbrev new_name : List ℕ
   new_name = first_name c ++ codes ".SG2"
 
-  pub right : (texts objects : List (List ℕ)) (result : List ℕ) (s : Status) → Reads object_files c texts objects s → MigratesTo objects result s → WritesFile c new_name result (AllAccepted c objects) s → MigratesRight c s
-  right texts objects result s x migrates writes = record {
-    texts = texts;
-    objects = objects;
-    result = result;
-    have_bytes = x.have_bytes;
-    have_objects = x.have_values;
-    comes = x.comes;
-    says = x.says;
-    migrates = migrates;
-    writes = writes;
-    untouched = untouched;
-    unwritten = unwritten;
-    completes = x.completes;
-  }
+  abbrev right : (texts objects : List (List ℕ)) (result : List ℕ) (s : Status) → Reads object_files c texts objects s → MigratesTo objects result s → WritesFile c new_name result (AllAccepted c objects) s → MigratesRight c s
+  right = migrates_right c untouched unwritten
 
   pub stopped : (s : Status) → Closed c s → AllStay c.before.files c.after.files → StopsReading object_files c s → MigratesRight c s
   stopped s closed stay x =

@@ -2,15 +2,17 @@
 use Rattle.std.proofs.Common.{◌≡◌, ◌⊎◌, ℕ, List, length, Option, Some, None, refl, sym, ap, ◌∙◌, subst, inl, inr, slice_get}
 use Rattle.std.proofs.lemmas.List.{length-map}
 use Rattle.cw_io.specs.File.{Told}
-use Rattle.cw_files.specs.Reading.{Counts, HaveBytes, HaveValues, AllTaken, IsLongerAt, IsUnread}
+use Rattle.cw_files.specs.Texts.{object_limit}
+use Rattle.cw_files.specs.Reading.{Counts, HaveBytes, HaveValues, AllTaken, IsLongerAt, IsBadAt, IsUnread}
 use Rattle.cw_correct.specs.Calls.{Call, told_files, NoFault}
 use Rattle.cw_correct.specs.Files.{counts_before, counts_after, AllAccepted}
 use Rattle.cw_correct.specs.Results.{IsDone}
+use Rattle.cw_say.specs.declared.status.Bad.{Bad}
 use Rattle.cw_say.specs.declared.status.Status.{Status}
 use Rattle.cw_say.specs.declared.status.Status.TheVariants.{Refused, NoMemory, BadFile, TooLong}
 use Rattle.cw_say.specs.declared.status.Long.TheVariants.{File}
 use Rattle.cw_actions.proofs.Resulting.Cases.{unread}
-use Rattle.cw_actions.proofs.Resulting.Readings.{Found, all_told, RefusesAt, Runs, of_stop, of_all, taken_runs, from_zero, never}
+use Rattle.cw_actions.proofs.Resulting.Readings.{Found, all_told, RefusesAt, bad_at, Runs, of_stop, of_all, taken_runs, from_zero, never}
 
 -- of a file, and of no result: it was refused
 abbrev pub IsRefusal : Status → Type 0
@@ -35,6 +37,33 @@ pub record Kind : Type 1 where
   pub Stops : List Told → (texts : List (List ℕ)) → (taken : ℕ) → (before after : Counts) → Status → Type 0
   pub stop_is : (files : List Told) (texts : List (List ℕ)) (taken : ℕ) (before after : Counts) (s : Status) → Stops files texts taken before after s
       → IsUnread limit files taken before after s ⊎ IsRefusedAs Wrong Refuses status_of texts taken s
+
+-- Files of which a bad one is refused, in these of the ways in which bytes are bad.
+module _ (Wrong : Type 0) (Refuses : List ℕ → Bad → Type 0) (of : Wrong → Bad) where
+  -- the file behind those that were taken was not read, or is bad in one of them
+  abbrev pub BadStop : List Told → (texts : List (List ℕ)) → (taken : ℕ) → (before after : Counts) → Status → Type 0
+  BadStop files texts taken before after s =
+      IsUnread object_limit files taken before after s ⊎ IsRefusedAs Wrong (λ bytes w. Refuses bytes (of w)) (λ number w. BadFile number (of w)) texts taken s
+
+  pub bad_stop : (files : List Told) (texts : List (List ℕ)) (taken : ℕ) (before after : Counts) (number : ℕ) (w : Wrong) → (number ≡ taken) × IsBadAt Refuses (slice_get texts number) (of w)
+      → BadStop files texts taken before after (BadFile number (of w))
+  bad_stop files texts taken before after number w x = inr (number, w, x.0, bad_at Refuses of (slice_get texts number) w x.1, refl)
+
+  abbrev pub bad_files : (Value : Type 0) (Accepts : List ℕ → Value → Type 0) → ((bytes : List ℕ) (x : Value) (w : Wrong) → Accepts bytes x → Refuses bytes (of w) → ⊥)
+      → (Stops : List Told → (texts : List (List ℕ)) → (taken : ℕ) → (before after : Counts) → Status → Type 0)
+      → ((files : List Told) (texts : List (List ℕ)) (taken : ℕ) (before after : Counts) (s : Status) → Stops files texts taken before after s → BadStop files texts taken before after s) → Kind
+  bad_files Value Accepts not_both Stops stop_is = record {
+    Value = Value;
+    Wrong = Wrong;
+    limit = object_limit;
+    Accepts = Accepts;
+    Refuses = λ bytes w. Refuses bytes (of w);
+    status_of = λ number w. BadFile number (of w);
+    is_refusal = λ number w. tt;
+    not_both = not_both;
+    Stops = Stops;
+    stop_is = stop_is;
+  }
 
 abbrev pub FileRuns : (k : Kind) → List Found → List k.Value → Option Status → Type 0
 FileRuns k found xs s = Runs k.limit k.Accepts k.Refuses k.status_of 0 found xs s

@@ -7,8 +7,10 @@ use Rattle.cw_files.proofs.Next.{unread_text}
 use Rattle.cw_correct.specs.Calls.{Call, told_files, NoFault, IsUntouched, IsUnwritten}
 use Rattle.cw_correct.specs.Files.{counts_before, counts_after, AllAccepted}
 use Rattle.cw_correct.specs.Meaning.{TellBytes}
+use Rattle.cw_correct.specs.Saying.{SaysLast}
 use Rattle.cw_correct.specs.Results.{WritesOut, IsDone, ShowComes, first_shown, ShowsRight}
 use Rattle.cw_actions.specs.Resulting.Outside.{out_at}
+use Rattle.cw_actions.specs.Resulting.Idle.{AllowsIdle}
 use Rattle.cw_actions.specs.Resulting.Results.{ShowsText}
 use Rattle.cw_say.specs.declared.status.Status.{Status}
 use Rattle.cw_say.specs.declared.status.Status.TheVariants.{Ended, Refused, NoMemory}
@@ -17,7 +19,7 @@ use Rattle.cw_actions.proofs.Resulting.Keeping.{Closed, says_last, unwritten, wr
 use Rattle.cw_actions.proofs.Resulting.Readings.{Found, all_told, tells}
 use Rattle.cw_actions.proofs.Resulting.Outcomes.{Kind, all_run, stop_runs, stop_done}
 use Rattle.cw_actions.proofs.Resulting.Fates.{Fate, Ends, stopped as stopped_fate}
-use Rattle.cw_actions.proofs.Resulting.Texts.{OneOfText}
+use Rattle.cw_actions.specs.Resulting.Texts.{OneOfText}
 use Rattle.cw_actions.proofs.Resulting.Units.{shown_texts}
 
 module _ (given : OneOfText) (c : Call) where
@@ -49,24 +51,28 @@ module _ (given : OneOfText) (c : Call) where
         let told_all = tell ∙ tells told in
         by_status quiet IsDone (stop_done kind c (map Some told) told_all texts shown have values quiet others taken) (λ all. tt) s comes writes
 
-  module _ (untouched : IsUntouched c.before c.after) (stay : AllStay c.before.files c.after.files) where
-    make : (s : Status) → Closed c s → (texts shown : List (List ℕ)) → HaveBytes text_limit (told_files c) texts → HaveValues IsCanonicalOf texts shown → ShowComes c texts shown s → WritesOut c (first_shown shown) s → ShowsRight c s
-    make s closed texts shown have values comes writes = record {
+  module _ (untouched : IsUntouched c.before c.after) (stay : AllStay c.before.files c.after.files) (s : Status) where
+    right : SaysLast c.before c.after c.names [] s → (texts shown : List (List ℕ)) → HaveBytes text_limit (told_files c) texts → HaveValues IsCanonicalOf texts shown → ShowComes c texts shown s → WritesOut c (first_shown shown) s → ShowsRight c s
+    right says texts shown have values comes writes = record {
       texts = texts;
       shown = shown;
       have_texts = have;
       have_shown = values;
       comes = comes;
-      says = says_last c s (λ e. subst (λ t. ShowComes c texts shown t) e comes) closed;
+      says = says;
       writes = writes;
       untouched = untouched;
       stays = stay;
       completes = completes texts shown have values s comes writes;
     }
 
+    make : Closed c s → (texts shown : List (List ℕ)) → HaveBytes text_limit (told_files c) texts → HaveValues IsCanonicalOf texts shown → ShowComes c texts shown s → WritesOut c (first_shown shown) s → ShowsRight c s
+    make closed texts shown have values comes writes = right (says_last c s (λ e. subst (λ t. ShowComes c texts shown t) e comes) closed) texts shown have values comes writes
+
+  module _ (untouched : IsUntouched c.before c.after) (stay : AllStay c.before.files c.after.files) where
     pub unread_shows : (s : Status) → Closed c s → IsUnwritten c.before c.after → IsUnread text_limit (told_files c) 0 (counts_before c) (counts_after c) s → ShowsRight c s
     unread_shows s closed none x =
-        make s closed [] [] tt tt
+        make untouched stay s closed [] [] tt tt
         (unread (λ t. ShowComes c [] [] t) (told_files c) 0 (counts_before c) (counts_after c) text_limit (λ number y. y) (λ y. y) (λ number y. y) tt s x)
         (unread (λ t. WritesOut c [] t) (told_files c) 0 (counts_before c) (counts_after c) text_limit (λ number y. none) (λ y. none) (λ number y. none) none s x)
 
@@ -76,10 +82,13 @@ module _ (given : OneOfText) (c : Call) where
         let old = out_at c.before.out c.before.out_faults in
         let new = out_at c.after.out c.after.out_faults in
         shows_text (λ t. Closed c t → ShowsRight c t) text old new
-        (λ number refusal y end. make (Refused number refusal) end (text ∷ []) [] have tt (y.0, subst (λ n. IsRefusedAt (slice_get (text ∷ []) n) refusal) (sym y.0) y.1) (unwritten c y.2))
-        (λ y end. make NoMemory end (text ∷ []) [] have tt tt (unwritten c y))
+        (λ number refusal y end. make untouched stay (Refused number refusal) end (text ∷ []) [] have tt (y.0, subst (λ n. IsRefusedAt (slice_get (text ∷ []) n) refusal) (sym y.0) y.1) (unwritten c y.2))
+        (λ y end. make untouched stay NoMemory end (text ∷ []) [] have tt tt (unwritten c y))
         (λ t shown is gives end.
-        make t end (text ∷ []) (shown ∷ []) have (is, tt)
+        make untouched stay t end (text ∷ []) (shown ∷ []) have (is, tt)
         (gives_out (λ u. ShowComes c (text ∷ []) (shown ∷ []) u) shown old new (λ y. sym one) (λ y. sym one) (λ y. tt) t gives)
         (writes_out c untouched shown t same end gives))
         s x closed
+
+pub idle : OneOfText → AllowsIdle ShowsRight
+idle given c x = right given c x.untouched x.stays NoMemory x.says [] [] tt tt tt x.unwritten

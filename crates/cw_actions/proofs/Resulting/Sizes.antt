@@ -1,23 +1,18 @@
 -- Code that is too big is so for the items of its texts.
-use Rattle.std.proofs.Common.{◌≡◌, ℕ, suc, ◌+◌, ◌*◌, ◌≤◌, List, [], ◌∷◌, map, sum, length, refl, sym, ap, ap₂, ◌∙◌, arith}
+use Rattle.std.proofs.Common.{◌≡◌, ℕ, suc, ◌+◌, List, [], ◌∷◌, map, sum, length, refl, sym, ap, ap₂, ◌∙◌, arith}
 use Rattle.std.proofs.lemmas.List.Sums.{sum-map, sum_by-cons}
 use Rattle.cw_io.specs.File.{Told}
 use Rattle.cw_lex.specs.Lexical.{Lexeme}
 use Rattle.cw_unit.specs.declared.unit.Unit.{Unit as SourceUnit}
 use Rattle.cw_unit.specs.declared.layout.Limits.{Limits}
 use Rattle.cw_compile.specs.Texts.{text_limit}
-use Rattle.cw_link.specs.LinkedImage.{linked_size}
 use Rattle.cw_link.specs.declared.fault.LinkFault.{LinkFault}
 use Rattle.cw_link.specs.declared.fault.LinkFault.TheVariants.{CodeTooBig}
-use Rattle.cw_build.specs.Compiled.{contents_of_units}
 use Rattle.cw_build.specs.Linking.{IsLinkFault}
 use Rattle.cw_files.specs.Texts.{HasUnit}
 use Rattle.cw_files.specs.Reading.{HaveBytes, HaveValues}
 use Rattle.cw_correct.specs.Going.{ExpandTo, HasCause}
-use Rattle.cw_actions.proofs.Resulting.Texts.{OneOfText}
-
-abbrev pub HasSizes : Type 0
-HasSizes = (texts : List (List ℕ)) (us : List SourceUnit) → HaveValues HasUnit texts us → linked_size (contents_of_units us) ≤ 32 * sum (map (λ u. u.tokens) us) + 4096
+use Rattle.cw_actions.specs.Resulting.Texts.{OneOfText, HasSizes}
 
 pub same_length : (files : List Told) (texts : List (List ℕ)) (us : List SourceUnit) → HaveBytes text_limit files texts → HaveValues HasUnit texts us → length us ≡ length files → length us ≡ length texts
 same_length [] [] [] have values all = refl

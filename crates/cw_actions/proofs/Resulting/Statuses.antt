@@ -12,7 +12,7 @@ use Rattle.cw_correct.specs.Results.{TellsOfUnits, IsMap, IsDepth, IsCode, Depth
 use Rattle.cw_actions.specs.Resulting.OneStatus.{AllowsOneStatus}
 use Rattle.cw_actions.proofs.Resulting.Fates.{one_fate, one_ended, Any, any}
 use Rattle.cw_actions.proofs.Resulting.Readings.{Found, AllFit}
-use Rattle.cw_actions.proofs.Resulting.Texts.{OneOfText}
+use Rattle.cw_actions.specs.Resulting.Texts.{OneOfText}
 use Rattle.cw_actions.proofs.Resulting.Units.{units, shown_texts, same_units}
 use Rattle.cw_actions.proofs.Resulting.Objects.{objects}
 use Rattle.cw_actions.proofs.Resulting.Maps as maps

@@ -4,23 +4,18 @@ use Rattle.std.specs.Prelude.{codes, slice_index_or}
 use Rattle.cw_io.specs.File.{Told, Is}
 use Rattle.cw_unit.specs.declared.unit.Unit.{Unit as SourceUnit}
 use Rattle.cw_unit.specs.declared.layout.Limits.{Limits}
-use Rattle.cw_unit.specs.declared.layout.Map.{Map}
-use Rattle.cw_unit.specs.Allocation.{storage_map}
-use Rattle.cw_unit.specs.Program.{program_at}
-use Rattle.cw_list.specs.Rows.{program_listing}
 use Rattle.cw_compile.specs.declared.fault.UnitFault.{UnitFault}
 use Rattle.cw_compile.specs.declared.fault.UnitFault.TheVariants as units
 use Rattle.cw_compile.specs.Texts.{text_limit, IsCanonicalOf, IsFaultOf}
 use Rattle.cw_link.specs.declared.fault.LinkFault.{LinkFault}
 use Rattle.cw_link.specs.declared.fault.LinkFault.TheVariants.{NoMemory as NoMemoryToLink}
 use Rattle.cw_obj.specs.Migration.{IsMigrated}
-use Rattle.cw_build.specs.Linking.{Links, map_text}
-use Rattle.cw_build.specs.Building.{FailsToLink}
+use Rattle.cw_build.specs.Linking.{Links}
 use Rattle.cw_files.specs.Reading.{Counts, HaveBytes, IsUnread}
-use Rattle.cw_correct.specs.Results.{IsMap}
+use Rattle.cw_actions.specs.Going.Goes.{IsUnlinked}
 use Rattle.cw_actions.specs.Resulting.Outside.{Files, Out}
 use Rattle.cw_actions.specs.Resulting.Written.{GivesOut, GivesFile}
-use Rattle.cw_actions.specs.Resulting.Results.{unlinked_status, faulty_status, TellsUnits, MapsUnits, ShowsText, MigratesObject}
+use Rattle.cw_actions.specs.Resulting.Results.{unlinked_status, faulty_status, TellsUnits, ShowsText, MigratesObject}
 use Rattle.cw_say.specs.declared.status.Status.{Status}
 use Rattle.cw_say.specs.declared.status.Status.TheVariants.{Unlinked, NoMemory}
 use Rattle.cw_actions.proofs.Resulting.Cases.{gives_out, gives_file}
@@ -32,10 +27,6 @@ pub unlinked_is : (fault : LinkFault) → fault ≢ NoMemoryToLink → Unlinked 
 unlinked_is NoMemoryToLink other = absurd (other refl)
 unlinked_is _ other = refl
 
-pub map_is : (us : List SourceUnit) (m : Map) (limits : Limits) (text : List ℕ) → m ≡ storage_map us → text ≡ program_listing (program_at us m limits) → text ≡ map_text us limits
-unfolding map_text
-map_is us m limits text is e = e ∙ ap (λ x. program_listing (program_at us x limits)) is
-
 module _ (IsText : List SourceUnit → Limits → List ℕ → Type 0) (us : List SourceUnit) (limits : Limits) where
   pub tells_of : (out out' : Out) (s : Status) (text : List ℕ) → Links us limits → IsText us limits text → GivesOut text out out' s → TellsUnits IsText us limits out out' s
   tells_of out out' s text links is gives = gives_out (λ t. TellsUnits IsText us limits out out' t) text out out' (λ x. (text, links, is, x)) (λ x. (text, links, is, x)) (λ x. x) s gives
@@ -44,16 +35,11 @@ module _ (IsText : List SourceUnit → Limits → List ℕ → Type 0) (us : Lis
   pub tells_nothing : (out : Out) → TellsUnits IsText us limits out out NoMemory
   tells_nothing out = refl
 
-  unlinked_tells_as : (out : Out) (fault : LinkFault) → FailsToLink us limits fault → TellsUnits IsText us limits out out (unlinked_status fault)
-  unlinked_tells_as out NoMemoryToLink x = refl
-  unlinked_tells_as out _ x = (x, refl)
-
-  pub unlinked_tells : (out : Out) (fault : LinkFault) (s : Status) → s ≡ unlinked_status fault → FailsToLink us limits fault → TellsUnits IsText us limits out out s
-  unlinked_tells out fault s e x = subst (λ t. TellsUnits IsText us limits out out t) (sym e) (unlinked_tells_as out fault x)
-
--- the map of units that link, where its text was written
-pub written_of : (us : List SourceUnit) (limits : Limits) (out out' : Out) (s : Status) → Links us limits → GivesOut (map_text us limits) out out' s → MapsUnits us limits out out' s
-written_of us limits out out' s links gives = tells_of IsMap us limits out out' s (map_text us limits) links refl gives
+  -- nor of units that do not link
+  pub unlinked_tells : (out : Out) (s : Status) → IsUnlinked us limits s → TellsUnits IsText us limits out out s
+  unlinked_tells out NoMemory x = refl
+  unlinked_tells out (Unlinked fault) x = (x, refl)
+  unlinked_tells out _ x = absurd x
 
 -- ---- texts
 

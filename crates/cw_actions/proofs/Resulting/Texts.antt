@@ -4,15 +4,8 @@ use Rattle.cw_unit.specs.declared.unit.Unit.{Unit as SourceUnit}
 use Rattle.cw_make.specs.Made.{unit_of}
 use Rattle.cw_compile.specs.declared.fault.Refusal.{Refusal}
 use Rattle.cw_compile.specs.Texts.{IsCanonicalOf, IsRefused}
-use Rattle.cw_compile.specs.Outcomes.{HasOneUnit, HasOneRefusal, HasNotBoth, CountsTokens}
 use Rattle.cw_files.specs.Texts.{HasUnit}
-
--- the laws on texts that this stands on
-pub record OneOfText : Type 0 where
-  pub one_unit : HasOneUnit
-  pub one_refusal : HasOneRefusal
-  pub not_both : HasNotBoth
-  pub tokens : CountsTokens
+use Rattle.cw_actions.specs.Resulting.Texts.{OneOfText}
 
 module _ (given : OneOfText) (text : List ℕ) where
   pub one_unit : (u v : SourceUnit) → HasUnit text u → HasUnit text v → u ≡ v

@@ -1,5 +1,6 @@
 -- What is told of the files of a call, by their names.
-use Rattle.std.proofs.Common.{◌≡◌, ℕ, ◌≤◌, List, [], ◌∷◌, map, length, refl, subst, arith}
+use Rattle.std.proofs.Common.{◌≡◌, ℕ, ◌-◌, ◌≤◌, List, [], ◌∷◌, map, take, drop, length, refl, ap, ◌∙◌, subst, arith}
+use Rattle.std.proofs.lemmas.List.{length-drop, take_all}
 use Rattle.std.specs.Prelude.{slice_index_or}
 use Rattle.std.specs.Borrow.{Bor}
 use Rattle.cw_io.specs.File.{Told}
@@ -9,6 +10,12 @@ use Rattle.cw_say.specs.declared.status.Status.{Status}
 use Rattle.cw_files.specs.Texts.{HasUnit, HasObject, object_limit}
 use Rattle.cw_files.specs.Reading.{Counts, AllTaken, Stopped, StopsTexts, StopsObjects}
 use Rattle.cw_actions.proofs.Resulting.Readings.{map_twice}
+
+-- a name that stands alone
+pub one_name : (names : List (List ℕ)) → length names ≤ 1 → 1 ≤ length names → names ≡ slice_index_or names 0 [] ∷ []
+one_name [] few some = absurd (omega (arith, some))
+one_name (name ∷ []) few some = refl
+one_name (name ∷ other ∷ names) few some = absurd (omega (arith, few))
 
 module _ (file : List ℕ → Told) where
   pub same_told : (names : List (Bor (List ℕ))) → map (λ name. file name.now) names ≡ map file (map (λ name. name.now) names)
@@ -31,6 +38,27 @@ module _ (file : List ℕ → Told) where
 
   -- of one file
   pub told_one : (names : List (List ℕ)) → length names ≤ 1 → 1 ≤ length names → map file names ≡ file (slice_index_or names 0 []) ∷ []
-  told_one [] few some = absurd (omega (arith, some))
-  told_one (name ∷ []) few some = refl
-  told_one (name ∷ other ∷ names) few some = absurd (omega (arith, few))
+  told_one names few some = ap (λ all. map file all) (one_name names few some)
+
+-- ---- names behind the first
+
+pub behind_first : {A B : Type 0} (f : A → B) (xs : List A) → map f (drop 1 xs) ≡ drop 1 (map f xs)
+behind_first f [] = refl
+behind_first f (x ∷ xs) = refl
+
+abbrev pub behind : List (Bor (List ℕ)) → List (Bor (List ℕ))
+behind names = take (length names - 1) (drop 1 names)
+
+module _ (names : List (Bor (List ℕ))) where
+  all_behind : behind names ≡ drop 1 names
+  all_behind = take_all (length names - 1) (drop 1 names) (omega (arith, length-drop 1 names))
+
+  pub names_behind : map (λ name. name.now) (behind names) ≡ drop 1 (map (λ name. name.now) names)
+  names_behind = ap (λ (others : List (Bor (List ℕ))). map (λ name. name.now) others) all_behind ∙ behind_first (λ (name : Bor (List ℕ)). name.now) names
+
+  pub count_behind : length (behind names) ≡ length names - 1
+  count_behind = ap (λ (others : List (Bor (List ℕ))). length others) all_behind ∙ length-drop 1 names
+
+pub first_named : (names : List (Bor (List ℕ))) (d : Bor (List ℕ)) → 1 ≤ length names → (slice_index_or names 0 d).now ≡ slice_index_or (map (λ name. name.now) names) 0 []
+first_named [] d some = absurd (omega (arith, some))
+first_named (name ∷ names) d some = refl

@@ -8,9 +8,10 @@ use Rattle.cw_files.specs.Texts.{HasUnit}
 use Rattle.cw_files.specs.Reading.{Counts, IsRefusedAt, IsUnread, StopsTexts}
 use Rattle.cw_say.specs.declared.status.Status.{Status}
 use Rattle.cw_say.specs.declared.status.Status.TheVariants.{Refused}
+use Rattle.cw_actions.specs.Resulting.Texts.{OneOfText}
 use Rattle.cw_actions.proofs.Resulting.Readings.{Found, RefusesAt, same_values}
 use Rattle.cw_actions.proofs.Resulting.Outcomes.{IsRefusedAs, Kind, FileRuns}
-use Rattle.cw_actions.proofs.Resulting.Texts.{OneOfText, one_unit, not_refused, shown_not_refused}
+use Rattle.cw_actions.proofs.Resulting.Texts.{one_unit, not_refused, shown_not_refused}
 
 refused_at : (o : Option (List ℕ)) (fault : Refusal) → IsRefusedAt o fault → RefusesAt IsRefused o fault
 refused_at None fault x = x
@@ -20,33 +21,26 @@ pub stop_is : (files : List Told) (texts : List (List ℕ)) (taken : ℕ) (befor
 stop_is files texts taken before after (Refused number fault) x = inr (number, fault, x.0, refused_at (slice_get texts number) fault x.1, refl)
 stop_is files texts taken before after _ x = inl x
 
-abbrev pub units : OneOfText → Kind
-units given = record {
-  Value = SourceUnit;
+-- accepted as what no text is that is refused
+abbrev pub texts_as : (Value : Type 0) (Accepts : List ℕ → Value → Type 0) → ((text : List ℕ) (x : Value) (fault : Refusal) → Accepts text x → IsRefused text fault → ⊥) → Kind
+texts_as Value Accepts not_both = record {
+  Value = Value;
   Wrong = Refusal;
   limit = text_limit;
-  Accepts = HasUnit;
+  Accepts = Accepts;
   Refuses = IsRefused;
   status_of = Refused;
   is_refusal = λ number fault. tt;
-  not_both = λ text u fault is refused. not_refused given text u fault is refused;
+  not_both = not_both;
   Stops = StopsTexts;
   stop_is = stop_is;
 }
 
+abbrev pub units : OneOfText → Kind
+units given = texts_as SourceUnit HasUnit (not_refused given)
+
 abbrev pub shown_texts : OneOfText → Kind
-shown_texts given = record {
-  Value = List ℕ;
-  Wrong = Refusal;
-  limit = text_limit;
-  Accepts = IsCanonicalOf;
-  Refuses = IsRefused;
-  status_of = Refused;
-  is_refusal = λ number fault. tt;
-  not_both = λ text shown fault is refused. shown_not_refused given text shown fault is refused;
-  Stops = StopsTexts;
-  stop_is = stop_is;
-}
+shown_texts given = texts_as (List ℕ) IsCanonicalOf (shown_not_refused given)
 
 pub same_units : (given : OneOfText) (found : List Found) (us vs : List SourceUnit) → FileRuns (units given) found us None → FileRuns (units given) found vs None → us ≡ vs
 same_units given found us vs x y = same_values text_limit HasUnit IsRefused Refused (λ text u v is also. one_unit given text u v is also) 0 found us vs x y

@@ -1,9 +1,11 @@
 -- What the functions of the call answer, in the words of the call.
-use Rattle.std.proofs.Common.{◌≡◌, ◌⊎◌, ℕ, ◌<◌, ◌≤◌, List, [], length, Option, Result, Ok, Err, Bor, sym, subst, arith}
-use Rattle.std.specs.Prelude.{All, nat_eq, map}
+use Rattle.std.proofs.Common.{◌≡◌, ◌⊎◌, ℕ, ◌<◌, ◌≤◌, List, [], length, Option, Some, Result, Ok, Err, Bor, sym, subst, inl, inr, arith}
+use Rattle.std.specs.Prelude.{All, nat_eq, map, drop, slice_index_or}
 use Rattle.std.specs.List.{IsDistinct}
 use Rattle.std.proofs.lemmas.List.{length-map}
+use Rattle.cw_io.specs.Bytes.{after_told}
 use Rattle.cw_io.specs.File.{AllStay}
+use Rattle.cw_i86.specs.State.{State}
 use Rattle.cw_unit.specs.declared.unit.Unit.{Unit as SourceUnit}
 use Rattle.cw_unit.specs.declared.layout.Limits.{Limits}
 use Rattle.cw_unit.specs.declared.layout.Map.{Map}
@@ -13,10 +15,13 @@ use Rattle.cw_place.specs.Placement.{IsLimits}
 use Rattle.cw_build.specs.Compiled.{object_of}
 use Rattle.cw_build.specs.Linking.{Links, image_of, map_text}
 use Rattle.cw_stop.specs.declared.stopping.Stop.{Stop}
+use Rattle.cw_stop.specs.Stopping.{stop_in}
 use Rattle.cw_trace.specs.declared.watch.Watch.{Watch}
 use Rattle.cw_watch.specs.Watching.{AnswersWatch}
 use Rattle.cw_watch.specs.declared.fault.WatchFault.{WatchFault}
 use Rattle.cw_watch.specs.declared.fault.WatchFault.TheVariants as watch_faults
+use Rattle.cw_watched.specs.Watched.{WatchedTells, said_at}
+use Rattle.cw_watched.specs.declared.running.WatchedEnd.{WatchedEnd}
 use Rattle.cw_traced.specs.Places.Reported.{MeansInUnits}
 use Rattle.cw_write.specs.Said.{Says}
 use Rattle.cw_say.specs.Closing.{closing_line}
@@ -25,11 +30,13 @@ use Rattle.cw_say.specs.declared.status.Status.TheVariants.{Ended, NoItem}
 use Rattle.cw_words.specs.declared.action.Action.TheVariants.{Trace}
 use Rattle.cw_correct.specs.Calls.{Surroundings, Call, call_as}
 use Rattle.cw_correct.specs.Going.{names_of}
-use Rattle.cw_correct.specs.Tracing.{named_by}
+use Rattle.cw_correct.specs.Tracing.{named_by, TracesRight}
+use Rattle.cw_correct.specs.Correct.{IsCorrectCall}
 use Rattle.cw_actions.specs.Going.Runs.{Streams}
+use Rattle.cw_actions.specs.Going.Loads.{Loads}
 use Rattle.cw_actions.specs.Going.Goes.{streams_of, StopsReading, StopsLinking, Takes}
 use Rattle.cw_actions.proofs.Going.Called.{before_line, named, closes_by}
-use Rattle.cw_actions.specs.Tracing.Tracing.{fault_status, WatchesRun}
+use Rattle.cw_actions.specs.Tracing.Tracing.{watched_status, fault_status, WatchesRun}
 use Rattle.cw_actions.specs.Tracing.Laws.{IsTraced, KeepsStopped, KeepsFault, KeepsRun}
 
 -- ---- what is meant and run
@@ -39,6 +46,18 @@ watches_as text other image meant watch steps a b status e f runs =
     let P : List ℕ → Type 0 = λ t. WatchesRun t image watch steps a b status in
     let Q : Image → Type 0 = λ i. WatchesRun other i watch steps a b status in
     subst Q f (subst P e runs)
+
+module _ (image : Image) (said : List ℕ) (watch : Watch) (steps : ℕ) (a b : Streams) (status : Status) where
+  pub not_loaded : Loads said image a b (Err status) → WatchesRun said image watch steps a b status
+  not_loaded (inl x) = inl x
+  not_loaded (inr x) = inr (inl x)
+
+  -- an image that was loaded was run
+  pub watched : (between : Streams) (start : State) (end : WatchedEnd) → Loads said image a between (Ok start) → status ≡ watched_status steps end
+      → WatchedTells watch end start steps a.outside b.outside (said_at between.say between.say_faults) (said_at b.say b.say_faults) → WatchesRun said image watch steps a b status
+  watched between start end loads is tells =
+      let P : Option (List ℕ) → ℕ → Type 0 = λ say faults. WatchedTells watch end start steps a.outside b.outside (said_at say faults) (said_at b.say b.say_faults) in
+      inr (inr (record { start = start; is_start = loads.0; end = end; is = is; tells = subst (λ faults. P (after_told a.say said) faults) loads.1.same (subst (λ say. P say between.say_faults) loads.1.said tells) }))
 
 -- the answer of objects and a map is that of the units whose objects and map these are
 pub means_as : (us : List SourceUnit) (limits : Limits) (stop : Stop) (objects : List (List ℕ)) (m : Map) (answer : Result Watch WatchFault) → objects ≡ map object_of us → m ≡ storage_map us → AnswersWatch objects m limits stop answer
@@ -100,3 +119,9 @@ module _ (stop : Stop) (limits : Limits) (steps : ℕ) (names : List (Bor (List 
       subst IsTracedSo (sym same)
       (keeps stop watch Trace limits steps (named names) before between after us status within some_names few_names stays takes links means once inside runs
       (closes_by between after.say after.say_faults (named names) (names_of us) status (subst P are says) ended))
+
+-- of the stop word and the names behind it
+pub asked : (names texts : List (List ℕ)) (limits : Limits) (steps : ℕ) (stop : Stop) (before after : Surroundings) (status : Status) → stop_in (slice_index_or names 0 []) ≡ Some stop → texts ≡ drop 1 names
+    → IsTraced stop (call_as Trace limits steps texts before after) status → IsCorrectCall (call_as Trace limits steps names before after) status
+asked names texts limits steps stop before after status told behind (input, is_input, right) =
+    (input, is_input, (stop, told, subst (λ others. TracesRight stop (call_as Trace limits steps others before after) input status) behind right))

@@ -14,16 +14,11 @@ use Rattle.cw_ports.specs.declared.running.ImageEnd.{ImageEnd}
 use Rattle.cw_ports.specs.declared.running.ImageEnd.TheVariants as ends
 use Rattle.cw_unit.specs.declared.unit.Unit.{Unit as SourceUnit}
 use Rattle.cw_unit.specs.declared.layout.Limits.{Limits}
-use Rattle.cw_unit.specs.Allocation.{storage_map}
-use Rattle.cw_unit.specs.ValidStorage.{ValidStorageMap}
-use Rattle.cw_unit.specs.Program.{Program, program_of}
-use Rattle.cw_unit.specs.Configuration.{FramesApart, activations_of}
-use Rattle.cw_unit.specs.Behaviour.{configuration_after}
+use Rattle.cw_unit.specs.Program.{program_of}
 use Rattle.cw_place.specs.Placement.{IsLimits}
 use Rattle.cw_build.specs.Compiled.{IsCompilable}
 use Rattle.cw_build.specs.Linking.{Links, image_of, map_text}
-use Rattle.cw_files.specs.Texts.{HasUnit}
-use Rattle.cw_files.specs.Reading.{Counts, HaveValues, StopsTexts}
+use Rattle.cw_files.specs.Reading.{Counts, StopsTexts}
 use Rattle.cw_stop.specs.declared.stopping.Stop.{Stop}
 use Rattle.cw_trace.specs.Reports.{Reports}
 use Rattle.cw_trace.specs.declared.watch.Watch.{Watch}
@@ -52,19 +47,22 @@ use Rattle.cw_actions.specs.Going.Runs.{Streams, status_of, Lists, ListsPart}
 use Rattle.cw_actions.specs.Going.Goes.{streams_of, IsUnlinked, StopsReading, StopsLinking, Takes}
 use Rattle.cw_actions.specs.Going.Laws as going
 use Rattle.cw_actions.specs.Going.Laws.{IsRight, RunsAs}
+use Rattle.cw_actions.specs.Resulting.Texts.{AreCompilable}
+use Rattle.cw_actions.proofs.Going.Given.{OnStorage}
+use Rattle.cw_actions.proofs.Going.Called.{closes_wanted}
 use Rattle.cw_actions.proofs.Executing.Running.{after_nothing, some_input}
 use Rattle.cw_actions.specs.Tracing.Tracing.{watched_status, fault_status, WatchesRun}
 use Rattle.cw_actions.specs.Tracing.Laws.{IsTraced}
 
--- the laws that the promise of `trace` stands on
-pub record Given : Type 0 where
+-- on texts that run
+pub record OnTexts : Type 0 where
   pub keeps : going.KeepsPromise
   pub run : going.KeepsRun
   pub listing : going.KeepsListing
   pub idle : going.IsRightIdle
-  pub compiled : (texts : List (List ℕ)) (us : List SourceUnit) → HaveValues HasUnit texts us → All IsCompilable us
-  pub map : (us : List SourceUnit) (limits : Limits) → All IsCompilable us → Links us limits → ValidStorageMap us limits (storage_map us)
-  pub frames : (p : Program) (input : List ℕ) (m : ℕ) → FramesApart p (activations_of (configuration_after p input m))
+
+-- on reports
+pub record OnReports : Type 0 where
   pub shown : (us : List SourceUnit) (limits : Limits) (stop : Stop) (watch : Watch) (input : List ℕ) (s : State) (k : ℕ) (o : Observed) (events : List Event) (text : List ℕ)
       → us ≢ [] → length us ≤ 200 → All IsCompilable us → IsLimits limits → Links us limits → All (λ b. b < 256) input → IsStart (image_of us limits).code (image_of us limits).words s
       → MeansInUnits us limits stop (Ok watch) → IsDistinct nat_eq watch.places → All (λ word. word.address < limits.area) watch.words
@@ -73,6 +71,13 @@ pub record Given : Type 0 where
       → us ≢ [] → length us ≤ 200 → All IsCompilable us → IsLimits limits → Links us limits → All (λ b. b < 256) input → IsStart (image_of us limits).code (image_of us limits).words s
       → MeansInUnits us limits stop (Ok watch) → IsDistinct nat_eq watch.places → All (λ word. word.address < limits.area) watch.words
       → FitsInput input events → Reports watch s events k text → (o : Observed) × Shows s input k o × ReportsUnits us limits stop input k o text
+
+-- the laws that the promise of `trace` stands on
+pub record Given : Type 0 where
+  pub texts : OnTexts
+  pub compiled : AreCompilable
+  pub storages : OnStorage
+  pub reports : OnReports
 
 -- ---- statuses before anything is written
 
@@ -130,16 +135,16 @@ module _ (given : Given) (stop : Stop) (action : Action) (limits : Limits) (step
   traced status x (input, is_input, runs) = (input, is_input, early input status x runs)
 
   pub idle : Closes before after names [] NoMemory → IsTraced stop c NoMemory
-  idle closes = traced NoMemory tt (given.idle bare action limits steps names before after closes)
+  idle closes = traced NoMemory tt (given.texts.idle bare action limits steps names before after closes)
 
   module _ (within : IsLimits limits) (some : 1 ≤ length names) (most : length names ≤ 200) (stays : AllStay before.files between.files) where
     pub stopped : (status : Status) → StopsReading d status ⊎ ((us : List SourceUnit) × Takes d us × StopsLinking d us status) → Closes between after names [] status → IsTraced stop c status
     stopped status (inl x) closes =
         traced status (early_read (told_files d) x.stopped.texts (length x.stopped.values) _ _ status x.stopped.stops)
-        (given.keeps bare action limits steps names [] before between after status within some most stays (inl x) closes)
+        (given.texts.keeps bare action limits steps names [] before between after status within some most stays (inl x) closes)
     stopped status (inr (us, takes, x)) closes =
         traced status (early_linked us limits status x.unlinked)
-        (given.keeps bare action limits steps names [] before between after status within some most stays (inr (us, takes, inl x)) closes)
+        (given.texts.keeps bare action limits steps names [] before between after status within some most stays (inr (us, takes, inl x)) closes)
 
     module _ (us : List SourceUnit) (takes : Takes d us) (links : Links us limits) where
       all_of : length us ≡ length names
@@ -160,7 +165,7 @@ module _ (given : Given) (stop : Stop) (action : Action) (limits : Limits) (step
       no_memory : b ≡ a → Closes between after names (names_of us) NoMemory → IsTraced stop c NoMemory
       no_memory same closes =
           traced NoMemory tt
-          (given.keeps bare action limits steps names (names_of us) before between after NoMemory within some most stays
+          (given.texts.keeps bare action limits steps names (names_of us) before between after NoMemory within some most stays
           (inr (us, takes, inr (record { links = links; named = refl; runs = inl (refl, same) }))) closes)
 
       -- ---- where the stop means nothing
@@ -202,17 +207,7 @@ module _ (given : Given) (stop : Stop) (action : Action) (limits : Limits) (step
           let (input, is_input) = some_input before.left in
           (input, is_input, finds_none (faults.NoItem index) (NoItem index) refl means same closes)
       means_nothing faults.NoMemory means same closes =
-          no_memory same (record {
-            says = closes.says;
-            ended = λ e. absurd (cc e);
-            files = closes.files;
-            store_faults = closes.store_faults;
-            absences = closes.absences;
-            left = closes.left;
-            input_faults = closes.input_faults;
-            out = closes.out;
-            out_faults = closes.out_faults;
-          })
+          no_memory same (closes_wanted between after (named_by stop names NoMemory) [] names (names_of us) closes)
 
       -- ---- where the image was to run, watched
 
@@ -227,17 +222,17 @@ module _ (given : Given) (stop : Stop) (action : Action) (limits : Limits) (step
         say_failed part closes =
             let (input, is_input) = some_input before.left in
             let bared : ListsPart (bare us) a b = subst (λ t. ListsPart t a b) (sym (append-nil listing)) part in
-            let (o, r) = given.listing bare action limits steps names before between after us input within some most stays takes links bared closes in
+            let (o, r) = given.texts.listing bare action limits steps names before between after us input within some most stays takes links bared closes in
             (input, is_input, inl (record { reports = []; runs = r.runs; right = (subst (λ vs. Watches vs limits stop) (sym r.units) watches, refl) }))
 
         module _ (s : State) (start : IsStart (image_of us limits).code (image_of us limits).words s) (input : List ℕ) where
           reports_at : (k : ℕ) (o : Observed) (text : List ℕ) → Shows s input k o → TellsOf watch s input k text → ReportsAt stop limits input us k o text
           reports_at k o text shows (events, fits, reports) =
-              λ bytes. given.shown us limits stop watch input s k o events text some_units most_units compiled within links bytes start means once inside shows fits reports
+              λ bytes. given.reports.shown us limits stop watch input s k o events text some_units most_units compiled within links bytes start means once inside shows fits reports
 
           reports_next : (n : ℕ) (text : List ℕ) → TellsOf watch s input (n + 1) text → ReportsNext stop limits input us n text
           reports_next n text (events, fits, reports) =
-              λ bytes. let (o, shows, reported) = given.some us limits stop watch input s (n + 1) events text some_units most_units compiled within links bytes start means once inside fits reports in (o, reported)
+              λ bytes. let (o, shows, reported) = given.reports.some us limits stop watch input s (n + 1) events text some_units most_units compiled within links bytes start means once inside fits reports in (o, reported)
 
           -- what is told of these units, instructions and show is told of those that the promise names
           told_of : (telling : Telling) (status : Status) (n : ℕ) (o : Observed) (text : List ℕ) (r : RunsAs telling c input status us n o) → ReportsRun stop limits input us n o text status
@@ -257,7 +252,7 @@ module _ (given : Given) (stop : Stop) (action : Action) (limits : Limits) (step
               → RunsAs (telling t.text) c input (status_of steps end) us (ports.reached end s input steps a.outside b.outside t.shows) (ports.shown_of end s input steps a.outside b.outside t.shows)
           run_as end t closes =
               let lists : Lists (listing ++ t.text) a b = record { said = t.writes ∙ after_told-append a.say listing t.text; same = t.same } in
-              given.run (telling t.text) action limits steps names before between after us input s end within some most stays takes links lists start t.shows closes
+              given.texts.run (telling t.text) action limits steps names before between after us input s end within some most stays takes links lists start t.shows closes
 
           image_ran : (end : ImageEnd) → WasTold end → Closes between after names (names_of us) (status_of steps end) → TracesRight stop c input (status_of steps end)
           image_ran ends.InputFault t closes =
@@ -338,8 +333,8 @@ module _ (given : Given) (stop : Stop) (action : Action) (limits : Limits) (step
                   closing = subst P held closes.says;
                 };
                 reaches = omega arith;
-                valid_storage = given.map us limits compiled links;
-                frames_apart = given.frames (program_of us limits) input;
+                valid_storage = given.storages.map us limits compiled links;
+                frames_apart = given.storages.frames (program_of us limits) input;
                 stays = λ name. ap (λ f. f name) closes.files ∙ stays name;
               }
 

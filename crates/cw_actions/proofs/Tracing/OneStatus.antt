@@ -2,6 +2,7 @@
 use Rattle.std.proofs.Common.{◌≡◌, ◌⊎◌, ℕ, ◌<◌, zero, suc, List, [], ◌∷◌, ◌++◌, map, length, take, Option, Some, None, slice_get, Err, refl, sym, ap, ◌∙◌, inl, inr, arith, true≢false}
 use Rattle.std.specs.Prelude.{min, All, IsSome}
 use Rattle.std.proofs.lemmas.Bool.{cases_order}
+use Rattle.std.proofs.lemmas.List.{length-map}
 use Rattle.std.proofs.lemmas.List.Elements.{All-head, All-tail}
 use Rattle.cw_unit.specs.declared.unit.Unit.{Unit as SourceUnit}
 use Rattle.cw_unit.specs.declared.layout.Limits.{Limits}
@@ -116,11 +117,8 @@ module _ (stop : Stop) (c : Call) (input : List ℕ) (quiet : NoFault c.before c
 
   none : (fault : WatchFault) (status : Status) → IsOfStop fault → status ≡ fault_status fault → FindsNone fault stop c status → ComesSo status
   none fault status of e x = inr (record {
-    texts = x.texts;
     units = x.units;
-    have_texts = x.have_texts;
-    have_units = x.have_units;
-    all = x.all;
+    taken = record { texts = x.texts; have_bytes = x.have_texts; have_values = x.have_units; all = x.all ∙ sym (length-map c.names c.before.files) };
     links = x.links;
     never = (fault, of, x.means, e);
   })

@@ -1,87 +1,37 @@
 // The large program made, linked and run.
-ghost use Rattle.std.specs.Prelude.{◌≡◌, ◌≤◌, ℕ, List, [], Some, slice_index_or, IfOk, OnOk, decimal, ◌++◌};
+ghost use Rattle.std.specs.Prelude.{◌≡◌, ◌≤◌, ℕ, List, [], Some, slice_index_or, IfOk};
 ghost use Rattle.cw_io.specs.File.{Told};
 ghost use Rattle.cw_place.specs.Placement.{IsLimits};
-ghost use Rattle.cw_build.specs.Linking.{image_of};
-ghost use Rattle.cw_build.specs.Building.{IsLinkedOf};
 ghost use Rattle.cw_words.specs.Parts.{copies_in};
 ghost use Rattle.cw_words.specs.declared.action.Action.TheVariants.{Big};
 ghost use Rattle.cw_correct.specs.Calls.{surroundings_of, call_as};
-ghost use Rattle.cw_correct.specs.Making.{line_with, program_line};
+ghost use Rattle.cw_correct.specs.Making.{line_with};
 ghost use Rattle.cw_correct.specs.Correct.{IsCorrectCall};
-ghost use Rattle.cw_actions.specs.Going.Runs.{streams_at, Runs};
 
 use crate::big::making::make_segments;
 use crate::go::laws::promises;
 use crate::go::{close, compiled_units, link_segments, load_and_run};
+use crate::numbers::put_number;
 use cw_big::laws::short_texts;
 use cw_build::laws::linked_units;
-use cw_files::Segments;
+use cw_fields::put_bytes;
 use cw_io::{Sink, Source};
-use cw_link::Linked;
 use cw_say::Status;
 use cw_unit::layout::Limits;
 use cw_word::NoMemory;
 use std::alloc::Global;
-
-fn put(line: &mut Vec<u8>, piece: &[u8]) -> Result<(), NoMemory>
-    ensures { OnOk result (line.new.items ≡ line.old.items ++ piece.now) }
-{
-    line.extend_from_slice(piece).map_err(|_| NoMemory)
-}
-
-fn put_number(line: &mut Vec<u8>, number: u64) -> Result<(), NoMemory>
-    ensures { OnOk result (line.new.items ≡ line.old.items ++ decimal number) }
-{
-    let mut buffer = itoa::Buffer::new();
-    put(line, buffer.format(number).as_bytes())
-}
 
 // The line that is written in place of the storage map, whose last family ends there.
 fn line_with(alloc: Global, copies: u8, end: u32) -> Result<Vec<u8>, NoMemory>
     ensures { IfOk result (λ line. line.items ≡ line_with copies end) }
 {
     let mut line = Vec::new(alloc);
-    put(&mut line, b"big ")?;
+    put_bytes(&mut line, b"big ")?;
     put_number(&mut line, u64::from(copies))?;
-    put(&mut line, b" words ")?;
+    put_bytes(&mut line, b" words ")?;
     put_number(&mut line, u64::from(end))?;
-    put(&mut line, b"\n")?;
+    put_bytes(&mut line, b"\n")?;
     Ok(line)
-}
-
-// Writes the line and runs the image.
-fn run_program<I: Source, O: Sink, S: Sink>(
-    alloc: Global,
-    copies: u8,
-    segments: &Segments,
-    linked: &Linked,
-    limits: &Limits,
-    steps: u64,
-    input: &mut I,
-    out: &mut O,
-    say: &mut S,
-) -> Status
-    requires linked { IsLinkedOf segments.now.units limits.now linked.now }
-    requires limits { IsLimits limits.now }
-    ensures { Runs (program_line copies segments.now.units) (image_of segments.now.units limits.now) steps
-        (streams_at (I.left input.old) (I.faults input.old) (O.held out.old) (O.faults out.old) (S.held say.old)
-        (S.faults say.old)) (streams_at (I.left input.new) (I.faults input.new) (O.held out.new)
-        (O.faults out.new) (S.held say.new) (S.faults say.new)) result }
-{
-    linked_units();
-    match line_with(alloc, copies, linked.map.end) {
-        Ok(line) => load_and_run(
-            alloc,
-            line.as_slice(),
-            &linked.image,
-            steps,
-            input,
-            out,
-            say,
-        ),
-        Err(_) => Status::NoMemory,
-    }
 }
 
 /// Makes and compiles so many texts, links their objects, writes to `say` how many they are and how many words their items take up, runs the image, and closes
@@ -109,12 +59,12 @@ pub fn big<I: Source, O: Sink, S: Sink>(
     promises();
     short_texts();
     compiled_units();
+    linked_units();
     match make_segments(alloc, copies) {
         Ok(segments) => match link_segments(alloc, &segments, limits) {
             Ok(linked) => {
-                let status = run_program(
-                    alloc, copies, &segments, &linked, limits, steps, input, out, say,
-                );
+                let text = line_with(alloc, copies, linked.map.end);
+                let status = load_and_run(alloc, text, &linked.image, steps, input, out, say);
                 close(say, &[], linked.image.names.as_slice(), status)
             }
             Err(status) => close(say, &[], &[], status),

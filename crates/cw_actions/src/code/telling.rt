@@ -1,25 +1,21 @@
-//! The action `code`.
-ghost use Rattle.std.specs.Prelude.{◌≤◌, ℕ, List as Sequence, Option, length, map, All};
+// The listing of the code of texts that link.
+ghost use Rattle.std.specs.Prelude.{◌≤◌, List as Sequence, length, All};
 ghost use Rattle.cw_unit.specs.declared.unit.Unit.{Unit as SourceUnit};
 ghost use Rattle.cw_unit.specs.declared.layout.Limits.{Limits as SourceLimits};
-ghost use Rattle.cw_place.specs.Placement.{IsLimits};
 ghost use Rattle.cw_build.specs.Building.{IsLinkedOf};
 ghost use Rattle.cw_build.specs.Compiled.{IsCompilable};
 ghost use Rattle.cw_files.specs.Reading.{AreSegmentsOf};
-ghost use Rattle.cw_words.specs.declared.action.Action.TheVariants.{Code};
-ghost use Rattle.cw_correct.specs.Calls.{surroundings_of, call_as};
-ghost use Rattle.cw_correct.specs.Results.{IsCode, CodesRight};
+ghost use Rattle.cw_correct.specs.Results.{IsCode};
+ghost use Rattle.cw_actions.specs.Going.Linking.{AreLinkable};
 ghost use Rattle.cw_actions.specs.Resulting.Outside.{out_at};
 ghost use Rattle.cw_actions.specs.Resulting.Results.{TellsUnits};
 
 use crate::code::coding::unit_codes;
-use crate::code::reading::{Sources, read_sources};
-use crate::go::close;
-use crate::results::{compiled_units, unlinked, write_text};
+use crate::code::reading::Sources;
+use crate::go::link_segments;
+use crate::results::write_text;
 use cw_build::laws::linked_units;
-use cw_build::link_units;
-use cw_compile::laws::one_outcome;
-use cw_io::{Sink, Store};
+use cw_io::Sink;
 use cw_link::Linked;
 use cw_listing::code_listing;
 use cw_say::Status;
@@ -48,48 +44,21 @@ fn write_listing<O: Sink>(alloc: Global, sources: &Sources, linked: &Linked, out
     }
 }
 
-// Links the objects of texts, and writes the listing of their code.
-fn code_units<O: Sink>(alloc: Global, sources: &Sources, limits: &Limits, out: &mut O) -> Status
+/// Links the objects of texts, and writes the listing of their code.
+pub(crate) fn code_units<O: Sink>(
+    alloc: Global,
+    sources: &Sources,
+    limits: &Limits,
+    out: &mut O,
+) -> Status
     ghost us: { Sequence SourceUnit }
-    requires segments { AreSegmentsOf us sources.now.segments }
-    requires compiled { All IsCompilable us }
-    requires few { length us ≤ 200 }
-    requires limits { IsLimits limits.now }
+    requires { AreLinkable us sources.now.segments limits.now }
     ensures { TellsUnits (IsCode sources.now.texts) us limits.now (out_at (O.held out.old) (O.faults out.old))
         (out_at (O.held out.new) (O.faults out.new)) result }
 {
     linked_units();
-    match link_units(alloc, sources.segments.objects.as_slice(), limits) {
+    match link_segments(alloc, &sources.segments, limits) {
         Ok(linked) => write_listing(alloc, sources, &linked, out),
-        Err(fault) => unlinked(fault),
-    }
-}
-
-/// Reads and compiles the files in order, links their objects, and writes the listing of the linked code to `out`.
-pub fn code_files<F: Store, O: Sink, S: Sink>(
-    alloc: Global,
-    names: &[&str],
-    limits: &Limits,
-    steps: u64,
-    files: &mut F,
-    out: &mut O,
-    say: &mut S,
-) -> Status
-    requires few { length names.now ≤ 200 }
-    requires some { 1 ≤ length names.now }
-    requires limits { IsLimits limits.now }
-    ensures { (left : Option (Sequence ℕ)) (input_faults : ℕ)
-        → CodesRight (call_as Code limits.now steps (map (λ name. name.now) names.now)
-        (surroundings_of (F.file files.old) (F.faults files.old) (F.absences files.old) left input_faults
-        (O.held out.old) (O.faults out.old) (S.held say.old) (S.faults say.old))
-        (surroundings_of (F.file files.new) (F.faults files.new) (F.absences files.new) left input_faults
-        (O.held out.new) (O.faults out.new) (S.held say.new) (S.faults say.new))) result }
-{
-    one_outcome();
-    compiled_units();
-    linked_units();
-    match read_sources(alloc, files, names) {
-        Ok(sources) => close(say, names, &[], code_units(alloc, &sources, limits, out)),
-        Err(status) => close(say, names, &[], status),
+        Err(status) => status,
     }
 }

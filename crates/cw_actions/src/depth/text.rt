@@ -2,18 +2,12 @@
 ghost use Rattle.std.specs.Prelude.{◌≡◌, ◌++◌, length, slice_get, Some, OnOk, IfOk, decimal, codes, flat_map};
 ghost use Rattle.cw_correct.specs.Depths.{procedure_name, place_in, place_line, depth_text};
 
+use crate::numbers::put_number;
 use cw_depth::Report;
 use cw_fields::put_bytes;
 use cw_unit::unit::{Proc, Unit};
 use cw_word::NoMemory;
 use std::alloc::Global;
-
-fn put_number(out: &mut Vec<u8>, number: usize) -> Result<(), NoMemory>
-    ensures { OnOk result (out.new.items ≡ out.old.items ++ decimal number) }
-{
-    let mut buffer = itoa::Buffer::new();
-    put_bytes(out, buffer.format(number).as_bytes())
-}
 
 // The name of a segment's procedure of this number.
 fn put_procedure(out: &mut Vec<u8>, procs: &[Proc], number: u16) -> Result<(), NoMemory>
@@ -58,7 +52,7 @@ fn put_bound(out: &mut Vec<u8>, units: &[Unit], chain: &[(u8, u16)]) -> Result<(
         ++ (codes "\n" ++ flat_map (place_line units.now) chain.now)))) }
 {
     put_bytes(out, b"depth ")?;
-    put_number(out, chain.len())?;
+    put_number(out, chain.len() as u64)?;
     put_bytes(out, b"\n")?;
     put_lines(out, units, chain)
 }

@@ -8,7 +8,8 @@ ghost use Rattle.cw_correct.specs.Correct.{IsCorrectCall};
 use crate::go::closing::close;
 use crate::go::laws::promises;
 use crate::go::linking::link_segments;
-use crate::go::running::run_segments;
+use crate::go::running::{load_and_run, storage_text};
+use cw_build::laws::linked_units;
 use cw_io::{Sink, Source, Store};
 use cw_say::Status;
 use cw_texts::laws::compiled_units;
@@ -39,12 +40,12 @@ pub fn go<F: Store, I: Source, O: Sink, S: Sink>(
 {
     promises();
     compiled_units();
+    linked_units();
     match read_units(alloc, files, names) {
         Ok(segments) => match link_segments(alloc, &segments, limits) {
             Ok(linked) => {
-                let status = run_segments(
-                    alloc, &segments, &linked, limits, steps, input, out, say,
-                );
+                let text = storage_text(alloc, &segments, &linked, limits);
+                let status = load_and_run(alloc, text, &linked.image, steps, input, out, say);
                 close(say, names, linked.image.names.as_slice(), status)
             }
             Err(status) => close(say, names, &[], status),

@@ -2,13 +2,11 @@
 ghost use Rattle.cw_actions.specs.Going.Apart.{LinksWhatRuns, LinksAsMigrated};
 ghost use Rattle.cw_actions.specs.Going.Laws.{KeepsPromise, KeepsRun, KeepsListing, IsRightIdle, HasOneStatus};
 
-use cw_build::laws::linked_units;
+use crate::texts::known_texts;
 use cw_build_laws::laws::images::{loaded, separate_objects};
-use cw_compile::laws::one_outcome;
 use cw_cpu86::laws::{one_observation, one_start};
 use cw_link_files::laws::one_link_list;
 use cw_sim::laws::preservation;
-use cw_texts::laws::compiled_units;
 use cw_unit::laws::configurations;
 
 /// A call that goes so up to its closing line, and is closed so, keeps its promise. So does one that did nothing
@@ -20,10 +18,8 @@ pub fn promises()
     ensures listing { KeepsListing }
     ensures idle { IsRightIdle }
 {
-    one_outcome();
-    compiled_units();
+    known_texts();
     loaded();
-    linked_units();
     configurations();
     preservation();
     one_observation();
@@ -41,7 +37,7 @@ pub fn idle()
 pub fn one_status_of_texts()
     ensures { HasOneStatus }
 {
-    one_outcome();
+    known_texts();
     one_start();
     one_observation();
 }

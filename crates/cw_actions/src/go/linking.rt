@@ -1,10 +1,8 @@
 // From the units of the files to their image.
-ghost use Rattle.std.specs.Prelude.{◌≤◌, length, All, List as Sequence};
+ghost use Rattle.std.specs.Prelude.{List as Sequence};
 ghost use Rattle.cw_unit.specs.declared.unit.Unit.{Unit as SourceUnit};
-ghost use Rattle.cw_place.specs.Placement.{IsLimits};
-ghost use Rattle.cw_build.specs.Compiled.{IsCompilable};
-ghost use Rattle.cw_files.specs.Reading.{AreSegmentsOf};
 ghost use Rattle.cw_actions.specs.Going.Goes.{AnswersLinked};
+ghost use Rattle.cw_actions.specs.Going.Linking.{AreLinkable};
 
 use crate::results::unlinked;
 use cw_build::link_units;
@@ -17,10 +15,7 @@ use std::alloc::Global;
 /// Links the objects of the units, or answers with the status where they have no image.
 pub fn link_segments(alloc: Global, segments: &Segments, limits: &Limits) -> Result<Linked, Status>
     ghost us: { Sequence SourceUnit }
-    requires segments { AreSegmentsOf us segments.now }
-    requires compiled { All IsCompilable us }
-    requires few { length us ≤ 200 }
-    requires limits { IsLimits limits.now }
+    requires { AreLinkable us segments.now limits.now }
     ensures { AnswersLinked us limits.now result }
 {
     match link_units(alloc, segments.objects.as_slice(), limits) {

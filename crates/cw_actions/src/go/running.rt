@@ -1,15 +1,15 @@
-// The storage map is listed, the image loaded and run.
-ghost use Rattle.std.specs.Prelude.{◌<◌, ◌≤◌, length};
-ghost use Rattle.cw_i86.specs.MachineRun.{IsStart};
-ghost use Rattle.cw_image.specs.declared.image.Image.{Image as RunImage};
+// The storage map is told, an image loaded and run.
+ghost use Rattle.std.specs.Prelude.{◌≡◌, ℕ, List, IfOk};
+ghost use Rattle.cw_ports.specs.Running.{Outside};
+ghost use Rattle.cw_unit.specs.declared.unit.Unit.{Unit as SourceUnit};
 ghost use Rattle.cw_place.specs.Placement.{IsLimits};
-ghost use Rattle.cw_build.specs.Linking.{map_text, image_of};
+ghost use Rattle.cw_build.specs.Linking.{map_text};
 ghost use Rattle.cw_build.specs.Building.{IsLinkedOf};
 ghost use Rattle.cw_files.specs.Reading.{AreSegmentsOf};
 ghost use Rattle.cw_actions.specs.Going.Runs.{streams_at, Runs};
+ghost use Rattle.cw_actions.specs.Going.Loads.{CanLoad, beside, Loads};
 
 use crate::go::statuses::status_of;
-use cw_build::laws::linked_units;
 use cw_cpu86::Cpu;
 use cw_files::Segments;
 use cw_image::Image;
@@ -19,88 +19,72 @@ use cw_list::map_text;
 use cw_ports::run_image;
 use cw_say::{Status, Which};
 use cw_unit::layout::Limits;
+use cw_word::NoMemory;
 use cw_write::write_piece;
 use std::alloc::Global;
 
-// Writes the listing, and runs the image, which is loaded.
-fn list_and_run<I: Source, O: Sink, S: Sink>(
-    cpu: &mut Cpu,
-    listing: &[u8],
-    steps: u64,
-    input: &mut I,
-    out: &mut O,
-    say: &mut S,
-) -> Status
-    ensures { (image : RunImage) → IsStart image.code image.words cpu.old
-        → Runs listing.now image steps (streams_at (I.left input.old) (I.faults input.old) (O.held out.old)
-        (O.faults out.old) (S.held say.old) (S.faults say.old))
-        (streams_at (I.left input.new) (I.faults input.new) (O.held out.new) (O.faults out.new) (S.held say.new)
-        (S.faults say.new)) result }
+/// The text of the storage map of units that were linked.
+pub(crate) fn storage_text(
+    alloc: Global,
+    segments: &Segments,
+    linked: &Linked,
+    limits: &Limits,
+) -> Result<Vec<u8>, NoMemory>
+    ghost us: { List SourceUnit }
+    requires segments { AreSegmentsOf us segments.now }
+    requires linked { IsLinkedOf us limits.now linked.now }
+    requires limits { IsLimits limits.now }
+    ensures { IfOk result (λ text. text.items ≡ map_text us limits.now) }
 {
-    match write_piece(say, listing) {
-        Ok(()) => status_of(run_image(cpu, input, out, steps), steps),
-        Err(_) => Status::Outside(Which::Say),
+    let units = segments.units.as_slice();
+    let layouts = segments.layouts.as_slice();
+    map_text(alloc, units, layouts, &linked.map, limits)
+}
+
+/// Loads the image, and writes what is said first, where there was memory for it.
+pub(crate) fn load<S: Sink>(
+    alloc: Global,
+    text: Result<Vec<u8>, NoMemory>,
+    image: &Image,
+    say: &mut S,
+) -> Result<Cpu, Status>
+    requires { CanLoad image.now }
+    ensures { (said : List ℕ) (outside : Outside) → IfOk text (λ told. told.items ≡ said)
+        → Loads said image.now (beside outside (S.held say.old) (S.faults say.old))
+        (beside outside (S.held say.new) (S.faults say.new)) result }
+{
+    let code = image.code.as_slice();
+    let words = image.words.as_slice();
+    match text {
+        Ok(listing) => match Cpu::start(alloc, code, words) {
+            Ok(cpu) => match write_piece(say, listing.as_slice()) {
+                Ok(()) => Ok(cpu),
+                Err(_) => Err(Status::Outside(Which::Say)),
+            },
+            Err(_) => Err(Status::NoMemory),
+        },
+        Err(_) => Err(Status::NoMemory),
     }
 }
 
 /// Loads the image, writes what is said first, and runs.
-pub fn load_and_run<I: Source, O: Sink, S: Sink>(
+pub(crate) fn load_and_run<I: Source, O: Sink, S: Sink>(
     alloc: Global,
-    listing: &[u8],
+    text: Result<Vec<u8>, NoMemory>,
     image: &Image,
     steps: u64,
     input: &mut I,
     out: &mut O,
     say: &mut S,
 ) -> Status
-    requires some { 0 < length image.now.code }
-    requires code { length image.now.code ≤ 65536 }
-    requires words { length image.now.words ≤ 32768 }
-    ensures { Runs listing.now image.now steps
+    requires { CanLoad image.now }
+    ensures { (said : List ℕ) → IfOk text (λ told. told.items ≡ said) → Runs said image.now steps
         (streams_at (I.left input.old) (I.faults input.old) (O.held out.old) (O.faults out.old) (S.held say.old)
         (S.faults say.old)) (streams_at (I.left input.new) (I.faults input.new) (O.held out.new)
         (O.faults out.new) (S.held say.new) (S.faults say.new)) result }
 {
-    let code = image.code.as_slice();
-    let words = image.words.as_slice();
-    match Cpu::start(alloc, code, words) {
-        Ok(mut cpu) => list_and_run(&mut cpu, listing, steps, input, out, say),
-        Err(_) => Status::NoMemory,
-    }
-}
-
-/// Lists the storage map of the units, and runs their image.
-pub(crate) fn run_segments<I: Source, O: Sink, S: Sink>(
-    alloc: Global,
-    segments: &Segments,
-    linked: &Linked,
-    limits: &Limits,
-    steps: u64,
-    input: &mut I,
-    out: &mut O,
-    say: &mut S,
-) -> Status
-    requires segments { AreSegmentsOf segments.now.units segments.now }
-    requires linked { IsLinkedOf segments.now.units limits.now linked.now }
-    requires limits { IsLimits limits.now }
-    ensures { Runs (map_text segments.now.units limits.now) (image_of segments.now.units limits.now) steps
-        (streams_at (I.left input.old) (I.faults input.old) (O.held out.old) (O.faults out.old) (S.held say.old)
-        (S.faults say.old)) (streams_at (I.left input.new) (I.faults input.new) (O.held out.new)
-        (O.faults out.new) (S.held say.new) (S.faults say.new)) result }
-{
-    linked_units();
-    let units = segments.units.as_slice();
-    let layouts = segments.layouts.as_slice();
-    match map_text(alloc, units, layouts, &linked.map, limits) {
-        Ok(text) => load_and_run(
-            alloc,
-            text.as_slice(),
-            &linked.image,
-            steps,
-            input,
-            out,
-            say,
-        ),
-        Err(_) => Status::NoMemory,
+    match load(alloc, text, image, say) {
+        Ok(mut cpu) => status_of(run_image(&mut cpu, input, out, steps), steps),
+        Err(status) => status,
     }
 }

@@ -6,7 +6,7 @@ ghost use Rattle.cw_lib.specs.LibraryFormat.{IsNumber, library_bytes};
 ghost use Rattle.cw_place.specs.Placement.{IsLimits};
 ghost use Rattle.cw_words.specs.declared.action.Action.TheVariants.{Lib};
 ghost use Rattle.cw_correct.specs.Calls.{surroundings_of, call_as};
-ghost use Rattle.cw_correct.specs.Results.{MakesLibrary, LibsRight};
+ghost use Rattle.cw_correct.specs.Results.{LibsRight};
 ghost use Rattle.cw_actions.specs.Resulting.Outside.{files_at};
 ghost use Rattle.cw_actions.specs.Resulting.Written.{GivesFile};
 
@@ -35,34 +35,6 @@ fn save_library<F: Store>(alloc: Global, files: &mut F, name: &str, objects: &[L
     }
 }
 
-// The same for the name of the library, and for those of the objects alone.
-fn lib_files<F: Store, S: Sink>(
-    alloc: Global,
-    name: &str,
-    names: &[&str],
-    limits: &Limits,
-    steps: u64,
-    files: &mut F,
-    say: &mut S,
-) -> Status
-    requires few { length names.now ≤ 200 }
-    requires some { 1 ≤ length names.now }
-    ensures { (left : Option (Sequence ℕ)) (input_faults : ℕ) (held : Option (Sequence ℕ)) (out_faults : ℕ)
-        → MakesLibrary name.now (call_as Lib limits.now steps (map (λ object. object.now) names.now)
-        (surroundings_of (F.file files.old) (F.faults files.old) (F.absences files.old) left input_faults held
-        out_faults (S.held say.old) (S.faults say.old))
-        (surroundings_of (F.file files.new) (F.faults files.new) (F.absences files.new) left input_faults held
-        out_faults (S.held say.new) (S.faults say.new))) result }
-{
-    match read_objects(alloc, files, names) {
-        Ok(objects) => {
-            let status = save_library(alloc, files, name, objects.as_slice());
-            close(say, names, &[], status)
-        }
-        Err(status) => close(say, names, &[], status),
-    }
-}
-
 /// Reads and opens the objects in order, whose names stand behind that of the library, and writes the library of them to the file
 /// of the first name.
 pub fn make_library<F: Store, S: Sink>(
@@ -83,6 +55,12 @@ pub fn make_library<F: Store, S: Sink>(
         (surroundings_of (F.file files.new) (F.faults files.new) (F.absences files.new) left input_faults held
         out_faults (S.held say.new) (S.faults say.new))) result }
 {
-    let objects = &names[1..];
-    lib_files(alloc, names[0], objects, limits, steps, files, say)
+    let others = &names[1..];
+    match read_objects(alloc, files, others) {
+        Ok(objects) => {
+            let status = save_library(alloc, files, names[0], objects.as_slice());
+            close(say, others, &[], status)
+        }
+        Err(status) => close(say, others, &[], status),
+    }
 }

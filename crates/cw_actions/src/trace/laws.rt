@@ -1,10 +1,9 @@
 //! What a call of `trace` promises, from how it goes; and that no two statuses come of one call.
 ghost use Rattle.cw_actions.specs.Tracing.Laws.{KeepsStopped, KeepsFault, KeepsRun, IsRightIdle, HasOneStatus};
 
-use crate::go::compiled_units;
 use crate::go::laws::promises;
+use crate::texts::known_texts;
 use cw_build_laws::laws::images::loaded;
-use cw_compile::laws::one_outcome;
 use cw_cpu86::laws::{one_observation, one_start};
 use cw_traced::laws::places::reported;
 use cw_unit::laws::configurations;
@@ -17,7 +16,7 @@ pub fn traces()
     ensures idle { IsRightIdle }
 {
     promises();
-    compiled_units();
+    known_texts();
     loaded();
     configurations();
     reported();
@@ -35,7 +34,7 @@ pub fn idle()
 pub fn one_status()
     ensures { HasOneStatus }
 {
-    one_outcome();
+    known_texts();
     one_start();
     one_observation();
 }

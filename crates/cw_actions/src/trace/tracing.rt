@@ -13,10 +13,11 @@ ghost use Rattle.cw_correct.specs.Calls.{surroundings_of, call_as};
 ghost use Rattle.cw_correct.specs.Correct.{IsCorrectCall};
 ghost use Rattle.cw_actions.specs.Tracing.Laws.{IsTraced};
 
-use crate::go::{close, compiled_units, link_segments, read_units};
+use crate::go::{close, compiled_units, link_segments, read_units, storage_text};
 use crate::trace::closing::{close_no_item, close_no_place};
 use crate::trace::laws::traces;
-use crate::trace::running::watch_segments;
+use crate::trace::running::load_and_watch;
+use cw_build::laws::linked_units;
 use cw_build_laws::laws::images::separate_objects;
 use cw_files::Segments;
 use cw_io::{Sink, Source, Store};
@@ -40,13 +41,12 @@ fn trace_linked<I: Source, O: Sink, S: Sink>(
     out: &mut O,
     say: &mut S,
 ) -> Status
-    requires few { length names.now ≤ 200 }
-    requires some { 1 ≤ length names.now }
     requires limits { IsLimits limits.now }
     requires segments { AreSegmentsOf segments.now.units segments.now }
     requires compiled { All IsCompilable segments.now.units }
     requires linked { IsLinkedOf segments.now.units limits.now linked.now }
     ensures { (told told_after : Sequence ℕ → Told) (faults faults_after absences absences_after : ℕ)
+        → 1 ≤ length names.now → length names.now ≤ 200
         → AllTaken text_limit HasUnit (map told (map (λ name. name.now) names.now)) segments.now.units
         → SameCounts (counts_at faults absences) (counts_at faults_after absences_after) → AllStay told told_after
         → IsTraced stop.now (call_as Trace limits.now steps (map (λ name. name.now) names.now)
@@ -57,6 +57,7 @@ fn trace_linked<I: Source, O: Sink, S: Sink>(
 {
     traces();
     separate_objects();
+    linked_units();
     match watch_for(
         alloc,
         segments.objects.as_slice(),
@@ -65,49 +66,13 @@ fn trace_linked<I: Source, O: Sink, S: Sink>(
         stop,
     ) {
         Ok(watch) => {
-            let status = watch_segments(
-                alloc, &watch, segments, linked, limits, steps, input, out, say,
-            );
+            let text = storage_text(alloc, segments, linked, limits);
+            let status = load_and_watch(alloc, text, &linked.image, &watch, steps, input, out, say);
             close(say, names, linked.image.names.as_slice(), status)
         }
         Err(WatchFault::NoPlace) => close_no_place(say, stop),
         Err(WatchFault::NoItem { index }) => close_no_item(say, stop, index),
         Err(WatchFault::NoMemory) => close(say, names, &[], Status::NoMemory),
-    }
-}
-
-// The same for the names of the texts alone.
-fn trace_texts<F: Store, I: Source, O: Sink, S: Sink>(
-    alloc: Global,
-    names: &[&str],
-    limits: &Limits,
-    steps: u64,
-    stop: &Stop,
-    files: &mut F,
-    input: &mut I,
-    out: &mut O,
-    say: &mut S,
-) -> Status
-    requires few { length names.now ≤ 200 }
-    requires some { 1 ≤ length names.now }
-    requires limits { IsLimits limits.now }
-    ensures { IsTraced stop.now (call_as Trace limits.now steps (map (λ name. name.now) names.now)
-        (surroundings_of (F.file files.old) (F.faults files.old) (F.absences files.old) (I.left input.old)
-        (I.faults input.old) (O.held out.old) (O.faults out.old) (S.held say.old) (S.faults say.old))
-        (surroundings_of (F.file files.new) (F.faults files.new) (F.absences files.new) (I.left input.new)
-        (I.faults input.new) (O.held out.new) (O.faults out.new) (S.held say.new) (S.faults say.new)))
-        result }
-{
-    traces();
-    compiled_units();
-    match read_units(alloc, files, names) {
-        Ok(segments) => match link_segments(alloc, &segments, limits) {
-            Ok(linked) => trace_linked(
-                alloc, names, &segments, &linked, limits, steps, stop, input, out, say,
-            ),
-            Err(status) => close(say, names, &[], status),
-        },
-        Err(status) => close(say, names, &[], status),
     }
 }
 
@@ -136,6 +101,16 @@ pub fn trace<F: Store, I: Source, O: Sink, S: Sink>(
         (I.faults input.new) (O.held out.new) (O.faults out.new) (S.held say.new) (S.faults say.new)))
         result }
 {
+    traces();
+    compiled_units();
     let texts = &names[1..];
-    trace_texts(alloc, texts, limits, steps, stop, files, input, out, say)
+    match read_units(alloc, files, texts) {
+        Ok(segments) => match link_segments(alloc, &segments, limits) {
+            Ok(linked) => trace_linked(
+                alloc, texts, &segments, &linked, limits, steps, stop, input, out, say,
+            ),
+            Err(status) => close(say, texts, &[], status),
+        },
+        Err(status) => close(say, texts, &[], status),
+    }
 }

@@ -9,11 +9,11 @@ use Rattle.cw_actions.proofs.go.laws.promises.Goals as goal
 pub returns : goal.returns
 returns c =
     let given : Given = record {
-      texts = record { one_unit = c.one_outcome.ensures.one_unit; one_refusal = c.one_outcome.ensures.one_refusal; not_both = c.one_outcome.ensures.not_both; tokens = c.one_outcome.ensures.tokens };
-      units = c.compiled_units.ensures;
+      texts = c.known_texts.ensures.one;
+      units = c.known_texts.ensures.compiled;
       storages = record { map = c.loaded.ensures.valid_storage; frames = c.configurations.ensures.frames };
       runs = record { loaded = c.loaded.ensures.started; preserves = c.preservation.ensures.preserves; completes = c.preservation.ensures.completes; once = c.one_observation.ensures };
-      sizes = c.linked_units.ensures.size;
+      sizes = c.known_texts.ensures.sizes;
     } in
     record {
       keeps = λ telling action limits steps names segments before between after status within some most stays goes closes. keeps given telling action limits steps names before between after segments stays status within some most goes closes;

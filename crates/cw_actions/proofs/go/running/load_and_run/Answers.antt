@@ -1,13 +1,14 @@
-use Rattle.std.proofs.Common.{refl, subst, inl}
-use Rattle.std.specs.Prelude.{ℕ, List}
-use Rattle.cw_i86.specs.MachineRun.{IsStart}
+use Rattle.std.proofs.Common.{refl}
+use Rattle.cw_ports.specs.Running.{outside}
+use Rattle.cw_actions.proofs.Going.Loading.{ran, not_loaded}
 use Rattle.cw_actions.proofs.go.running.load_and_run.Goals as goal
 
 pub returns-in-Ok : goal.returns-in-Ok
-returns-in-Ok g c =
-    let S : List ℕ → Type 0 = λ code. IsStart code c.as_slice-words.result.now c.in-Ok.cpu in
-    let T : List ℕ → Type 0 = λ words. IsStart c.args.image.now.code words c.in-Ok.cpu in
-    c.list_and_run.ensures c.args.image.now (subst T c.as_slice-words.ensures (subst S c.as_slice-code.ensures c.in-Ok.ensures))
+returns-in-Ok g c = λ said told.
+    let before = outside (g.I.Source.left c.args.input.now) (g.I.Source.faults c.args.input.now) (g.O.Sink.held c.args.out.now) (g.O.Sink.faults c.args.out.now) in
+    ran c.args.image.now said c.args.steps _ _ _ _ c.in-Ok.cpu c.run_image.result (c.in-Ok.ensures said before told) refl refl c.status_of.ensures c.run_image.ensures
 
 pub returns-in-Err : goal.returns-in-Err
-returns-in-Err g c = inl (refl, refl)
+returns-in-Err g c = λ said told.
+    let before = outside (g.I.Source.left c.args.input.now) (g.I.Source.faults c.args.input.now) (g.O.Sink.held c.args.out.now) (g.O.Sink.faults c.args.out.now) in
+    not_loaded c.args.image.now said c.args.steps _ _ c.in-Err.status (c.in-Err.ensures said before told)

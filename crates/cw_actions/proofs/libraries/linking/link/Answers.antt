@@ -15,12 +15,9 @@ pub returns-in-Ok : goal.returns-in-Ok
 returns-in-Ok g c = λ left input_faults held out_faults.
     let middle = c.read_link_files.new.files in
     let taken = c.in-Ok.ensures.taken in
-    rw c.close.ensures.same
-    (written (record { library = c.library_format.ensures.one; no_fault = c.library_format.ensures.not_both; list = c.one_link_list.ensures.one }) _ (record { input = refl; faults = refl }) (record { out = refl; faults = refl }) _ (record { says = c.close.ensures.line; ended = c.close.ensures.ended })
-    taken.0 (parts_taken _ _ taken.0 taken.1) (files_at (g.F.Store.file middle) (g.F.Store.faults middle) (g.F.Store.absences middle)) c.in-Ok.ensures.stay taken.3 c.in-Ok.taken taken.2 c.link_taken.ensures)
+    written (record { library = c.library_format.ensures.one; no_fault = c.library_format.ensures.not_both; list = c.one_link_list.ensures.one }) _ (record { input = refl; faults = refl }) (record { out = refl; faults = refl }) _ _ c.close.ensures.same (record { says = c.close.ensures.line; ended = c.close.ensures.ended })
+    taken.0 (parts_taken _ _ taken.0 taken.1) (files_at (g.F.Store.file middle) (g.F.Store.faults middle) (g.F.Store.absences middle)) c.in-Ok.ensures.stay taken.3 c.in-Ok.taken taken.2 c.link_taken.ensures
 
 pub returns-in-Err : goal.returns-in-Err
 returns-in-Err g c = λ left input_faults held out_faults.
-    rw c.close-in-Err.ensures.same
-    (stopped (record { library = c.library_format.ensures.one; no_fault = c.library_format.ensures.not_both; list = c.one_link_list.ensures.one }) _ (record { input = refl; faults = refl }) (record { out = refl; faults = refl }) _ (record { says = c.close-in-Err.ensures.line; ended = c.close-in-Err.ensures.ended })
-    c.in-Err.ensures.stay (parts_stopped _ _ _ _ _ c.in-Err.ensures.taken))
+    stopped (record { library = c.library_format.ensures.one; no_fault = c.library_format.ensures.not_both; list = c.one_link_list.ensures.one }) _ (record { input = refl; faults = refl }) (record { out = refl; faults = refl }) _ _ c.close-in-Err.ensures.same (record { says = c.close-in-Err.ensures.line; ended = c.close-in-Err.ensures.ended }) c.in-Err.ensures.stay (parts_stopped _ _ _ _ _ c.in-Err.ensures.taken)

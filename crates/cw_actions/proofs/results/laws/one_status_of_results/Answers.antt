@@ -1,10 +1,9 @@
-use Rattle.cw_actions.proofs.Resulting.Texts.{OneOfText}
 use Rattle.cw_actions.proofs.Resulting.Statuses.{maps_once, depths_once, codes_once, shows_once, compiles_once, migrates_once, hexes_once}
 use Rattle.cw_actions.proofs.results.laws.one_status_of_results.Goals as goal
 
 pub returns : goal.returns
 returns c =
-    let given : OneOfText = record { one_unit = c.one_outcome.ensures.one_unit; one_refusal = c.one_outcome.ensures.one_refusal; not_both = c.one_outcome.ensures.not_both; tokens = c.one_outcome.ensures.tokens } in
+    let given = c.known_texts.ensures.one in
     record {
       map = maps_once given;
       depth = depths_once given;

@@ -4,6 +4,4 @@ use Rattle.cw_actions.proofs.trace.laws.one_status.Goals as goal
 
 pub returns : goal.returns
 returns c =
-    one_status (one_status_of
-    (record { one_unit = c.one_outcome.ensures.one_unit; one_refusal = c.one_outcome.ensures.one_refusal; not_both = c.one_outcome.ensures.not_both; tokens = c.one_outcome.ensures.tokens })
-    (record { starts = c.one_start.ensures; once = c.one_observation.ensures }))
+    one_status (one_status_of c.known_texts.ensures.one (record { starts = c.one_start.ensures; once = c.one_observation.ensures }))

@@ -4,15 +4,10 @@ use Rattle.cw_actions.proofs.trace.laws.traces.Goals as goal
 pub returns : goal.returns
 returns c =
     let given : Given = record {
-      keeps = c.promises.ensures.keeps;
-      run = c.promises.ensures.run;
-      listing = c.promises.ensures.listing;
-      idle = c.promises.ensures.idle;
-      compiled = c.compiled_units.ensures;
-      map = c.loaded.ensures.valid_storage;
-      frames = c.configurations.ensures.frames;
-      shown = c.reported.ensures.shown;
-      some = c.reported.ensures.some;
+      texts = record { keeps = c.promises.ensures.keeps; run = c.promises.ensures.run; listing = c.promises.ensures.listing; idle = c.promises.ensures.idle };
+      compiled = c.known_texts.ensures.compiled;
+      storages = record { map = c.loaded.ensures.valid_storage; frames = c.configurations.ensures.frames };
+      reports = record { shown = c.reported.ensures.shown; some = c.reported.ensures.some };
     } in
     record {
       stopped = λ stop action limits steps names before between after status within some most stays stops closes. stopped given stop action limits steps names before between after within some most stays status stops closes;

@@ -1,4 +1,0 @@
-use Rattle.cw_actions.proofs.results.mapping.map_files.Given as goal
-
-abbrev pub ghost-map_units : goal.ghost-map_units
-ghost-map_units g a = a.segments.now.units

@@ -1,4 +1,0 @@
-use Rattle.cw_actions.proofs.trace.tracing.trace_texts.Given as goal
-
-abbrev pub ghost-link_segments : goal.ghost-link_segments
-ghost-link_segments g a = a.segments.now.units
