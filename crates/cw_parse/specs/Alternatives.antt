@@ -1,15 +1,15 @@
 -- Alternatives of rules, each by a name of its own.
-use Rattle.std.specs.Prelude.{Bool, List, [], Option}
+use Rattle.std.specs.Prelude.{Bool, false}
 use Rattle.cw_lex.specs.declared.token.TokenKind.TheVariants as kinds
 use Rattle.cw_lex.specs.declared.token.Symbol.TheVariants as symbols
 use Rattle.cw_lex.specs.declared.token.Word.TheVariants as words
 use Rattle.cw_tree.specs.declared.expression.RawRef.TheVariants as ref_tree
 use Rattle.cw_tree.specs.declared.statement.RawSimple.TheVariants as simple_tree
 use Rattle.cw_grammar.specs.Tokens.{position}
-use Rattle.cw_grammar.specs.Grammar.{a_pair, an_option, a_from, a_name, an_expr, a_form, a_simple, a_stmt, Grammar, ◌·◌}
-use Rattle.cw_grammar.specs.Grammar.{◌⇒◌, opens, subscript, indexed, called, block_rest, if_rest, for_rest, else_rest}
-use Rattle.cw_grammar.specs.Rules.{word, symbol, ◌*>◌, optional, name, bits, reference, expr, indexed_name}
-use Rattle.cw_grammar.specs.Statements.{jump, block_tree, if_tree, for_tree}
+use Rattle.cw_grammar.specs.Grammar.{Sort, a_token, a_list, a_decl, a_felem, a_pair, an_option, a_from, a_name, an_expr, a_form, a_simple, a_stmt, Grammar, ◌·◌}
+use Rattle.cw_grammar.specs.Grammar.{◌⇒◌, opens, subscript, indexed, called, block_rest, if_rest, for_rest, else_rest, labelled, labelled_simple, again}
+use Rattle.cw_grammar.specs.Rules.{word, symbol, ◌*>◌, commas, optional, name, bits, reference, expr, indexed_name}
+use Rattle.cw_grammar.specs.Statements.{felem, jump, block_tree, if_tree, for_tree}
 
 -- ":=" expr
 abbrev pub value_behind : Grammar an_expr
@@ -63,12 +63,33 @@ if_form p = opens (kinds.Word words.If) (if_rest p) ⇒ (λ x. if_tree x.0 x.1)
 abbrev pub for_form : Bool → Grammar a_form
 for_form p = opens (kinds.Word words.For) (for_rest p) ⇒ (λ x. for_tree x.0 x.1)
 
+-- THEN { name ":" } simple
+abbrev pub first_stmt : Bool → Grammar (a_pair (a_list a_name) a_simple)
+first_stmt p = word words.Then *> again (labelled_simple p)
+
 -- [ ELSE stmt ]
 abbrev pub second_stmt : Bool → Grammar (an_option a_stmt)
 second_stmt p = optional (opens (kinds.Word words.Else) (else_rest p) ⇒ (λ x. x.1))
 
+-- DO stmt
+abbrev pub done : Bool → Grammar a_stmt
+done p = word words.Do *> again (labelled p)
+
 -- ---- elements of FOR
+
+-- ":=" felem { "," felem }
+abbrev pub assigned_felems : Grammar (a_list a_felem)
+assigned_felems = symbol symbols.Assign *> commas felem
 
 -- STEP expr UNTIL expr
 abbrev pub step_until : Grammar (a_pair an_expr an_expr)
 step_until = word words.Step *> expr · (word words.Until *> expr)
+
+-- ---- segments
+
+-- SEGMENT name block FINISH
+abbrev pub a_segment : Sort
+a_segment = a_pair a_name (a_pair (a_pair a_token (a_pair (a_list a_decl) (a_list a_stmt))) a_token)
+
+abbrev pub segment : Grammar a_segment
+segment = (word words.Segment *> name) · opens (kinds.Word words.Begin) (block_rest false) · word words.Finish

@@ -1,7 +1,7 @@
 //! Whole texts from left to right.
-ghost use Rattle.std.specs.Prelude.{◌≡◌, ◌≤◌, ℕ, [], ◌∷◌, length, IfOk, IfErr};
+ghost use Rattle.std.specs.Prelude.{◌≤◌, length, IfOk, IfErr};
 ghost use Rattle.cw_tree.specs.declared.segment.Raw.{Raw as Tree};
-ghost use Rattle.cw_grammar.specs.Tokens.{behind, items};
+ghost use Rattle.cw_grammar.specs.Tokens.{behind, items, seen};
 ghost use Rattle.cw_grammar.specs.Grammar.{a_raw, a_list, a_comm, many};
 ghost use Rattle.cw_grammar.specs.Rules.{symbol, ◌<*◌};
 ghost use Rattle.cw_lex.specs.declared.token.Symbol.TheVariants.{Semicolon};
@@ -9,22 +9,30 @@ ghost use Rattle.cw_grammar.specs.Statements.{text, comm};
 ghost use Rattle.cw_grammar.specs.Derives.{Derives};
 ghost use Rattle.cw_grammar.specs.Reading.{Gives, read};
 ghost use Rattle.cw_derived.specs.Proper.{IsProper};
+ghost use Rattle.cw_parse.specs.Alternatives.{a_segment, segment};
 ghost use Rattle.cw_parse.specs.Texts.{IsTextFault, IsTreeOrMemory};
 
 use crate::statement::read_block_rest;
 use cw_grammar::fault::{ParseFault, deep_fault, syntax_fault};
 use cw_grammar::reading::read_name;
 use cw_grammar::stop::Stop;
-use cw_grammar::token::{left, position, take_kind};
+use cw_grammar::token::{Item, left, position, take_kind};
 use cw_lex::{Token, TokenKind, Word};
 use cw_parse_items::comms::read_comms;
+use cw_tree::leaf::RawName;
 use cw_tree::segment::{Raw, RawComm};
-use cw_tree::statement::RawBlock;
+use cw_tree::statement::{RawBlock, RawDecl, RawStmt};
 use cw_word::List;
 use std::alloc::Global;
 
 /// How many levels may be open inside one another.
 pub const LEVELS: u8 = 64;
+
+// A name, and a block between its words.
+type Segment<'a> = (
+    RawName,
+    ((Item<'a>, (List<RawDecl>, List<RawStmt>)), Item<'a>),
+);
 
 // The levels that are left do not matter.
 fn read_all_comms(
@@ -38,16 +46,30 @@ fn read_all_comms(
     read_comms(alloc, tokens, at)
 }
 
-#[tactic(auto, unfolding(cw_grammar::specs::Statements::text))]
-fn read_text(alloc: Global, levels: u8, tokens: &[Token], at: usize) -> Result<(Raw, usize), Stop>
-    ensures { Gives (λ x. (x.0, behind tokens.now x.1)) result (read levels a_raw text (behind tokens.now at)) }
+// What stands behind the communicators: the name, the block and its words.
+fn read_segment<'a>(
+    alloc: Global,
+    levels: u8,
+    tokens: &[Token<'a>],
+    at: usize,
+) -> Result<(Segment<'a>, usize), Stop>
+    ensures { Gives (λ x. ((x.0.0, ((seen x.0.1.0.0, x.0.1.0.1), seen x.0.1.1)), behind tokens.now x.1)) result (read levels a_segment segment (behind tokens.now at)) }
 {
-    let (comms, at) = read_all_comms(alloc, levels, tokens, at)?;
     let (_, at) = take_kind(tokens, at, TokenKind::Word(Word::Segment))?;
     let (name, at) = read_name(tokens, at)?;
     let (word, at) = take_kind(tokens, at, TokenKind::Word(Word::Begin))?;
     let (parts, at) = read_block_rest(alloc, levels, false, tokens, at)?;
     let (finish, at) = take_kind(tokens, at, TokenKind::Word(Word::Finish))?;
+    Ok(((name, ((word, parts), finish)), at))
+}
+
+#[tactic(auto, unfolding(cw_grammar::specs::Statements::text))]
+fn read_text(alloc: Global, levels: u8, tokens: &[Token], at: usize) -> Result<(Raw, usize), Stop>
+    ensures { Gives (λ x. (x.0, behind tokens.now x.1)) result (read levels a_raw text (behind tokens.now at)) }
+{
+    let (comms, at) = read_all_comms(alloc, levels, tokens, at)?;
+    let (segment, at) = read_segment(alloc, levels, tokens, at)?;
+    let (name, ((word, parts), finish)) = segment;
     let (decls, stmts) = parts;
     let block = RawBlock {
         at: position(word),

@@ -1,14 +1,17 @@
 //! Statements that open no block, and the elements of FOR, from left to right.
-ghost use Rattle.std.specs.Prelude.{◌≡◌, Some, None, IfOk};
+ghost use Rattle.std.specs.Prelude.{◌≡◌, ◌∷◌, [], true, IfOk};
 ghost use Rattle.cw_grammar.specs.Tokens.{behind, seen};
-ghost use Rattle.cw_grammar.specs.Grammar.{a_pair, a_list, a_from, a_name, an_expr, a_simple, a_felem};
-ghost use Rattle.cw_grammar.specs.Rules.{commas};
+ghost use Rattle.cw_lex.specs.declared.token.TokenKind.TheVariants as kinds;
+ghost use Rattle.cw_lex.specs.declared.token.Symbol.TheVariants as symbols;
+ghost use Rattle.cw_lex.specs.declared.token.Word.TheVariants as words;
+ghost use Rattle.cw_grammar.specs.Grammar.{starts, a_pair, a_list, a_from, a_name, an_expr, a_cond, a_ref, a_simple, a_felem, subscript};
+ghost use Rattle.cw_grammar.specs.Rules.{commas, expr, reference, condition, indexed_name};
 ghost use Rattle.cw_grammar.specs.Statements.{simple_behind, felem, if_tree, for_tree, proc_tree};
 ghost use Rattle.cw_grammar.specs.Labels.{labels};
-ghost use Rattle.cw_grammar.specs.Reading.{Gives, read, applied};
+ghost use Rattle.cw_grammar.specs.Reading.{Gives, read, inside, applied};
 ghost use Rattle.cw_parse.specs.Alternatives.{value_behind, name_assigned, element_assigned, call_behind, address_assigned};
-ghost use Rattle.cw_parse.specs.Alternatives.{bits_assigned, goto, answered, step_until};
-ghost use Rattle.cw_tree.specs.declared.statement.RawSimple.TheVariants.{Assign, AssignBits};
+ghost use Rattle.cw_parse.specs.Alternatives.{bits_assigned, goto, answered, step_until, assigned_felems};
+ghost use Rattle.cw_tree.specs.declared.statement.RawSimple.TheVariants.{AssignBits};
 ghost use Rattle.cw_tree.specs.declared.statement.RawFelem.TheVariants.{Step};
 ghost use Rattle.cw_tree.specs.declared.statement.RawDecl.TheVariants.{Proc};
 
@@ -20,6 +23,7 @@ use cw_operand::operands::{indexed_name, read_bits};
 use cw_parse_expr::reading::{
     read_called, read_condition, read_expr, read_indexed, read_reference, read_subscript,
 };
+use cw_parse_items::taking::taken;
 use cw_series::lists::read_list;
 use cw_tree::expression::{RawBits, RawCond, RawExpr, RawRef};
 use cw_tree::leaf::{RawName, RawType};
@@ -44,11 +48,65 @@ pub fn read_labels(
         if !next_is(tokens, after, TokenKind::Symbol(Symbol::Colon)) {
             return Ok((labels, next));
         }
-        let (_, after) = take_kind(tokens, after, TokenKind::Symbol(Symbol::Colon))?;
+        let (_, after) = taken(tokens, after, TokenKind::Symbol(Symbol::Colon));
         labels.push(name)?;
         next = after;
     }
     Ok((labels, next))
+}
+
+fn read_boxed_expr(
+    alloc: Global,
+    levels: u8,
+    tokens: &[Token],
+    at: usize,
+) -> Result<(Boxed<RawExpr>, usize), Stop>
+    ensures { Gives (λ x. (x.0, behind tokens.now x.1)) result (read levels an_expr expr (behind tokens.now at)) }
+{
+    let (value, at) = read_expr(alloc, levels, tokens, at)?;
+    let boxed = Boxed::new(alloc, value)?;
+    Ok((boxed, at))
+}
+
+fn read_boxed_subscript(
+    alloc: Global,
+    levels: u8,
+    tokens: &[Token],
+    at: usize,
+) -> Result<(Boxed<RawExpr>, usize), Stop>
+    ensures { Gives (λ x. (x.0, behind tokens.now x.1)) result (inside levels an_expr subscript (behind tokens.now at)) }
+{
+    let (index, at) = read_subscript(alloc, levels, tokens, at)?;
+    let boxed = Boxed::new(alloc, index)?;
+    Ok((boxed, at))
+}
+
+/// A reference in its box.
+pub fn read_boxed_reference(
+    alloc: Global,
+    levels: u8,
+    tokens: &[Token],
+    at: usize,
+) -> Result<(Boxed<RawRef>, usize), Stop>
+    ensures { Gives (λ x. (x.0, behind tokens.now x.1)) result (read levels a_ref reference (behind tokens.now at)) }
+{
+    let (place, at) = read_reference(alloc, levels, tokens, at)?;
+    let boxed = Boxed::new(alloc, place)?;
+    Ok((boxed, at))
+}
+
+/// A condition in its box.
+pub fn read_boxed_condition(
+    alloc: Global,
+    levels: u8,
+    tokens: &[Token],
+    at: usize,
+) -> Result<(Boxed<RawCond>, usize), Stop>
+    ensures { Gives (λ x. (x.0, behind tokens.now x.1)) result (read levels a_cond condition (behind tokens.now at)) }
+{
+    let (test, at) = read_condition(alloc, levels, tokens, at)?;
+    let boxed = Boxed::new(alloc, test)?;
+    Ok((boxed, at))
 }
 
 fn read_value_behind(
@@ -56,20 +114,12 @@ fn read_value_behind(
     levels: u8,
     tokens: &[Token],
     at: usize,
-) -> Result<(RawExpr, usize), Stop>
+) -> Result<(Boxed<RawExpr>, usize), Stop>
     ensures { Gives (λ x. (x.0, behind tokens.now x.1)) result (read levels an_expr value_behind (behind tokens.now at)) }
 {
     let (_, at) = take_kind(tokens, at, TokenKind::Symbol(Symbol::Assign))?;
-    let (value, at) = read_expr(alloc, levels, tokens, at)?;
+    let (value, at) = read_boxed_expr(alloc, levels, tokens, at)?;
     Ok((value, at))
-}
-
-fn assignment(alloc: Global, target: RawRef, value: RawExpr) -> Result<RawSimple, NoMemory>
-    ensures { IfOk result (λ x. x ≡ Assign target value) }
-{
-    let target = Boxed::new(alloc, target)?;
-    let value = Boxed::new(alloc, value)?;
-    Ok(RawSimple::Assign(target, value))
 }
 
 fn read_name_assigned(
@@ -82,8 +132,19 @@ fn read_name_assigned(
     ensures { Gives (λ x. (x.0, behind tokens.now x.1)) result (applied name (read levels (a_from a_name a_simple) name_assigned (behind tokens.now at))) }
 {
     let (value, at) = read_value_behind(alloc, levels, tokens, at)?;
-    let simple = assignment(alloc, RawRef::Name(name), value)?;
-    Ok((simple, at))
+    let target = Boxed::new(alloc, RawRef::Name(name))?;
+    Ok((RawSimple::Assign(target, value), at))
+}
+
+fn boxed_element(
+    alloc: Global,
+    name: RawName,
+    index: (RawExpr, Option<RawExpr>),
+) -> Result<Boxed<RawRef>, NoMemory>
+    ensures { IfOk result (λ x. x ≡ indexed_name name index.0 index.1) }
+{
+    let element = indexed_name(alloc, name, index)?;
+    Boxed::new(alloc, element)
 }
 
 fn read_element_assigned(
@@ -93,14 +154,14 @@ fn read_element_assigned(
     at: usize,
     name: RawName,
 ) -> Result<(RawSimple, usize), Stop>
+    requires { starts (behind tokens.now at) (kinds.Symbol symbols.OpenSquare ∷ []) ≡ true }
     ensures { Gives (λ x. (x.0, behind tokens.now x.1)) result (applied name (read levels (a_from a_name a_simple) element_assigned (behind tokens.now at))) }
 {
-    let (_, at) = take_kind(tokens, at, TokenKind::Symbol(Symbol::OpenSquare))?;
+    let (_, at) = taken(tokens, at, TokenKind::Symbol(Symbol::OpenSquare));
     let (index, at) = read_indexed(alloc, levels, tokens, at)?;
+    let target = boxed_element(alloc, name, index)?;
     let (value, at) = read_value_behind(alloc, levels, tokens, at)?;
-    let target = indexed_name(alloc, name, index)?;
-    let simple = assignment(alloc, target, value)?;
-    Ok((simple, at))
+    Ok((RawSimple::Assign(target, value), at))
 }
 
 fn read_call_behind(
@@ -110,9 +171,10 @@ fn read_call_behind(
     at: usize,
     name: RawName,
 ) -> Result<(RawSimple, usize), Stop>
+    requires { starts (behind tokens.now at) (kinds.Symbol symbols.Open ∷ []) ≡ true }
     ensures { Gives (λ x. (x.0, behind tokens.now x.1)) result (applied name (read levels (a_from a_name a_simple) call_behind (behind tokens.now at))) }
 {
-    let (_, at) = take_kind(tokens, at, TokenKind::Symbol(Symbol::Open))?;
+    let (_, at) = taken(tokens, at, TokenKind::Symbol(Symbol::Open));
     let (arguments, at) = read_called(alloc, levels, tokens, at)?;
     Ok((RawSimple::Call(name, arguments), at))
 }
@@ -147,21 +209,21 @@ pub fn read_address_assigned(
     tokens: &[Token],
     at: usize,
 ) -> Result<(RawSimple, usize), Stop>
+    requires { starts (behind tokens.now at) (kinds.Symbol symbols.OpenSquare ∷ []) ≡ true }
     ensures { Gives (λ x. (x.0, behind tokens.now x.1)) result (read levels a_simple address_assigned (behind tokens.now at)) }
 {
-    let (bracket, at) = take_kind(tokens, at, TokenKind::Symbol(Symbol::OpenSquare))?;
-    let (address, at) = read_subscript(alloc, levels, tokens, at)?;
+    let (bracket, at) = taken(tokens, at, TokenKind::Symbol(Symbol::OpenSquare));
+    let (address, at) = read_boxed_subscript(alloc, levels, tokens, at)?;
+    let target = Boxed::new(alloc, RawRef::Bare(position(bracket), address))?;
     let (value, at) = read_value_behind(alloc, levels, tokens, at)?;
-    let target = RawRef::Bare(position(bracket), Boxed::new(alloc, address)?);
-    let simple = assignment(alloc, target, value)?;
-    Ok((simple, at))
+    Ok((RawSimple::Assign(target, value), at))
 }
 
 fn bits_assignment(
     alloc: Global,
     bits: RawBits,
-    target: RawRef,
-    value: RawExpr,
+    target: Boxed<RawRef>,
+    value: Boxed<RawExpr>,
 ) -> Result<RawSimple, NoMemory>
     ensures { IfOk result (λ x. x ≡ AssignBits bits target value) }
 {
@@ -170,8 +232,6 @@ fn bits_assignment(
         Some(bits) => Boxed::new(alloc, bits)?,
         None => return Err(NoMemory),
     };
-    let target = Boxed::new(alloc, target)?;
-    let value = Boxed::new(alloc, value)?;
     Ok(RawSimple::AssignBits(bits, target, value))
 }
 
@@ -188,7 +248,7 @@ pub fn read_bits_assigned(
     let (bits, at) = read_bits(tokens, at)?;
     // The size alone shows the prover where the ranges of its numbers are stated.
     let RawBits { at: word, size } = bits;
-    let (target, at) = read_reference(alloc, levels, tokens, at)?;
+    let (target, at) = read_boxed_reference(alloc, levels, tokens, at)?;
     let (value, at) = read_value_behind(alloc, levels, tokens, at)?;
     let bits = RawBits { at: word, size };
     let simple = bits_assignment(alloc, bits, target, value)?;
@@ -202,14 +262,14 @@ pub fn read_goto(
     tokens: &[Token],
     at: usize,
 ) -> Result<(RawSimple, usize), Stop>
+    requires { starts (behind tokens.now at) (kinds.Word words.Goto ∷ []) ≡ true }
     ensures { Gives (λ x. (x.0, behind tokens.now x.1)) result (read levels a_simple goto (behind tokens.now at)) }
 {
-    let (word, at) = take_kind(tokens, at, TokenKind::Word(Word::Goto))?;
+    let (word, at) = taken(tokens, at, TokenKind::Word(Word::Goto));
     let (name, at) = read_name(tokens, at)?;
     if next_is(tokens, at, TokenKind::Symbol(Symbol::OpenSquare)) {
-        let (_, at) = take_kind(tokens, at, TokenKind::Symbol(Symbol::OpenSquare))?;
-        let (index, at) = read_subscript(alloc, levels, tokens, at)?;
-        let index = Boxed::new(alloc, index)?;
+        let (_, at) = taken(tokens, at, TokenKind::Symbol(Symbol::OpenSquare));
+        let (index, at) = read_boxed_subscript(alloc, levels, tokens, at)?;
         return Ok((RawSimple::GotoSwitch(position(word), name, index), at));
     }
     Ok((RawSimple::Goto(position(word), name), at))
@@ -222,11 +282,11 @@ pub fn read_answered(
     tokens: &[Token],
     at: usize,
 ) -> Result<(RawSimple, usize), Stop>
+    requires { starts (behind tokens.now at) (kinds.Word words.Answer ∷ []) ≡ true }
     ensures { Gives (λ x. (x.0, behind tokens.now x.1)) result (read levels a_simple answered (behind tokens.now at)) }
 {
-    let (word, at) = take_kind(tokens, at, TokenKind::Word(Word::Answer))?;
-    let (value, at) = read_expr(alloc, levels, tokens, at)?;
-    let value = Boxed::new(alloc, value)?;
+    let (word, at) = taken(tokens, at, TokenKind::Word(Word::Answer));
+    let (value, at) = read_boxed_expr(alloc, levels, tokens, at)?;
     Ok((RawSimple::Answer(position(word), value), at))
 }
 
@@ -235,27 +295,22 @@ fn read_step_until(
     levels: u8,
     tokens: &[Token],
     at: usize,
-) -> Result<((RawExpr, RawExpr), usize), Stop>
+) -> Result<((Boxed<RawExpr>, Boxed<RawExpr>), usize), Stop>
+    requires { starts (behind tokens.now at) (kinds.Word words.Step ∷ []) ≡ true }
     ensures { Gives (λ x. (x.0, behind tokens.now x.1)) result (read levels (a_pair an_expr an_expr) step_until (behind tokens.now at)) }
 {
-    let (_, at) = take_kind(tokens, at, TokenKind::Word(Word::Step))?;
-    let (step, at) = read_expr(alloc, levels, tokens, at)?;
+    let (_, at) = taken(tokens, at, TokenKind::Word(Word::Step));
+    let (step, at) = read_boxed_expr(alloc, levels, tokens, at)?;
     let (_, at) = take_kind(tokens, at, TokenKind::Word(Word::Until))?;
-    let (limit, at) = read_expr(alloc, levels, tokens, at)?;
+    let (limit, at) = read_boxed_expr(alloc, levels, tokens, at)?;
     Ok(((step, limit), at))
 }
 
-fn stepped(
-    alloc: Global,
-    first: Boxed<RawExpr>,
-    parts: (RawExpr, RawExpr),
-) -> Result<RawFelem, NoMemory>
-    ensures { IfOk result (λ x. x ≡ Step first parts.0 parts.1) }
+fn stepped(first: Boxed<RawExpr>, parts: (Boxed<RawExpr>, Boxed<RawExpr>)) -> RawFelem
+    ensures { result ≡ Step first parts.0 parts.1 }
 {
     let (step, limit) = parts;
-    let step = Boxed::new(alloc, step)?;
-    let limit = Boxed::new(alloc, limit)?;
-    Ok(RawFelem::Step(first, step, limit))
+    RawFelem::Step(first, step, limit)
 }
 
 #[tactic(auto, unfolding(cw_grammar::specs::Statements::felem))]
@@ -267,22 +322,21 @@ fn read_felem(
 ) -> Result<(RawFelem, usize), Stop>
     ensures { Gives (λ x. (x.0, behind tokens.now x.1)) result (read levels a_felem felem (behind tokens.now at)) }
 {
-    let (first, at) = read_expr(alloc, levels, tokens, at)?;
-    let first = Boxed::new(alloc, first)?;
+    let (first, at) = read_boxed_expr(alloc, levels, tokens, at)?;
     if next_is(tokens, at, TokenKind::Word(Word::While)) {
-        let (_, at) = take_kind(tokens, at, TokenKind::Word(Word::While))?;
-        let (test, at) = read_condition(alloc, levels, tokens, at)?;
-        return Ok((RawFelem::While(first, Boxed::new(alloc, test)?), at));
+        let (_, at) = taken(tokens, at, TokenKind::Word(Word::While));
+        let (test, at) = read_boxed_condition(alloc, levels, tokens, at)?;
+        return Ok((RawFelem::While(first, test), at));
     }
     if next_is(tokens, at, TokenKind::Word(Word::Step)) {
         let (parts, at) = read_step_until(alloc, levels, tokens, at)?;
-        return Ok((stepped(alloc, first, parts)?, at));
+        return Ok((stepped(first, parts), at));
     }
     Ok((RawFelem::One(first), at))
 }
 
-/// Elements of FOR between commas.
-pub fn read_felems(
+// Elements of FOR between commas.
+fn read_felems(
     alloc: Global,
     levels: u8,
     tokens: &[Token],
@@ -299,54 +353,52 @@ pub fn read_felems(
     )
 }
 
-fn boxed_second(alloc: Global, second: Option<RawStmt>) -> Result<Option<Boxed<RawStmt>>, NoMemory>
-    ensures { IfOk result (λ x. x ≡ second) }
+/// Elements of FOR behind their assignment.
+pub fn read_assigned_felems(
+    alloc: Global,
+    levels: u8,
+    tokens: &[Token],
+    at: usize,
+) -> Result<(List<RawFelem>, usize), Stop>
+    ensures { Gives (λ x. (x.0, behind tokens.now x.1)) result (read levels (a_list a_felem) assigned_felems (behind tokens.now at)) }
 {
-    match second {
-        None => Ok(None),
-        Some(stmt) => Ok(Some(Boxed::new(alloc, stmt)?)),
-    }
+    let (_, at) = take_kind(tokens, at, TokenKind::Symbol(Symbol::Assign))?;
+    let (elems, at) = read_felems(alloc, levels, tokens, at)?;
+    Ok((elems, at))
 }
 
 /// A conditional statement of its parts.
 pub fn if_form(
-    alloc: Global,
     item: Item,
-    parts: (RawCond, ((List<RawName>, RawSimple), Option<RawStmt>)),
-) -> Result<RawForm, NoMemory>
-    ensures { IfOk result (λ x. x ≡ if_tree (seen item.entry) parts) }
+    parts: (
+        Boxed<RawCond>,
+        ((List<RawName>, Boxed<RawSimple>), Option<Boxed<RawStmt>>),
+    ),
+) -> RawForm
+    ensures { result ≡ if_tree (seen item.entry) parts }
 {
     let (test, (then, second)) = parts;
     let (labels, first) = then;
-    let second = boxed_second(alloc, second)?;
-    let test = Boxed::new(alloc, test)?;
-    let first = Boxed::new(alloc, first)?;
-    Ok(RawForm::If {
+    RawForm::If {
         at: position(item),
         test,
         labels,
         first,
         second,
-    })
+    }
 }
 
 /// A FOR statement of its parts.
-pub fn for_form(
-    alloc: Global,
-    item: Item,
-    parts: (RawRef, (List<RawFelem>, RawStmt)),
-) -> Result<RawForm, NoMemory>
-    ensures { IfOk result (λ x. x ≡ for_tree (seen item.entry) parts) }
+pub fn for_form(item: Item, parts: (Boxed<RawRef>, (List<RawFelem>, Boxed<RawStmt>))) -> RawForm
+    ensures { result ≡ for_tree (seen item.entry) parts }
 {
     let (variable, (elems, body)) = parts;
-    let variable = Boxed::new(alloc, variable)?;
-    let body = Boxed::new(alloc, body)?;
-    Ok(RawForm::For {
+    RawForm::For {
         at: position(item),
         variable,
         elems,
         body,
-    })
+    }
 }
 
 /// A procedure of its parts.
@@ -356,7 +408,7 @@ pub fn proc_decl(
     tag: RawPtag,
     name: RawName,
     params: List<RawParam>,
-    body: RawStmt,
+    body: Boxed<RawStmt>,
 ) -> Result<RawDecl, NoMemory>
     ensures { IfOk result (λ x. x ≡ Proc (proc_tree answer tag name params body)) }
 {
@@ -365,7 +417,7 @@ pub fn proc_decl(
         tag,
         name,
         params,
-        body: Boxed::new(alloc, body)?,
+        body,
     };
     Ok(RawDecl::Proc(Boxed::new(alloc, proc)?))
 }

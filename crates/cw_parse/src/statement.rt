@@ -1,30 +1,33 @@
 //! Statements, blocks and procedures from left to right.
-ghost use Rattle.std.specs.Prelude.{◌≡◌, false};
-ghost use Rattle.cw_grammar.specs.Tokens.{behind};
-ghost use Rattle.cw_grammar.specs.Grammar.{starts, first, many, a_pair, a_list, an_option, a_from, a_name, a_type, a_stmt, a_form, a_simple, a_felem, a_decl};
-ghost use Rattle.cw_grammar.specs.Grammar.{a_param, a_cond, a_ref, if_rest, else_rest, for_rest, block_rest, proc_body, labelled, labelled_simple, again};
+ghost use Rattle.std.specs.Prelude.{◌≡◌, ◌∷◌, [], true, false};
+ghost use Rattle.cw_lex.specs.declared.token.TokenKind.TheVariants as kinds;
+ghost use Rattle.cw_lex.specs.declared.token.Word.TheVariants as words;
+ghost use Rattle.cw_grammar.specs.Tokens.{behind, seen};
+ghost use Rattle.cw_grammar.specs.Grammar.{starts, first, many, a_token, a_pair, a_list, an_option, a_from, a_name, a_type, a_stmt, a_form, a_simple, a_felem, a_decl};
+ghost use Rattle.cw_grammar.specs.Grammar.{a_param, a_cond, a_ref, if_rest, else_rest, for_rest, block_rest, proc_body, labelled, labelled_simple, again, opens, ◌·◌};
 ghost use Rattle.cw_grammar.specs.Rules.{symbol, ◌<*◌};
 ghost use Rattle.cw_grammar.specs.Statements.{semicolons, listed, in_round, param, unnamed, proc_behind, decl};
 ghost use Rattle.cw_grammar.specs.Reading.{Gives, read, inside, applied};
 ghost use Rattle.cw_grammar.specs.Labels.{unlabelled, unlabelled_simple};
 ghost use Rattle.cw_lex.specs.declared.token.Symbol.TheVariants.{Semicolon};
-ghost use Rattle.cw_parse.specs.Alternatives.{block, if_form, for_form, second_stmt};
+ghost use Rattle.cw_parse.specs.Alternatives.{block, if_form, for_form, first_stmt, second_stmt, assigned_felems, done};
 
 use crate::simple::{
-    for_form, if_form, proc_decl, read_address_assigned, read_answered, read_bits_assigned,
-    read_felems, read_goto, read_labels, read_simple_behind,
+    for_form, if_form, proc_decl, read_address_assigned, read_answered, read_assigned_felems,
+    read_bits_assigned, read_boxed_condition, read_boxed_reference, read_goto, read_labels,
+    read_simple_behind,
 };
 use cw_grammar::reading::{read_name, read_type};
 use cw_grammar::stop::Stop;
-use cw_grammar::token::{deep, next_is, position, take_kind};
+use cw_grammar::token::{Item, deep, next_is, position, take_kind};
 use cw_lex::{Symbol, Token, TokenKind, Word};
-use cw_parse_expr::reading::{read_condition, read_reference};
 use cw_parse_items::data::{is_type, read_arrays, read_singles};
 use cw_parse_items::decls::{
     is_local_decl, is_outer_decl, is_worded_decl, read_local_decl, read_worded_decl,
 };
 use cw_parse_items::params::read_param_list;
 use cw_parse_items::specifications::read_ptag;
+use cw_parse_items::taking::taken;
 use cw_series::lists::{read_ended, read_list};
 use cw_tree::expression::{RawCond, RawRef};
 use cw_tree::leaf::{RawName, RawType};
@@ -40,9 +43,10 @@ fn read_block(
     tokens: &[Token],
     at: usize,
 ) -> Result<(RawSimple, usize), Stop>
+    requires { starts (behind tokens.now at) (kinds.Word words.Begin ∷ []) ≡ true }
     ensures { Gives (λ x. (x.0, behind tokens.now x.1)) result (read levels a_simple (block in_proc) (behind tokens.now at)) }
 {
-    let (word, at) = take_kind(tokens, at, TokenKind::Word(Word::Begin))?;
+    let (word, at) = taken(tokens, at, TokenKind::Word(Word::Begin));
     let (parts, at) = read_block_rest(alloc, levels, in_proc, tokens, at)?;
     let (decls, stmts) = parts;
     let block = RawBlock {
@@ -90,14 +94,18 @@ fn read_simple(
     in_proc: bool,
     tokens: &[Token],
     at: usize,
-) -> Result<(RawSimple, usize), Stop>
+) -> Result<(Boxed<RawSimple>, usize), Stop>
     ensures { Gives (λ x. (x.0, behind tokens.now x.1)) result (read levels a_simple (unlabelled_simple in_proc) (behind tokens.now at)) }
 {
     if next_is(tokens, at, TokenKind::Name) {
         let (name, at) = read_name(tokens, at)?;
-        return read_simple_behind(alloc, levels, tokens, at, name);
+        let (simple, at) = read_simple_behind(alloc, levels, tokens, at, name)?;
+        let boxed = Boxed::new(alloc, simple)?;
+        return Ok((boxed, at));
     }
-    read_unnamed(alloc, levels, in_proc, tokens, at)
+    let (simple, at) = read_unnamed(alloc, levels, in_proc, tokens, at)?;
+    let boxed = Boxed::new(alloc, simple)?;
+    Ok((boxed, at))
 }
 
 #[cycle(statement_reader)]
@@ -107,7 +115,7 @@ fn read_labelled_simple(
     in_proc: bool,
     tokens: &[Token],
     at: usize,
-) -> Result<((List<RawName>, RawSimple), usize), Stop>
+) -> Result<((List<RawName>, Boxed<RawSimple>), usize), Stop>
     ensures { Gives (λ x. (x.0, behind tokens.now x.1)) result
         (read levels (a_pair (a_list a_name) a_simple) (again (labelled_simple in_proc)) (behind tokens.now at)) }
 {
@@ -140,15 +148,39 @@ fn read_second(
     in_proc: bool,
     tokens: &[Token],
     at: usize,
-) -> Result<(Option<RawStmt>, usize), Stop>
+) -> Result<(Option<Boxed<RawStmt>>, usize), Stop>
     ensures { Gives (λ x. (x.0, behind tokens.now x.1)) result (read levels (an_option a_stmt) (second_stmt in_proc) (behind tokens.now at)) }
 {
     if next_is(tokens, at, TokenKind::Word(Word::Else)) {
-        let (_, at) = take_kind(tokens, at, TokenKind::Word(Word::Else))?;
+        let (_, at) = taken(tokens, at, TokenKind::Word(Word::Else));
         let (second, at) = read_else_rest(alloc, levels, in_proc, tokens, at)?;
+        let second = Boxed::new(alloc, second)?;
         return Ok((Some(second), at));
     }
     Ok((None, at))
+}
+
+#[cycle(statement_reader)]
+fn read_branches(
+    alloc: Global,
+    levels: u8,
+    in_proc: bool,
+    tokens: &[Token],
+    at: usize,
+) -> Result<
+    (
+        ((List<RawName>, Boxed<RawSimple>), Option<Boxed<RawStmt>>),
+        usize,
+    ),
+    Stop,
+>
+    ensures { Gives (λ x. (x.0, behind tokens.now x.1)) result
+        (read levels (a_pair (a_pair (a_list a_name) a_simple) (an_option a_stmt)) (first_stmt in_proc · second_stmt in_proc) (behind tokens.now at)) }
+{
+    let (_, at) = take_kind(tokens, at, TokenKind::Word(Word::Then))?;
+    let (first, at) = read_labelled_simple(alloc, levels, in_proc, tokens, at)?;
+    let (second, at) = read_second(alloc, levels, in_proc, tokens, at)?;
+    Ok(((first, second), at))
 }
 
 #[tactic(auto, using(cw_grammar::proofs::Levels::inside_opened, cw_grammar::proofs::Levels::inside_full), unfolding(cw_grammar::specs::Table::rule))]
@@ -161,7 +193,10 @@ fn read_if_rest(
     at: usize,
 ) -> Result<
     (
-        (RawCond, ((List<RawName>, RawSimple), Option<RawStmt>)),
+        (
+            Boxed<RawCond>,
+            ((List<RawName>, Boxed<RawSimple>), Option<Boxed<RawStmt>>),
+        ),
         usize,
     ),
     Stop,
@@ -173,11 +208,27 @@ fn read_if_rest(
     if levels == 0 {
         return Err(deep(tokens, at));
     }
-    let (test, at) = read_condition(alloc, levels - 1, tokens, at)?;
-    let (_, at) = take_kind(tokens, at, TokenKind::Word(Word::Then))?;
-    let (first, at) = read_labelled_simple(alloc, levels - 1, in_proc, tokens, at)?;
-    let (second, at) = read_second(alloc, levels - 1, in_proc, tokens, at)?;
-    Ok(((test, (first, second)), at))
+    let (test, at) = read_boxed_condition(alloc, levels - 1, tokens, at)?;
+    let (branches, at) = read_branches(alloc, levels - 1, in_proc, tokens, at)?;
+    Ok(((test, branches), at))
+}
+
+#[cycle(statement_reader)]
+fn read_controlled(
+    alloc: Global,
+    levels: u8,
+    in_proc: bool,
+    tokens: &[Token],
+    at: usize,
+) -> Result<((List<RawFelem>, Boxed<RawStmt>), usize), Stop>
+    ensures { Gives (λ x. (x.0, behind tokens.now x.1)) result
+        (read levels (a_pair (a_list a_felem) a_stmt) (assigned_felems · done in_proc) (behind tokens.now at)) }
+{
+    let (elems, at) = read_assigned_felems(alloc, levels, tokens, at)?;
+    let (_, at) = take_kind(tokens, at, TokenKind::Word(Word::Do))?;
+    let (body, at) = read_stmt(alloc, levels, in_proc, tokens, at)?;
+    let body = Boxed::new(alloc, body)?;
+    Ok(((elems, body), at))
 }
 
 #[tactic(auto, using(cw_grammar::proofs::Levels::inside_opened, cw_grammar::proofs::Levels::inside_full), unfolding(cw_grammar::specs::Table::rule))]
@@ -188,19 +239,16 @@ fn read_for_rest(
     in_proc: bool,
     tokens: &[Token],
     at: usize,
-) -> Result<((RawRef, (List<RawFelem>, RawStmt)), usize), Stop>
+) -> Result<((Boxed<RawRef>, (List<RawFelem>, Boxed<RawStmt>)), usize), Stop>
     ensures { Gives (λ x. (x.0, behind tokens.now x.1)) result
         (inside levels (a_pair a_ref (a_pair (a_list a_felem) a_stmt)) (for_rest in_proc) (behind tokens.now at)) }
 {
     if levels == 0 {
         return Err(deep(tokens, at));
     }
-    let (variable, at) = read_reference(alloc, levels - 1, tokens, at)?;
-    let (_, at) = take_kind(tokens, at, TokenKind::Symbol(Symbol::Assign))?;
-    let (elems, at) = read_felems(alloc, levels - 1, tokens, at)?;
-    let (_, at) = take_kind(tokens, at, TokenKind::Word(Word::Do))?;
-    let (body, at) = read_stmt(alloc, levels - 1, in_proc, tokens, at)?;
-    Ok(((variable, (elems, body)), at))
+    let (variable, at) = read_boxed_reference(alloc, levels - 1, tokens, at)?;
+    let (controlled, at) = read_controlled(alloc, levels - 1, in_proc, tokens, at)?;
+    Ok(((variable, controlled), at))
 }
 
 #[cycle(statement_reader)]
@@ -211,12 +259,12 @@ fn read_if(
     tokens: &[Token],
     at: usize,
 ) -> Result<(RawForm, usize), Stop>
+    requires { starts (behind tokens.now at) (kinds.Word words.If ∷ []) ≡ true }
     ensures { Gives (λ x. (x.0, behind tokens.now x.1)) result (read levels a_form (if_form in_proc) (behind tokens.now at)) }
 {
-    let (word, at) = take_kind(tokens, at, TokenKind::Word(Word::If))?;
+    let (word, at) = taken(tokens, at, TokenKind::Word(Word::If));
     let (parts, at) = read_if_rest(alloc, levels, in_proc, tokens, at)?;
-    let form = if_form(alloc, word, parts)?;
-    Ok((form, at))
+    Ok((if_form(word, parts), at))
 }
 
 #[cycle(statement_reader)]
@@ -227,12 +275,12 @@ fn read_for(
     tokens: &[Token],
     at: usize,
 ) -> Result<(RawForm, usize), Stop>
+    requires { starts (behind tokens.now at) (kinds.Word words.For ∷ []) ≡ true }
     ensures { Gives (λ x. (x.0, behind tokens.now x.1)) result (read levels a_form (for_form in_proc) (behind tokens.now at)) }
 {
-    let (word, at) = take_kind(tokens, at, TokenKind::Word(Word::For))?;
+    let (word, at) = taken(tokens, at, TokenKind::Word(Word::For));
     let (parts, at) = read_for_rest(alloc, levels, in_proc, tokens, at)?;
-    let form = for_form(alloc, word, parts)?;
-    Ok((form, at))
+    Ok((for_form(word, parts), at))
 }
 
 #[tactic(auto, unfolding(cw_grammar::specs::Labels::unlabelled))]
@@ -246,21 +294,14 @@ fn read_form(
 ) -> Result<(RawForm, usize), Stop>
     ensures { Gives (λ x. (x.0, behind tokens.now x.1)) result (read levels a_form (unlabelled in_proc) (behind tokens.now at)) }
 {
-    if next_is(tokens, at, TokenKind::Name) {
-        let (name, at) = read_name(tokens, at)?;
-        let (simple, at) = read_simple_behind(alloc, levels, tokens, at, name)?;
-        let boxed = Boxed::new(alloc, simple)?;
-        return Ok((RawForm::Simple(boxed), at));
-    }
     if next_is(tokens, at, TokenKind::Word(Word::If)) {
         return read_if(alloc, levels, in_proc, tokens, at);
     }
     if next_is(tokens, at, TokenKind::Word(Word::For)) {
         return read_for(alloc, levels, in_proc, tokens, at);
     }
-    let (simple, at) = read_unnamed(alloc, levels, in_proc, tokens, at)?;
-    let boxed = Boxed::new(alloc, simple)?;
-    Ok((RawForm::Simple(boxed), at))
+    let (simple, at) = read_simple(alloc, levels, in_proc, tokens, at)?;
+    Ok((RawForm::Simple(simple), at))
 }
 
 #[cycle(statement_reader)]
@@ -295,6 +336,24 @@ fn read_proc_body(
     read_stmt(alloc, levels - 1, true, tokens, at)
 }
 
+#[cycle(statement_reader)]
+fn read_params_and_body<'a>(
+    alloc: Global,
+    levels: u8,
+    tokens: &[Token<'a>],
+    at: usize,
+) -> Result<((List<RawParam>, (Item<'a>, Boxed<RawStmt>)), usize), Stop>
+    ensures { Gives (λ x. ((x.0.0, (seen x.0.1.0, x.0.1.1)), behind tokens.now x.1)) result
+        (read levels (a_pair (a_list a_param) (a_pair a_token a_stmt)) (listed (in_round (semicolons param)) · opens (kinds.Symbol Semicolon) proc_body)
+        (behind tokens.now at)) }
+{
+    let (params, at) = read_params(alloc, levels, tokens, at)?;
+    let (semicolon, at) = take_kind(tokens, at, TokenKind::Symbol(Symbol::Semicolon))?;
+    let (body, at) = read_proc_body(alloc, levels, tokens, at)?;
+    let body = Boxed::new(alloc, body)?;
+    Ok(((params, (semicolon, body)), at))
+}
+
 #[tactic(auto, unfolding(cw_grammar::specs::Statements::proc_behind, cw_grammar::specs::Statements::ptag))]
 #[cycle(statement_reader)]
 fn read_proc_behind(
@@ -309,9 +368,8 @@ fn read_proc_behind(
 {
     let (tag, at) = read_ptag(tokens, at)?;
     let (name, at) = read_name(tokens, at)?;
-    let (params, at) = read_params(alloc, levels, tokens, at)?;
-    let (_, at) = take_kind(tokens, at, TokenKind::Symbol(Symbol::Semicolon))?;
-    let (body, at) = read_proc_body(alloc, levels, tokens, at)?;
+    let (parts, at) = read_params_and_body(alloc, levels, tokens, at)?;
+    let (params, (_, body)) = parts;
     let decl = proc_decl(alloc, kind, tag, name, params, body)?;
     Ok((decl, at))
 }
@@ -421,7 +479,7 @@ pub fn read_block_rest(
     let (stmts, at) = read_stmts(alloc, levels - 1, in_proc, tokens, at)?;
     let (_, at) = take_kind(tokens, at, TokenKind::Word(Word::End))?;
     if next_is(tokens, at, TokenKind::Name) {
-        let (_, at) = take_kind(tokens, at, TokenKind::Name)?;
+        let (_, at) = taken(tokens, at, TokenKind::Name);
         return Ok(((decls, stmts), at));
     }
     Ok(((decls, stmts), at))

@@ -1,3 +1,4 @@
+pub mod Seen
 pub mod Typed
 pub mod Communicators
 pub mod Elems

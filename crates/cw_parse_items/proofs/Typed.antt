@@ -5,14 +5,16 @@ use Rattle.cw_lex.specs.declared.token.Word.TheVariants as words
 use Rattle.cw_tree.specs.declared.leaf.RawType.{RawType}
 use Rattle.cw_tree.specs.declared.items.RawData.{RawData}
 use Rattle.cw_tree.specs.declared.segment.RawCitem.TheVariants as citem_tree
+use Rattle.cw_tree.specs.declared.segment.RawIps.TheVariants as ips_tree
+use Rattle.cw_tree.specs.declared.segment.RawPs.TheVariants as ps_tree
 use Rattle.cw_tree.specs.declared.statement.RawDecl.TheVariants as decl_tree
 use Rattle.cw_tree.specs.declared.statement.RawParam.TheVariants as param_tree
 use Rattle.cw_grammar.specs.Tokens.{Item}
-use Rattle.cw_grammar.specs.Grammar.{Sort, a_from, an_option, a_type, a_data, a_citem, a_decl, a_param, Value, Grammar, ◌·◌, ◌∣◌, ◌⇒◌, starts, first}
+use Rattle.cw_grammar.specs.Grammar.{Sort, a_from, an_option, a_type, a_data, a_citem, a_decl, a_param, a_ps, Value, Grammar, ◌·◌, ◌∣◌, ◌⇒◌, starts, first}
 use Rattle.cw_grammar.specs.Rules.{number_type, word, name, commas, ◌*>◌}
-use Rattle.cw_grammar.specs.Statements.{from, singles, arrays, item_data, citem, decl, param, procedure_param, spec_behind, proc_behind}
+use Rattle.cw_grammar.specs.Statements.{from, singles, arrays, item_data, citem, decl, param, procedure_param, procedure_ps, ps, spec_behind, proc_behind}
 use Rattle.cw_grammar.specs.declared.stop.Stop.{Stop}
-use Rattle.cw_grammar.specs.Reading.{Read, Fails, syntax_at, deep_at, ◌>>=◌, applied, reads}
+use Rattle.cw_grammar.specs.Reading.{Read, Fails, syntax_at, deep_at, ◌>>=◌, applied, take_one, reads}
 use Rattle.cw_grammar.proofs.Failing.{fails_where}
 use Rattle.cw_grammar.proofs.From.{from_first, from_other, first_one, second_of, applied_map, mapped_ok, some_applied}
 
@@ -119,3 +121,22 @@ param_proc = procedure_param ⇒ (λ f t. f (Some t))
 pub param_of_proc : (ts us : List Item) (x : RawType) → starts ts (first number_type) ≡ true → reads 0 number_type ts ≡ Ok (x, us) → starts us (kinds.Word words.Array ∷ []) ≡ false → applied (Some x) (reads 0 procedure_param us) ≡ reads 0 param ts
 unfolding param number_type
 param_of_proc ts us x t e f = sym (rw t (from_other 0 a_type a_param number_type param_arrays param_proc x ts us e f ∙ some_applied x (reads 0 procedure_param us)))
+
+-- ---- specifications of parameters
+
+abbrev ps_arrays : Grammar (a_from a_type a_ps)
+ps_arrays = word words.Array ⇒ (λ a t. ps_tree.Plain (ips_tree.Array t))
+
+abbrev ps_proc : Grammar (a_from a_type a_ps)
+ps_proc = procedure_ps ⇒ (λ f t. f (Some t))
+
+pub ps_of_array : (ts us vs : List Item) (x : RawType) (a : Item) → starts ts (first number_type) ≡ true → reads 0 number_type ts ≡ Ok (x, us)
+    → starts us (kinds.Word words.Array ∷ []) ≡ true → take_one (kinds.Word words.Array) us ≡ Ok (a, vs)
+    → reads 0 ps ts ≡ Ok (ps_tree.Plain (ips_tree.Array x), vs)
+unfolding ps number_type
+ps_of_array ts us vs x a t e f h = rw t (from_first 0 a_type a_ps number_type ps_arrays ps_proc x ts us e f ∙ rw h refl)
+
+pub ps_of_proc : (ts us : List Item) (x : RawType) → starts ts (first number_type) ≡ true → reads 0 number_type ts ≡ Ok (x, us) → starts us (kinds.Word words.Array ∷ []) ≡ false
+    → applied (Some x) (reads 0 procedure_ps us) ≡ reads 0 ps ts
+unfolding ps number_type
+ps_of_proc ts us x t e f = sym (rw t (from_other 0 a_type a_ps number_type ps_arrays ps_proc x ts us e f ∙ some_applied x (reads 0 procedure_ps us)))

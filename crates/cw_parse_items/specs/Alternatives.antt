@@ -1,55 +1,13 @@
 -- Alternatives of rules, each by a name of its own.
 use Rattle.cw_lex.specs.declared.token.Symbol.TheVariants as symbols
 use Rattle.cw_lex.specs.declared.token.Word.TheVariants as words
-use Rattle.cw_tree.specs.declared.statement.RawParam.TheVariants as param_tree
 use Rattle.cw_tree.specs.declared.statement.RawDecl.TheVariants as decl_tree
-use Rattle.cw_tree.specs.declared.segment.RawIps.TheVariants as ips_tree
 use Rattle.cw_tree.specs.declared.segment.RawCitem.TheVariants as citem_tree
 use Rattle.cw_tree.specs.declared.segment.RawComm.TheVariants as comm_tree
 use Rattle.cw_grammar.specs.Tokens.{position}
-use Rattle.cw_grammar.specs.Grammar.{a_pair, a_name, a_bounds, an_int, a_decl, a_param, an_ips, a_citem, a_comm, Grammar, ◌·◌, ◌⇒◌}
-use Rattle.cw_grammar.specs.Rules.{word, symbol, ◌*>◌, commas, name, int, number_type, size}
+use Rattle.cw_grammar.specs.Grammar.{a_pair, a_name, a_bounds, an_int, a_decl, a_citem, a_comm, Grammar, ◌·◌, ◌⇒◌}
+use Rattle.cw_grammar.specs.Rules.{word, symbol, ◌*>◌, commas, name, int}
 use Rattle.cw_grammar.specs.Statements.{in_round, in_square, semicolons, bounds, overlay, citem, spec, aitem}
-
--- ---- specifications
-
--- VALUE type
-abbrev pub value_ips : Grammar an_ips
-value_ips = word words.Value · number_type ⇒ (λ x. ips_tree.Value (position x.0) x.1)
-
--- LOCATION type
-abbrev pub location_ips : Grammar an_ips
-location_ips = word words.Location · number_type ⇒ (λ x. ips_tree.Location (position x.0) x.1)
-
--- TABLE "[" int "," int "]"
-abbrev pub table_ips : Grammar an_ips
-table_ips = word words.Table · size ⇒ (λ x. ips_tree.Table (position x.0) x.1)
-
--- LABEL
-abbrev pub label_ips : Grammar an_ips
-label_ips = word words.Label ⇒ (λ t. ips_tree.Label (position t))
-
--- SWITCH
-abbrev pub switch_ips : Grammar an_ips
-switch_ips = word words.Switch ⇒ (λ t. ips_tree.Switch (position t))
-
--- ---- parameters
-
--- VALUE type name { "," name }
-abbrev pub value_param : Grammar a_param
-value_param = word words.Value · number_type · commas name ⇒ (λ x. param_tree.Value (position x.0) x.1.0 x.1.1)
-
--- LOCATION type name { "," name }
-abbrev pub location_param : Grammar a_param
-location_param = word words.Location · number_type · commas name ⇒ (λ x. param_tree.Location (position x.0) x.1.0 x.1.1)
-
--- LABEL name { "," name }
-abbrev pub label_param : Grammar a_param
-label_param = word words.Label · commas name ⇒ (λ x. param_tree.Label (position x.0) x.1)
-
--- SWITCH name { "," name }
-abbrev pub switch_param : Grammar a_param
-switch_param = word words.Switch · commas name ⇒ (λ x. param_tree.Switch (position x.0) x.1)
 
 -- ---- declarations
 
@@ -66,14 +24,6 @@ switch_decl = word words.Switch · name · (symbol symbols.Assign *> commas name
 -- OVERLAY base WITH data
 abbrev pub overlay_citem : Grammar a_citem
 overlay_citem = overlay ⇒ (λ x. citem_tree.Overlay (position x.0) x.1.0 x.1.1)
-
--- LABEL name { "," name }
-abbrev pub label_citem : Grammar a_citem
-label_citem = word words.Label · commas name ⇒ (λ x. citem_tree.Label (position x.0) x.1)
-
--- SWITCH name { "," name }
-abbrev pub switch_citem : Grammar a_citem
-switch_citem = word words.Switch · commas name ⇒ (λ x. citem_tree.Switch (position x.0) x.1)
 
 -- "/" int
 abbrev pub absolute_address : Grammar an_int

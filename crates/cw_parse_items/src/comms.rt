@@ -3,9 +3,9 @@ ghost use Rattle.std.specs.Prelude.{◌≡◌};
 ghost use Rattle.cw_grammar.specs.Tokens.{behind};
 ghost use Rattle.cw_grammar.specs.Grammar.{starts, first, many, a_pair, a_list, a_name, a_bounds, an_int, a_citem, an_aitem, a_comm};
 ghost use Rattle.cw_grammar.specs.Rules.{symbol, ◌<*◌};
-ghost use Rattle.cw_grammar.specs.Statements.{citem, spec, aitem, comm};
+ghost use Rattle.cw_grammar.specs.Statements.{citem, aitem, comm};
 ghost use Rattle.cw_grammar.specs.Reading.{Gives, read};
-ghost use Rattle.cw_parse_items.specs.Alternatives.{overlay_citem, label_citem, switch_citem, absolute_address, bounded, common, library, absolute};
+ghost use Rattle.cw_parse_items.specs.Alternatives.{overlay_citem, absolute_address, bounded, common, library, absolute};
 ghost use Rattle.cw_lex.specs.declared.token.Symbol.TheVariants.{Semicolon};
 
 use crate::data::{
@@ -13,6 +13,7 @@ use crate::data::{
     read_square_bounds, read_table,
 };
 use crate::specifications::{read_spec, read_spec_behind};
+use crate::taking::taken;
 use cw_grammar::reading::{read_int, read_name, read_type};
 use cw_grammar::stop::Stop;
 use cw_grammar::token::{next_is, position, take_kind};
@@ -30,22 +31,6 @@ fn read_overlay_citem(alloc: Global, tokens: &[Token], at: usize) -> Result<(Raw
     let (parts, at) = read_overlay(alloc, tokens, at)?;
     let (word, (base, item)) = parts;
     Ok((RawCitem::Overlay(position(word), base, item), at))
-}
-
-fn read_label_citem(alloc: Global, tokens: &[Token], at: usize) -> Result<(RawCitem, usize), Stop>
-    ensures { Gives (λ x. (x.0, behind tokens.now x.1)) result (read 0 a_citem label_citem (behind tokens.now at)) }
-{
-    let (word, at) = take_kind(tokens, at, TokenKind::Word(Word::Label))?;
-    let (names, at) = read_names(alloc, tokens, at)?;
-    Ok((RawCitem::Label(position(word), names), at))
-}
-
-fn read_switch_citem(alloc: Global, tokens: &[Token], at: usize) -> Result<(RawCitem, usize), Stop>
-    ensures { Gives (λ x. (x.0, behind tokens.now x.1)) result (read 0 a_citem switch_citem (behind tokens.now at)) }
-{
-    let (word, at) = take_kind(tokens, at, TokenKind::Word(Word::Switch))?;
-    let (names, at) = read_names(alloc, tokens, at)?;
-    Ok((RawCitem::Switch(position(word), names), at))
 }
 
 #[tactic(auto, unfolding(cw_grammar::specs::Statements::citem, cw_grammar::specs::Statements::singles, cw_grammar::specs::Statements::arrays, cw_grammar::specs::Statements::data_table, cw_grammar::specs::Statements::overlay, cw_grammar::specs::Rules::number_type))]
@@ -73,10 +58,14 @@ fn read_citem(alloc: Global, tokens: &[Token], at: usize) -> Result<(RawCitem, u
         return read_overlay_citem(alloc, tokens, at);
     }
     if next_is(tokens, at, TokenKind::Word(Word::Label)) {
-        return read_label_citem(alloc, tokens, at);
+        let (word, at) = taken(tokens, at, TokenKind::Word(Word::Label));
+        let (names, at) = read_names(alloc, tokens, at)?;
+        return Ok((RawCitem::Label(position(word), names), at));
     }
     if next_is(tokens, at, TokenKind::Word(Word::Switch)) {
-        return read_switch_citem(alloc, tokens, at);
+        let (word, at) = taken(tokens, at, TokenKind::Word(Word::Switch));
+        let (names, at) = read_names(alloc, tokens, at)?;
+        return Ok((RawCitem::Switch(position(word), names), at));
     }
     let (spec, at) = read_spec_behind(alloc, tokens, at, None)?;
     Ok((RawCitem::Spec(spec), at))

@@ -11,6 +11,7 @@ ghost use Rattle.cw_grammar.specs.Reading.{Gives, read, applied};
 ghost use Rattle.cw_parse_items.specs.Elems.{behind_elems, part, presets_after};
 ghost use Rattle.cw_tree.specs.declared.items.RawElem.TheVariants.{Part};
 
+use crate::taking::taken;
 use cw_grammar::leaf::literal_byte;
 use cw_grammar::reading::{
     is_sign, read_int, read_name, read_number, read_octal, read_optional_sign, read_sint,
@@ -104,7 +105,7 @@ fn read_places(
     loop {
         if !behind_place {
             if next_is(tokens, next, TokenKind::Symbol(Symbol::Open)) {
-                let (open, after) = take_kind(tokens, next, TokenKind::Symbol(Symbol::Open))?;
+                let (open, after) = taken(tokens, next, TokenKind::Symbol(Symbol::Open));
                 before = position(open);
                 depth += 1;
                 next = after;
@@ -118,7 +119,7 @@ fn read_places(
                 behind_place = true;
             }
         } else if next_is(tokens, next, TokenKind::Symbol(Symbol::Comma)) {
-            let (comma, after) = take_kind(tokens, next, TokenKind::Symbol(Symbol::Comma))?;
+            let (comma, after) = taken(tokens, next, TokenKind::Symbol(Symbol::Comma));
             before = position(comma);
             next = after;
             behind_place = false;
@@ -191,7 +192,7 @@ fn read_bounds(tokens: &[Token], at: usize) -> Result<(RawBounds, usize), Stop>
 {
     let (first, at) = read_range(tokens, at)?;
     if next_is(tokens, at, TokenKind::Symbol(Symbol::Comma)) {
-        let (_, at) = take_kind(tokens, at, TokenKind::Symbol(Symbol::Comma))?;
+        let (_, at) = taken(tokens, at, TokenKind::Symbol(Symbol::Comma));
         let (second, at) = read_range(tokens, at)?;
         let second = Some(second);
         return Ok((RawBounds { first, second }, at));
@@ -286,7 +287,7 @@ fn read_elem(tokens: &[Token], at: usize) -> Result<(RawElem, usize), Stop>
         return Ok((RawElem::Word(name, kind, word), at));
     }
     if next_is(tokens, at, TokenKind::Word(Word::Unsigned)) {
-        let (_, at) = take_kind(tokens, at, TokenKind::Word(Word::Unsigned))?;
+        let (_, at) = taken(tokens, at, TokenKind::Word(Word::Unsigned));
         let (parts, at) = read_part(tokens, at)?;
         return Ok((part_elem(name, true, parts), at));
     }
@@ -307,6 +308,19 @@ fn read_elems(alloc: Global, tokens: &[Token], at: usize) -> Result<(List<RawEle
 }
 
 #[tactic(auto, unfolding(cw_grammar::specs::Statements::elem))]
+fn read_listed_elems(
+    alloc: Global,
+    tokens: &[Token],
+    at: usize,
+) -> Result<(List<RawElem>, usize), Stop>
+    ensures { Gives (λ x. (x.0, behind tokens.now x.1)) result (read 0 (a_list an_elem) (listed (semicolons elem)) (behind tokens.now at)) }
+{
+    if next_is(tokens, at, TokenKind::Name) {
+        return read_elems(alloc, tokens, at);
+    }
+    Ok((List::new(alloc), at))
+}
+
 fn read_square_elems(
     alloc: Global,
     tokens: &[Token],
@@ -315,13 +329,9 @@ fn read_square_elems(
     ensures { Gives (λ x. (x.0, behind tokens.now x.1)) result (read 0 (a_list an_elem) (in_square (listed (semicolons elem))) (behind tokens.now at)) }
 {
     let (_, at) = take_kind(tokens, at, TokenKind::Symbol(Symbol::OpenSquare))?;
-    if next_is(tokens, at, TokenKind::Name) {
-        let (elems, at) = read_elems(alloc, tokens, at)?;
-        let (_, at) = take_kind(tokens, at, TokenKind::Symbol(Symbol::CloseSquare))?;
-        return Ok((elems, at));
-    }
+    let (elems, at) = read_listed_elems(alloc, tokens, at)?;
     let (_, at) = take_kind(tokens, at, TokenKind::Symbol(Symbol::CloseSquare))?;
-    Ok((List::new(alloc), at))
+    Ok((elems, at))
 }
 
 #[tactic(auto, unfolding(cw_grammar::specs::Statements::table))]
@@ -357,7 +367,7 @@ fn read_more_elems(
     elems.push(first)?;
     let mut next = at;
     while next_is(tokens, next, TokenKind::Symbol(Symbol::Semicolon)) {
-        let (_, after) = take_kind(tokens, next, TokenKind::Symbol(Symbol::Semicolon))?;
+        let (_, after) = taken(tokens, next, TokenKind::Symbol(Symbol::Semicolon));
         if !next_is(tokens, after, TokenKind::Name) {
             let (presets, end) = read_preset(alloc, tokens, after)?;
             return Ok(((elems, Some(presets)), end));
@@ -392,7 +402,7 @@ fn read_table_body(
         return Ok(((List::new(alloc), Some(presets)), at));
     }
     if next_is(tokens, at, TokenKind::Symbol(Symbol::Semicolon)) {
-        let (_, at) = take_kind(tokens, at, TokenKind::Symbol(Symbol::Semicolon))?;
+        let (_, at) = taken(tokens, at, TokenKind::Symbol(Symbol::Semicolon));
         let (presets, at) = read_preset(alloc, tokens, at)?;
         return Ok(((List::new(alloc), Some(presets)), at));
     }
@@ -479,7 +489,7 @@ fn read_second_index(tokens: &[Token], at: usize) -> Result<(Option<RawSint>, us
     ensures { Gives (λ x. (x.0, behind tokens.now x.1)) result (read 0 (an_option a_sint) (optional (symbol Comma *> sint)) (behind tokens.now at)) }
 {
     if next_is(tokens, at, TokenKind::Symbol(Symbol::Comma)) {
-        let (_, at) = take_kind(tokens, at, TokenKind::Symbol(Symbol::Comma))?;
+        let (_, at) = taken(tokens, at, TokenKind::Symbol(Symbol::Comma));
         let (second, at) = read_sint(tokens, at)?;
         return Ok((Some(second), at));
     }

@@ -6,3 +6,4 @@ pub mod data;
 pub mod decls;
 pub mod params;
 pub mod specifications;
+pub mod taking;

@@ -4,9 +4,9 @@ ghost use Rattle.cw_grammar.specs.Tokens.{behind};
 ghost use Rattle.cw_grammar.specs.Grammar.{starts, first, a_list, an_option, a_from, a_token, a_type, a_ptag, an_ips, a_ps, a_spec};
 ghost use Rattle.cw_grammar.specs.Statements.{separated, separator, listed, in_round, ptag, worded_ips, ips, ips_list, procedure_ps, ps, spec_behind, spec};
 ghost use Rattle.cw_grammar.specs.Reading.{Gives, read, applied};
-ghost use Rattle.cw_parse_items.specs.Alternatives.{value_ips, location_ips, table_ips, label_ips, switch_ips};
 
 use crate::data::is_type;
+use crate::taking::taken;
 use cw_grammar::reading::{read_name, read_size, read_type};
 use cw_grammar::stop::Stop;
 use cw_grammar::token::{Item, next_is, position, take_kind};
@@ -23,53 +23,15 @@ pub fn read_ptag(tokens: &[Token], at: usize) -> Result<(RawPtag, usize), Stop>
     ensures { Gives (λ x. (x.0, behind tokens.now x.1)) result (read 0 a_ptag ptag (behind tokens.now at)) }
 {
     if next_is(tokens, at, TokenKind::Word(Word::Procedure)) {
-        let (word, at) = take_kind(tokens, at, TokenKind::Word(Word::Procedure))?;
+        let (word, at) = taken(tokens, at, TokenKind::Word(Word::Procedure));
         return Ok((RawPtag::Procedure(position(word)), at));
     }
     let (word, at) = take_kind(tokens, at, TokenKind::Word(Word::Recursive))?;
     if next_is(tokens, at, TokenKind::Word(Word::Procedure)) {
-        let (_, at) = take_kind(tokens, at, TokenKind::Word(Word::Procedure))?;
+        let (_, at) = taken(tokens, at, TokenKind::Word(Word::Procedure));
         return Ok((RawPtag::Recursive(position(word)), at));
     }
     Ok((RawPtag::Recursive(position(word)), at))
-}
-
-fn read_value_ips(tokens: &[Token], at: usize) -> Result<(RawIps, usize), Stop>
-    ensures { Gives (λ x. (x.0, behind tokens.now x.1)) result (read 0 an_ips value_ips (behind tokens.now at)) }
-{
-    let (word, at) = take_kind(tokens, at, TokenKind::Word(Word::Value))?;
-    let (kind, at) = read_type(tokens, at)?;
-    Ok((RawIps::Value(position(word), kind), at))
-}
-
-fn read_location_ips(tokens: &[Token], at: usize) -> Result<(RawIps, usize), Stop>
-    ensures { Gives (λ x. (x.0, behind tokens.now x.1)) result (read 0 an_ips location_ips (behind tokens.now at)) }
-{
-    let (word, at) = take_kind(tokens, at, TokenKind::Word(Word::Location))?;
-    let (kind, at) = read_type(tokens, at)?;
-    Ok((RawIps::Location(position(word), kind), at))
-}
-
-fn read_table_ips(tokens: &[Token], at: usize) -> Result<(RawIps, usize), Stop>
-    ensures { Gives (λ x. (x.0, behind tokens.now x.1)) result (read 0 an_ips table_ips (behind tokens.now at)) }
-{
-    let (word, at) = take_kind(tokens, at, TokenKind::Word(Word::Table))?;
-    let (size, at) = read_size(tokens, at)?;
-    Ok((RawIps::Table(position(word), size), at))
-}
-
-fn read_label_ips(tokens: &[Token], at: usize) -> Result<(RawIps, usize), Stop>
-    ensures { Gives (λ x. (x.0, behind tokens.now x.1)) result (read 0 an_ips label_ips (behind tokens.now at)) }
-{
-    let (word, at) = take_kind(tokens, at, TokenKind::Word(Word::Label))?;
-    Ok((RawIps::Label(position(word)), at))
-}
-
-fn read_switch_ips(tokens: &[Token], at: usize) -> Result<(RawIps, usize), Stop>
-    ensures { Gives (λ x. (x.0, behind tokens.now x.1)) result (read 0 an_ips switch_ips (behind tokens.now at)) }
-{
-    let (word, at) = take_kind(tokens, at, TokenKind::Word(Word::Switch))?;
-    Ok((RawIps::Switch(position(word)), at))
 }
 
 #[tactic(auto, unfolding(cw_grammar::specs::Statements::worded_ips))]
@@ -77,18 +39,26 @@ fn read_worded_ips(tokens: &[Token], at: usize) -> Result<(RawIps, usize), Stop>
     ensures { Gives (λ x. (x.0, behind tokens.now x.1)) result (read 0 an_ips worded_ips (behind tokens.now at)) }
 {
     if next_is(tokens, at, TokenKind::Word(Word::Value)) {
-        return read_value_ips(tokens, at);
+        let (word, at) = taken(tokens, at, TokenKind::Word(Word::Value));
+        let (kind, at) = read_type(tokens, at)?;
+        return Ok((RawIps::Value(position(word), kind), at));
     }
     if next_is(tokens, at, TokenKind::Word(Word::Location)) {
-        return read_location_ips(tokens, at);
+        let (word, at) = taken(tokens, at, TokenKind::Word(Word::Location));
+        let (kind, at) = read_type(tokens, at)?;
+        return Ok((RawIps::Location(position(word), kind), at));
     }
     if next_is(tokens, at, TokenKind::Word(Word::Table)) {
-        return read_table_ips(tokens, at);
+        let (word, at) = taken(tokens, at, TokenKind::Word(Word::Table));
+        let (size, at) = read_size(tokens, at)?;
+        return Ok((RawIps::Table(position(word), size), at));
     }
     if next_is(tokens, at, TokenKind::Word(Word::Label)) {
-        return read_label_ips(tokens, at);
+        let (word, at) = taken(tokens, at, TokenKind::Word(Word::Label));
+        return Ok((RawIps::Label(position(word)), at));
     }
-    read_switch_ips(tokens, at)
+    let (word, at) = take_kind(tokens, at, TokenKind::Word(Word::Switch))?;
+    Ok((RawIps::Switch(position(word)), at))
 }
 
 #[tactic(auto, unfolding(cw_grammar::specs::Statements::worded_ips))]
@@ -172,7 +142,7 @@ fn read_ps(alloc: Global, tokens: &[Token], at: usize) -> Result<(RawPs, usize),
     if is_type(tokens, at) {
         let (kind, at) = read_type(tokens, at)?;
         if next_is(tokens, at, TokenKind::Word(Word::Array)) {
-            let (_, at) = take_kind(tokens, at, TokenKind::Word(Word::Array))?;
+            let (_, at) = taken(tokens, at, TokenKind::Word(Word::Array));
             return Ok((RawPs::Plain(RawIps::Array(kind)), at));
         }
         return read_procedure_ps(alloc, tokens, at, Some(kind));

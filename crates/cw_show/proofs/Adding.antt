@@ -1,23 +1,132 @@
 -- Tokens added to a text one after another.
-use Rattle.std.proofs.Common.{◌≡◌, ℕ, zero, suc, ◌+◌, ◌-◌, ◌≤◌, ◌<◌, List, [], ◌∷◌, ◌++◌, refl, sym, ap, ◌∙◌, map, length, take, drop, get_or, replicate, append_assoc, append-nil, arith}
+use Rattle.std.proofs.Common.{◌≡◌, ℕ, zero, suc, ◌+◌, ◌-◌, ◌≤◌, ◌<◌, ◌==◌, if◌then◌else◌, Bool, true, false, List, [], ◌∷◌, ◌++◌, refl, sym, ap, subst, ◌∙◌, map, length, take, drop, get_or, replicate, append_assoc, append-nil, arith}
 use Rattle.std.proofs.lemmas.List.{replicate-append-replicate, drop_all, drop_more}
-use Rattle.std.specs.Prelude.{slice_get}
-use Rattle.cw_show.specs.Spelling.{Spelling, separator, text_of, with_token, with_tokens}
-use Rattle.cw_show.specs.ExpressionTokens.{at_most_one, operator_at}
-use Rattle.cw_show.specs.Canonical.{Tokens, joined, behind_each, between, behind_operators, operation}
+use Rattle.cw_show.specs.declared.written.Text.{Text}
+use Rattle.cw_show.specs.Adding.{Extends, Adds}
+use Rattle.cw_show.specs.Spelling.{Spelling, separator, text_of}
+use Rattle.cw_show.specs.ExpressionTokens.{operator_at}
+use Rattle.cw_show.specs.Canonical.{Tokens, doubled, joined, ended, semicolon, bracketed, listed, behind_each, between, behind_operators, operation}
 
-pub added_in_order : (out : List ℕ) (ts us : List Spelling) → with_tokens out (ts ++ us) ≡ with_tokens (with_tokens out ts) us
-added_in_order out [] us = refl
-added_in_order out (t ∷ ts) us = added_in_order (with_token out t) ts us
+-- ---- bytes
 
-pub one_more_zero : (o0 o1 o2 : List ℕ) (k : ℕ) → o1 ≡ o0 ++ replicate k 48 → o2 ≡ o1 ++ 48 ∷ [] → o2 ≡ o0 ++ replicate (k + 1) 48
-one_more_zero o0 o1 o2 k e1 e2 = e2 ∙ ap (λ o. o ++ 48 ∷ []) e1 ∙ append_assoc o0 (replicate k 48) (48 ∷ []) ∙ ap (λ x. o0 ++ x) (replicate-append-replicate k 1 48)
+pub no_bytes : (a : Text) → Extends a a []
+no_bytes a = record { before = λ e. e; there = λ e. sym (append-nil a.bytes.items) }
+
+pub bytes_in_order : {a b c : Text} {xs ys : List ℕ} → Extends a b xs → Extends b c ys → Extends a c (xs ++ ys)
+bytes_in_order {a = a} {xs = xs} {ys = ys} p q = record {
+  before = λ e. p.before (q.before e);
+  there = λ e. q.there e ∙ ap (λ z. z ++ ys) (p.there (q.before e)) ∙ append_assoc a.bytes.items xs ys;
+}
+
+pub bytes_become : {a b : Text} {xs ys : List ℕ} → Extends a b xs → xs ≡ ys → Extends a b ys
+bytes_become {a = a} {b = b} p e = subst (Extends a b) e p
+
+pub one_more_zero : {a b c : Text} (k : ℕ) → Extends a b (replicate k 48) → Extends b c (48 ∷ []) → Extends a c (replicate (k + 1) 48)
+one_more_zero k p q = bytes_become (bytes_in_order p q) (replicate-append-replicate k 1 48)
+
+doubled_first : (b : ℕ) (bs : List ℕ) → doubled (b ∷ bs) ≡ doubled (b ∷ []) ++ doubled bs
+doubled_first b bs = go (b == 34)
+  where
+    go : (t : Bool) → (if t then b ∷ b ∷ doubled bs else (b ∷ doubled bs)) ≡ (if t then b ∷ b ∷ [] else (b ∷ [])) ++ doubled bs
+    go true = refl
+    go false = refl
+
+-- ---- tokens
+
+text_of-append : (ts us : Tokens) → text_of (ts ++ us) ≡ text_of ts ++ text_of us
+text_of-append [] us = refl
+text_of-append (t ∷ ts) us = ap (λ z. t.text ++ separator t.kind ∷ z) (text_of-append ts us) ∙ sym (append_assoc t.text (separator t.kind ∷ text_of ts) (text_of us))
+
+pub token_added : {a b c : Text} (t : Spelling) → Extends a b t.text → Extends b c (separator t.kind ∷ []) → Adds a c (t ∷ [])
+token_added t p q = record { text = bytes_in_order p q }
+
+pub nothing : (a : Text) → Adds a a []
+nothing a = record { text = no_bytes a }
+
+pub in_order : {a b c : Text} {ts us : Tokens} → Adds a b ts → Adds b c us → Adds a c (ts ++ us)
+in_order {ts = ts} {us = us} p q = record { text = bytes_become (bytes_in_order p.text q.text) (sym (text_of-append ts us)) }
+
+pub becomes : {a b : Text} {ts us : Tokens} → Adds a b ts → ts ≡ us → Adds a b us
+becomes {a = a} {b = b} p e = subst (Adds a b) e p
+
+pub whole_text : {a b : Text} {ts : Tokens} → Adds a b ts → a.bytes.items ≡ [] → b.lacking ≡ false → b.bytes.items ≡ text_of ts
+whole_text {ts = ts} p e w = p.text.there w ∙ ap (λ z. z ++ text_of ts) e
+
+-- ---- loops
+
+-- In a loop: where what is left is added to the text of now, all is added to that of the start.
+pub record Keeps (start now : Text) (all left : Tokens) : Type 0 where
+  pub goes : (end : Text) → Adds now end left → Adds start end all
+
+pub begun : (a : Text) (ts : Tokens) → Keeps a a ts ts
+begun a ts = record { goes = λ end p. p }
+
+turned : {a b c : Text} {all ts : Tokens} (left later : Tokens) → Keeps a b all left → Adds b c ts → left ≡ ts ++ later → Keeps a c all later
+turned left later k p e = record { goes = λ end q. k.goes end (becomes (in_order p q) (sym e)) }
+
+all_added : {a b : Text} {all : Tokens} (left : Tokens) → Keeps a b all left → left ≡ [] → Adds a b all
+all_added {b = b} left k e = k.goes b (becomes (nothing b) (sym e))
+
+next_item : {A : Type 0} (xs : List A) (i : ℕ) (x : A) → i < length xs → x ≡ get_or xs i x → drop i xs ≡ x ∷ drop (i + 1) xs
+next_item xs i x h e = drop_more xs i x h ∙ ap (λ y. y ∷ drop (i + 1) xs) (sym e)
+
+pub one_more_joined : {A : Type 0} {a o o1 : Text} {all : Tokens} (f : A → Tokens) (xs : List A) (i : ℕ) (x : A) → i < length xs → x ≡ get_or xs i x
+    → Keeps a o all (joined (map f (drop i xs))) → Adds o o1 (f x) → Keeps a o1 all (joined (map f (drop (i + 1) xs)))
+one_more_joined f xs i x h e k p = turned (joined (map f (drop i xs))) (joined (map f (drop (i + 1) xs))) k p (ap (λ l. joined (map f l)) (next_item xs i x h e))
+
+pub none_more_joined : {A : Type 0} {a o : Text} {all : Tokens} (f : A → Tokens) (xs : List A) (i : ℕ) → length xs ≤ i → Keeps a o all (joined (map f (drop i xs))) → Adds a o all
+none_more_joined f xs i h k = all_added (joined (map f (drop i xs))) k (ap (λ l. joined (map f l)) (drop_all i xs h))
+
+pub one_more_ended : {A : Type 0} {a o o1 o2 : Text} {all : Tokens} (f : A → Tokens) (xs : List A) (i : ℕ) (x : A) → i < length xs → x ≡ get_or xs i x
+    → Keeps a o all (ended (map f (drop i xs))) → Adds o o1 (f x) → Adds o1 o2 (semicolon ∷ []) → Keeps a o2 all (ended (map f (drop (i + 1) xs)))
+one_more_ended f xs i x h e k p q =
+    let later : Tokens = ended (map f (drop (i + 1) xs)) in
+    turned (semicolon ∷ later) later (turned (ended (map f (drop i xs))) (semicolon ∷ later) k p (ap (λ l. ended (map f l)) (next_item xs i x h e))) q refl
+
+pub none_more_ended : {A : Type 0} {a o : Text} {all : Tokens} (f : A → Tokens) (xs : List A) (i : ℕ) → length xs ≤ i → Keeps a o all (ended (map f (drop i xs))) → Adds a o all
+none_more_ended f xs i h k = all_added (ended (map f (drop i xs))) k (ap (λ l. ended (map f l)) (drop_all i xs h))
+
+pub one_more_behind : {A : Type 0} {a o o1 o2 : Text} {all : Tokens} (t : Spelling) (f : A → Tokens) (xs : List A) (i : ℕ) (x : A) → i < length xs → x ≡ get_or xs i x
+    → Keeps a o all (behind_each t (map f (drop i xs))) → Adds o o1 (t ∷ []) → Adds o1 o2 (f x) → Keeps a o2 all (behind_each t (map f (drop (i + 1) xs)))
+one_more_behind t f xs i x h e k p q =
+    let later : Tokens = behind_each t (map f (drop (i + 1) xs)) in
+    turned (f x ++ later) later (turned (behind_each t (map f (drop i xs))) (f x ++ later) k p (ap (λ l. behind_each t (map f l)) (next_item xs i x h e))) q refl
+
+operator_first : {B : Type 0} (s : B → Spelling) (ops : List B) (i : ℕ) (y : Tokens) (ys : List Tokens)
+    → behind_operators (map s (drop i ops)) (y ∷ ys) ≡ operator_at (map s ops) i ++ (y ++ behind_operators (map s (drop (suc i) ops)) ys)
+operator_first s [] zero y ys = refl
+operator_first s [] (suc i) y ys = refl
+operator_first s (o ∷ ops) zero y ys = refl
+operator_first s (o ∷ ops) (suc i) y ys = operator_first s ops i y ys
+
+pub operator_seen : {B : Type 0} (s : B → Spelling) (xs : List B) (i : ℕ) (x : B) → i < length xs → x ≡ get_or xs i x → operator_at (map s xs) i ≡ s x ∷ []
+operator_seen s [] i x h e = absurd (omega (arith, h))
+operator_seen s (y ∷ ys) zero x h e = ap (λ z. s z ∷ []) (sym e)
+operator_seen s (y ∷ ys) (suc i) x h e = operator_seen s ys i x (omega arith) e
+
+pub no_operator : {B : Type 0} (s : B → Spelling) (xs : List B) (i : ℕ) → length xs ≤ i → operator_at (map s xs) i ≡ []
+no_operator s [] i h = refl
+no_operator s (y ∷ ys) zero h = absurd (omega (arith, h))
+no_operator s (y ∷ ys) (suc i) h = no_operator s ys i (omega arith)
+
+pub one_more_operated : {A B : Type 0} {a o o1 o2 : Text} {all : Tokens} (s : B → Spelling) (f : A → Tokens) (ops : List B) (xs : List A) (i : ℕ) (x : A) → i < length xs
+    → x ≡ get_or xs i x
+    → Keeps a o all (behind_operators (map s (drop i ops)) (map f (drop i xs))) → Adds o o1 (operator_at (map s ops) i) → Adds o1 o2 (f x)
+    → Keeps a o2 all (behind_operators (map s (drop (i + 1) ops)) (map f (drop (i + 1) xs)))
+one_more_operated s f ops xs i x h e k p q =
+    let n : suc i ≡ i + 1 = omega arith in
+    let later : Tokens = behind_operators (map s (drop (i + 1) ops)) (map f (drop (i + 1) xs)) in
+    let first : behind_operators (map s (drop i ops)) (map f (drop i xs)) ≡ operator_at (map s ops) i ++ (f x ++ later) =
+    ap (λ l. behind_operators (map s (drop i ops)) (map f l)) (next_item xs i x h e) ∙ operator_first s ops i (f x) (map f (drop (i + 1) xs))
+    ∙ ap (λ j. operator_at (map s ops) i ++ (f x ++ behind_operators (map s (drop j ops)) (map f (drop (i + 1) xs)))) n in
+    turned (f x ++ later) later (turned (behind_operators (map s (drop i ops)) (map f (drop i xs))) (f x ++ later) k p first) q refl
+
+-- ---- what stands behind the first of a list
 
 take_length : {A : Type 0} (xs : List A) → take (length xs) xs ≡ xs
 take_length [] = refl
 take_length (x ∷ xs) = ap (λ l. x ∷ l) (take_length xs)
 
--- what stands behind the first item
 abbrev pub behind_first : {A : Type 0} → List A → List A
 behind_first all = take (length all - 1) (drop 1 all)
 
@@ -27,92 +136,60 @@ first_and_rest (x ∷ xs) first h e =
     let n : suc (length xs) - 1 ≡ length xs = omega arith in
     ap (λ y. y ∷ xs) (sym e) ∙ ap (λ l. first ∷ l) (sym (take_length xs) ∙ ap (λ k. take k xs) (sym n))
 
--- a list with a token between any two, in a loop behind its first
-pub between_added : {A : Type 0} (t : Spelling) (f : A → Tokens) (all : List A) (first : A) (rest : List A) (i : ℕ) (o0 o1 o2 : List ℕ) → all ≡ first ∷ rest → length rest ≤ i
-    → o1 ≡ with_tokens o0 (f first) → with_tokens o2 (behind_each t (map f (drop i rest))) ≡ with_tokens o1 (behind_each t (map f rest))
-    → o2 ≡ with_tokens o0 (between t (map f all))
-between_added t f all first rest i o0 o1 o2 ea le e1 h =
-    ap (λ l. with_tokens o2 (behind_each t (map f l))) (sym (drop_all i rest le)) ∙ h
-    ∙ ap (λ o. with_tokens o (behind_each t (map f rest))) e1
-    ∙ sym (added_in_order o0 (f first) (behind_each t (map f rest)))
-    ∙ ap (λ l. with_tokens o0 (between t (map f l))) (sym ea)
+-- All of a list, where these are the tokens of its tree.
+pub all_between : {A : Type 0} {o0 o1 o2 : Text} {whole : Tokens} (t : Spelling) (f : A → Tokens) (operands all : List A) (first : A) (i : ℕ)
+    → whole ≡ between t (map f operands) → all ≡ operands
+    → 1 ≤ length all → first ≡ get_or all 0 first → length (behind_first all) ≤ i
+    → Adds o0 o1 (f first) → Keeps o1 o2 (behind_each t (map f (behind_first all))) (behind_each t (map f (drop i (behind_first all)))) → Adds o0 o2 whole
+all_between t f operands all first i layer same n e le p k =
+    let rest = all_added (behind_each t (map f (drop i (behind_first all)))) k (ap (λ l. behind_each t (map f l)) (drop_all i (behind_first all) le)) in
+    becomes (in_order p rest) (ap (λ l. between t (map f l)) (sym (first_and_rest all first n e) ∙ same) ∙ sym layer)
 
--- the same with operators of a list
-pub operation_added : {A B : Type 0} (s : B → Spelling) (f : A → Tokens) (ops : List B) (all : List A) (first : A) (rest : List A) (i : ℕ) (o0 o1 o2 : List ℕ) → all ≡ first ∷ rest → length rest ≤ i
-    → o1 ≡ with_tokens o0 (f first) → with_tokens o2 (behind_operators (map s (drop i ops)) (map f (drop i rest))) ≡ with_tokens o1 (behind_operators (map s ops) (map f rest))
-    → o2 ≡ with_tokens o0 (operation (map s ops) (map f all))
-operation_added s f ops all first rest i o0 o1 o2 ea le e1 h =
-    ap (λ l. with_tokens o2 (behind_operators (map s (drop i ops)) (map f l))) (sym (drop_all i rest le)) ∙ h
-    ∙ ap (λ o. with_tokens o (behind_operators (map s ops) (map f rest))) e1
-    ∙ sym (added_in_order o0 (f first) (behind_operators (map s ops) (map f rest)))
-    ∙ ap (λ l. with_tokens o0 (operation (map s ops) (map f l))) (sym ea)
-
-pub all_between : {A : Type 0} (t : Spelling) (f : A → Tokens) (all : List A) (first : A) (i : ℕ) (o0 o1 o2 : List ℕ) → 1 ≤ length all → first ≡ get_or all 0 first → length (behind_first all) ≤ i
-    → o1 ≡ with_tokens o0 (f first) → with_tokens o2 (behind_each t (map f (drop i (behind_first all)))) ≡ with_tokens o1 (behind_each t (map f (behind_first all)))
-    → o2 ≡ with_tokens o0 (between t (map f all))
-all_between t f all first i o0 o1 o2 n e le e1 h = between_added t f all first (behind_first all) i o0 o1 o2 (first_and_rest all first n e) le e1 h
-
-pub all_operated : {A B : Type 0} (s : B → Spelling) (f : A → Tokens) (ops : List B) (all : List A) (first : A) (i : ℕ) (o0 o1 o2 : List ℕ) → 1 ≤ length all → first ≡ get_or all 0 first → length (behind_first all) ≤ i
-    → o1 ≡ with_tokens o0 (f first) → with_tokens o2 (behind_operators (map s (drop i ops)) (map f (drop i (behind_first all)))) ≡ with_tokens o1 (behind_operators (map s ops) (map f (behind_first all)))
-    → o2 ≡ with_tokens o0 (operation (map s ops) (map f all))
-all_operated s f ops all first i o0 o1 o2 n e le e1 h = operation_added s f ops all first (behind_first all) i o0 o1 o2 (first_and_rest all first n e) le e1 h
-
--- ---- one more of a list, and none
-
-pub one_more_joined : {A : Type 0} (f : A → Tokens) (xs : List A) (i : ℕ) (x : A) (o o1 end : List ℕ) → i < length xs → x ≡ get_or xs i x → o1 ≡ with_tokens o (f x)
-    → with_tokens o (joined (map f (drop i xs))) ≡ end → with_tokens o1 (joined (map f (drop (i + 1) xs))) ≡ end
-one_more_joined f xs i x o o1 end h e e1 k =
-    let later : Tokens = joined (map f (drop (i + 1) xs)) in
-    let d : drop i xs ≡ x ∷ drop (i + 1) xs = drop_more xs i x h ∙ ap (λ y. y ∷ drop (i + 1) xs) (sym e) in
-    ap (λ z. with_tokens z later) e1 ∙ sym (added_in_order o (f x) later) ∙ ap (λ l. with_tokens o (joined (map f l))) (sym d) ∙ k
-
-pub none_more_joined : {A : Type 0} (f : A → Tokens) (xs : List A) (i : ℕ) (o end : List ℕ) → length xs ≤ i → with_tokens o (joined (map f (drop i xs))) ≡ end → o ≡ end
-none_more_joined f xs i o end h k = ap (λ l. with_tokens o (joined (map f l))) (sym (drop_all i xs h)) ∙ k
+pub all_operated : {A B : Type 0} {o0 o1 o2 : Text} (s : B → Spelling) (f : A → Tokens) (ops : List B) (all : List A) (first : A) (i : ℕ)
+    → 1 ≤ length all → first ≡ get_or all 0 first → length (behind_first all) ≤ i
+    → Adds o0 o1 (f first) → Keeps o1 o2 (behind_operators (map s ops) (map f (behind_first all))) (behind_operators (map s (drop i ops)) (map f (drop i (behind_first all))))
+    → Adds o0 o2 (operation (map s ops) (map f all))
+all_operated s f ops all first i n e le p k =
+    let rest = all_added (behind_operators (map s (drop i ops)) (map f (drop i (behind_first all)))) k
+    (ap (λ l. behind_operators (map s (drop i ops)) (map f l)) (drop_all i (behind_first all) le)) in
+    becomes (in_order p rest) (ap (λ l. operation (map s ops) (map f l)) (sym (first_and_rest all first n e)))
 
 no_item : {A : Type 0} (xs : List A) → length xs < 1 → xs ≡ []
 no_item [] h = refl
 no_item (x ∷ xs) h = absurd (omega (arith, h))
 
-pub none_between : {A : Type 0} (t : Spelling) (f : A → Tokens) (all : List A) (o : List ℕ) → length all < 1 → o ≡ with_tokens o (between t (map f all))
-none_between t f all o h = ap (λ l. with_tokens o (between t (map f l))) (sym (no_item all h))
+pub none_between : {A : Type 0} {whole : Tokens} (t : Spelling) (f : A → Tokens) (operands all : List A) (o : Text) → whole ≡ between t (map f operands) → all ≡ operands
+    → length all < 1 → Adds o o whole
+none_between t f operands all o layer same h = becomes (nothing o) (ap (λ l. between t (map f l)) (sym (no_item all h) ∙ same) ∙ sym layer)
 
-pub none_operated : {A B : Type 0} (s : B → Spelling) (f : A → Tokens) (ops : List B) (all : List A) (o : List ℕ) → length all < 1 → o ≡ with_tokens o (operation (map s ops) (map f all))
-none_operated s f ops all o h = ap (λ l. with_tokens o (operation (map s ops) (map f l))) (sym (no_item all h))
+pub none_operated : {A B : Type 0} (s : B → Spelling) (f : A → Tokens) (ops : List B) (all : List A) (o : Text) → length all < 1 → Adds o o (operation (map s ops) (map f all))
+none_operated s f ops all o h = becomes (nothing o) (ap (λ l. operation (map s ops) (map f l)) (sym (no_item all h)))
 
-pub one_more_behind : {A : Type 0} (t : Spelling) (f : A → Tokens) (xs : List A) (i : ℕ) (x : A) (o o1 o2 end : List ℕ) → i < length xs → x ≡ get_or xs i x → o1 ≡ with_token o t → o2 ≡ with_tokens o1 (f x)
-    → with_tokens o (behind_each t (map f (drop i xs))) ≡ end → with_tokens o2 (behind_each t (map f (drop (i + 1) xs))) ≡ end
-one_more_behind t f xs i x o o1 o2 end h e e1 e2 k =
-    let d : drop i xs ≡ x ∷ drop (i + 1) xs = drop_more xs i x h ∙ ap (λ y. y ∷ drop (i + 1) xs) (sym e) in
-    ap (λ z. with_tokens z (behind_each t (map f (drop (i + 1) xs)))) (e2 ∙ ap (λ z. with_tokens z (f x)) e1)
-    ∙ sym (added_in_order (with_token o t) (f x) (behind_each t (map f (drop (i + 1) xs))))
-    ∙ ap (λ l. with_tokens o (behind_each t (map f l))) (sym d) ∙ k
+pub none_listed : {A : Type 0} (t : Spelling) (f : A → Tokens) (all : List A) (o : Text) → length all < 1 → Adds o o (listed t (map f all))
+none_listed t f all o h = becomes (nothing o) (ap (λ l. listed t (map f l)) (sym (no_item all h)))
 
-operator_first : {B : Type 0} (s : B → Spelling) (ops : List B) (i : ℕ) (y : Tokens) (ys : List Tokens) → behind_operators (map s (drop i ops)) (y ∷ ys) ≡ operator_at (map s ops) i ++ (y ++ behind_operators (map s (drop (suc i) ops)) ys)
-operator_first s [] zero y ys = refl
-operator_first s [] (suc i) y ys = refl
-operator_first s (o ∷ ops) zero y ys = refl
-operator_first s (o ∷ ops) (suc i) y ys = operator_first s ops i y ys
+listed_some : {A : Type 0} (t : Spelling) (f : A → Tokens) (all : List A) → 1 ≤ length all → bracketed (between t (map f all)) ≡ listed t (map f all)
+listed_some t f [] h = absurd (omega (arith, h))
+listed_some t f (x ∷ xs) h = refl
 
-pub one_more_operated : {A B : Type 0} (s : B → Spelling) (f : A → Tokens) (ops : List B) (xs : List A) (i : ℕ) (x : A) (o o1 o2 end : List ℕ) → i < length xs → x ≡ get_or xs i x → o1 ≡ with_tokens o (operator_at (map s ops) i) → o2 ≡ with_tokens o1 (f x)
-    → with_tokens o (behind_operators (map s (drop i ops)) (map f (drop i xs))) ≡ end → with_tokens o2 (behind_operators (map s (drop (i + 1) ops)) (map f (drop (i + 1) xs))) ≡ end
-one_more_operated s f ops xs i x o o1 o2 end h e e1 e2 k =
-    let n : i + 1 ≡ suc i = omega arith in
-    let d : drop i xs ≡ x ∷ drop (i + 1) xs = drop_more xs i x h ∙ ap (λ y. y ∷ drop (i + 1) xs) (sym e) in
-    let later : List Spelling = behind_operators (map s (drop (i + 1) ops)) (map f (drop (i + 1) xs)) in
-    ap (λ z. with_tokens z later) (e2 ∙ ap (λ z. with_tokens z (f x)) e1)
-    ∙ sym (added_in_order (with_tokens o (operator_at (map s ops) i)) (f x) later)
-    ∙ sym (added_in_order o (operator_at (map s ops) i) (f x ++ later))
-    ∙ ap (λ j. with_tokens o (operator_at (map s ops) i ++ (f x ++ behind_operators (map s (drop j ops)) (map f (drop (i + 1) xs))))) n
-    ∙ ap (with_tokens o) (sym (operator_first s ops i (f x) (map f (drop (i + 1) xs))))
-    ∙ ap (λ l. with_tokens o (behind_operators (map s (drop i ops)) (map f l))) (sym d) ∙ k
+pub some_listed : {A : Type 0} {o o1 : Text} (t : Spelling) (f : A → Tokens) (all : List A) → 1 ≤ length all → Adds o o1 (bracketed (between t (map f all)))
+    → Adds o o1 (listed t (map f all))
+some_listed t f all h p = becomes p (listed_some t f all h)
 
--- ---- the whole text
+-- ---- bytes that are doubled
 
-added_text : (out : List ℕ) (ts : List Spelling) → with_tokens out ts ≡ out ++ text_of ts
-added_text out [] = sym (append-nil out)
-added_text out (t ∷ ts) =
-    let last : List ℕ = separator t.kind ∷ [] in
-    added_text (with_token out t) ts ∙ append_assoc out (t.text ++ last) (text_of ts) ∙ ap (λ z. out ++ z) (append_assoc t.text last (text_of ts))
+pub record KeepsBytes (start now : Text) (all left : List ℕ) : Type 0 where
+  pub goes : (end : Text) → Extends now end left → Extends start end all
 
-pub whole_text : (start out : List ℕ) (ts : List Spelling) → start ≡ [] → out ≡ with_tokens start ts → out ≡ text_of ts
-whole_text start out ts e h = h ∙ ap (λ z. with_tokens z ts) e ∙ added_text [] ts
+pub bytes_begun : (a : Text) (bs : List ℕ) → KeepsBytes a a bs bs
+bytes_begun a bs = record { goes = λ end p. p }
+
+pub one_more_doubled : {a o o1 : Text} {all : List ℕ} (xs : List ℕ) (i : ℕ) → i < length xs
+    → KeepsBytes a o all (doubled (drop i xs)) → Extends o o1 (doubled (get_or xs i 0 ∷ [])) → KeepsBytes a o1 all (doubled (drop (i + 1) xs))
+one_more_doubled xs i h k p =
+    let first : doubled (drop i xs) ≡ doubled (get_or xs i 0 ∷ []) ++ doubled (drop (i + 1) xs) = ap doubled (drop_more xs i 0 h) ∙ doubled_first (get_or xs i 0)
+    (drop (i + 1) xs) in
+    record { goes = λ end q. k.goes end (bytes_become (bytes_in_order p q) (sym first)) }
+
+pub none_more_doubled : {a o : Text} {all : List ℕ} (xs : List ℕ) (i : ℕ) → length xs ≤ i → KeepsBytes a o all (doubled (drop i xs)) → Extends a o all
+none_more_doubled {o = o} xs i h k = k.goes o (bytes_become (no_bytes o) (sym (ap doubled (drop_all i xs h))))

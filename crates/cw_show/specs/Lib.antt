@@ -1,3 +1,4 @@
+pub mod Adding
 pub mod Spelling
 pub mod Canonical
 pub mod ExpressionTokens

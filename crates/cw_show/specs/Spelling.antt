@@ -96,12 +96,3 @@ separator _ = 32
 abbrev pub text_of : List Spelling → List ℕ
 text_of [] = []
 text_of (t ∷ ts) = t.text ++ separator t.kind ∷ text_of ts
-
--- the text with one more token
-abbrev pub with_token : List ℕ → Spelling → List ℕ
-with_token out t = out ++ (t.text ++ separator t.kind ∷ [])
-
--- the text with more tokens
-abbrev pub with_tokens : List ℕ → List Spelling → List ℕ
-with_tokens out [] = out
-with_tokens out (t ∷ ts) = with_tokens (with_token out t) ts

@@ -1,5 +1,5 @@
 //! The canonical text of a syntax tree.
-#![tactic(auto, using(crate::proofs::Adding::added_in_order))]
+#![tactic(auto)]
 
 mod expression;
 mod items;
@@ -10,5 +10,6 @@ mod segment;
 mod showing;
 mod statement;
 mod token;
+mod written;
 
 pub use showing::show;

@@ -1,9 +1,10 @@
 //! Single tokens, added to a text with what stands behind them.
-ghost use Rattle.std.specs.Prelude.{◌≡◌, ◌++◌, ◌∷◌, [], OnOk, if◌then◌else◌};
-ghost use Rattle.cw_show.specs.Spelling.{Spelling, word as word_token, symbol as symbol_token, word_text, symbol_text, separator, with_token, with_tokens};
+ghost use Rattle.std.specs.Prelude.{◌≡◌, ◌∷◌, []};
+ghost use Rattle.cw_show.specs.Adding.{Extends, Adds};
+ghost use Rattle.cw_show.specs.Spelling.{word as word_token, symbol as symbol_token, word_text, symbol_text, separator};
 
+use crate::written::{Text, put};
 use cw_lex::{Symbol, TokenKind, Word};
-use cw_word::NoMemory;
 
 fn word_text(word: Word) -> &'static [u8]
     ensures { result.now ≡ word_text word }
@@ -93,38 +94,31 @@ fn separator(kind: TokenKind) -> u8
     }
 }
 
-/// Adds bytes.
-pub fn put(out: &mut Vec<u8>, text: &[u8]) -> Result<(), NoMemory>
-    ensures { OnOk result (out.new.items ≡ out.old.items ++ text.now) }
-{
-    out.extend_from_slice(text).map_err(|_| NoMemory)
-}
-
 /// Adds what stands behind a token of this kind.
-pub fn end_token(out: &mut Vec<u8>, kind: TokenKind) -> Result<(), NoMemory>
-    ensures { OnOk result (out.new.items ≡ out.old.items ++ separator kind ∷ []) }
+pub fn end_token(out: &mut Text, kind: TokenKind)
+    ensures { Extends out.old out.new (separator kind ∷ []) }
 {
-    out.push(separator(kind)).map_err(|_| NoMemory)
+    put(out, &[separator(kind)]);
 }
 
 /// Adds a token.
-pub fn put_token(out: &mut Vec<u8>, kind: TokenKind, text: &[u8]) -> Result<(), NoMemory>
-    ensures { OnOk result (out.new.items ≡ with_token out.old.items (record { kind = kind; text = text.now })) }
+pub fn put_token(out: &mut Text, kind: TokenKind, text: &[u8])
+    ensures { Adds out.old out.new (record { kind = kind; text = text.now } ∷ []) }
 {
-    put(out, text)?;
-    end_token(out, kind)
+    put(out, text);
+    end_token(out, kind);
 }
 
 /// Adds a word.
-pub fn put_word(out: &mut Vec<u8>, word: Word) -> Result<(), NoMemory>
-    ensures { OnOk result (out.new.items ≡ with_token out.old.items (word_token word)) }
+pub fn put_word(out: &mut Text, word: Word)
+    ensures { Adds out.old out.new (word_token word ∷ []) }
 {
-    put_token(out, TokenKind::Word(word), word_text(word))
+    put_token(out, TokenKind::Word(word), word_text(word));
 }
 
 /// Adds a symbol.
-pub fn put_symbol(out: &mut Vec<u8>, symbol: Symbol) -> Result<(), NoMemory>
-    ensures { OnOk result (out.new.items ≡ with_token out.old.items (symbol_token symbol)) }
+pub fn put_symbol(out: &mut Text, symbol: Symbol)
+    ensures { Adds out.old out.new (symbol_token symbol ∷ []) }
 {
-    put_token(out, TokenKind::Symbol(symbol), symbol_text(symbol))
+    put_token(out, TokenKind::Symbol(symbol), symbol_text(symbol));
 }

@@ -8,12 +8,12 @@ use Rattle.cw_grammar.specs.Tokens.{behind}
 use Rattle.cw_grammar.specs.Grammar.{starts, first, a_stmt, a_decl, a_from, a_type, a_data, again, labelled}
 use Rattle.cw_grammar.specs.Rules.{symbol, ◌<*◌}
 use Rattle.cw_grammar.specs.Statements.{decl, singles, arrays}
-use Rattle.cw_grammar.specs.Reading.{Read, Gives, read}
+use Rattle.cw_grammar.specs.Reading.{Read, Gives, Fails, read}
 use Rattle.cw_grammar.specs.Reading.{applied}
 use Rattle.cw_grammar.proofs.Labels.{labels_not_failed, stmt_read, stmt_fails, simple_read, simple_fails}
 use Rattle.cw_grammar.proofs.Flat.{any_levels}
 use Rattle.cw_parse.proofs.Flat.{local_decl_flat}
-use Rattle.cw_parse.proofs.Forms.{simple_named, form_named}
+use Rattle.cw_parse.proofs.Forms.{simple_named, form_read, form_fails}
 use Rattle.cw_parse.proofs.Decls.{outer_singles, outer_arrays, outer_proc, outer_worded, outer_bare, data_ok, data_fails, outer_type_fails, decl_starts}
 use Rattle.cw_parse.proofs.statement.+statement_reader.Goals as goal
 
@@ -98,11 +98,25 @@ read_outer_decl-returns-in_err-kind t c =
 pub read_stmt-returns : goal.read_stmt-returns
 read_stmt-returns t c = rw c.in_ok-form-2.ensures (stmt_read c.args.levels c.args.in_proc (behind c.args.tokens.now c.args.at) (behind c.args.tokens.now c.in_ok-labels.at) (behind c.args.tokens.now c.in_ok-form.at) c.in_ok-labels.labels c.in_ok-form.form c.in_ok-labels.ensures c.in_ok-form.ensures)
 
+pub read_simple-returns-in_err-simple : goal.read_simple-returns-in_err-simple
+read_simple-returns-in_err-simple t c =
+    let p = err_from_is_err_and c.from_residual-in_err-simple.result c.from_residual-in_err-simple.ensures.1 in
+    let P : Read RawSimple → Type 0 = λ o. Fails c.in_err-simple.field-0.0 o in
+    rw (p.1, p.2) (subst P (simple_named c.args.levels c.args.in_proc (behind c.args.tokens.now c.args.at) (behind c.args.tokens.now c.in_ok-name.at) c.in_ok-name.name
+    (sym c.next_is.ensures ∙ c.if-next_is.true) c.in_ok-name.ensures) c.in_err-simple.ensures)
+
 pub read_simple-returns-then-next_is : goal.read_simple-returns-then-next_is
 read_simple-returns-then-next_is t c =
-    let P : Read RawSimple → Type 0 = λ o. Gives (λ x. (x.0, behind c.args.tokens.now x.1)) c.read_simple_behind.result o in
-    subst P (simple_named c.args.levels c.args.in_proc (behind c.args.tokens.now c.args.at) (behind c.args.tokens.now c.in_ok-name.at) c.in_ok-name.name (sym c.next_is.ensures ∙ c.if-next_is.true) c.in_ok-name.ensures) c.read_simple_behind.ensures
+    rw c.in_ok-boxed.ensures (sym (simple_named c.args.levels c.args.in_proc (behind c.args.tokens.now c.args.at) (behind c.args.tokens.now c.in_ok-name.at) c.in_ok-name.name
+    (sym c.next_is.ensures ∙ c.if-next_is.true) c.in_ok-name.ensures) ∙ c.in_ok-simple.ensures)
 
-pub read_form-returns-then-next_is : goal.read_form-returns-then-next_is
-read_form-returns-then-next_is t c =
-    rw c.in_ok-boxed.ensures (form_named c.args.levels c.args.in_proc (behind c.args.tokens.now c.args.at) (behind c.args.tokens.now c.in_ok-name.at) (behind c.args.tokens.now c.in_ok-simple.at) c.in_ok-name.name c.in_ok-simple.simple (sym c.next_is.ensures ∙ c.if-next_is.true) c.in_ok-name.ensures c.in_ok-simple.ensures)
+pub read_form-returns-in_err-simple : goal.read_form-returns-in_err-simple
+read_form-returns-in_err-simple t c =
+    let p = err_from_is_err_and c.from_residual.result c.from_residual.ensures.1 in
+    rw (p.1, p.2) (form_fails c.in_err-simple.field-0.0 c.args.levels c.args.in_proc (behind c.args.tokens.now c.args.at) (sym c.next_is.ensures ∙ c.if-next_is.false)
+    (sym c.next_is-2.ensures ∙ c.if-next_is-2.false) c.in_err-simple.ensures)
+
+pub read_form-returns : goal.read_form-returns
+read_form-returns t c =
+    form_read c.args.levels c.args.in_proc (behind c.args.tokens.now c.args.at) (behind c.args.tokens.now c.in_ok-simple.at) c.in_ok-simple.simple
+    (sym c.next_is.ensures ∙ c.if-next_is.false) (sym c.next_is-2.ensures ∙ c.if-next_is-2.false) c.in_ok-simple.ensures

@@ -51,16 +51,25 @@ abbrev pub decreases-read_stmts-item : goal.decreases-read_stmts-item
 decreases-read_stmts-item l = 100 * l.levels + 6
 
 abbrev pub decreases-read_proc_behind : goal.decreases-read_proc_behind
-decreases-read_proc_behind l = 100 * l.levels + 1
+decreases-read_proc_behind l = 100 * l.levels + 3
 
 abbrev pub decreases-read_outer_decl : goal.decreases-read_outer_decl
-decreases-read_outer_decl l = 100 * l.levels + 2
+decreases-read_outer_decl l = 100 * l.levels + 4
 
 abbrev pub decreases-read_decl : goal.decreases-read_decl
-decreases-read_decl l = 100 * l.levels + 3
+decreases-read_decl l = 100 * l.levels + 5
 
 abbrev pub decreases-read_decls : goal.decreases-read_decls
-decreases-read_decls l = 100 * l.levels + 5
+decreases-read_decls l = 100 * l.levels + 7
 
 abbrev pub decreases-read_decls-item : goal.decreases-read_decls-item
-decreases-read_decls-item l = 100 * l.levels + 4
+decreases-read_decls-item l = 100 * l.levels + 6
+
+abbrev pub decreases-read_branches : goal.decreases-read_branches
+decreases-read_branches l = 100 * l.levels + 6
+
+abbrev pub decreases-read_controlled : goal.decreases-read_controlled
+decreases-read_controlled l = 100 * l.levels + 7
+
+abbrev pub decreases-read_params_and_body : goal.decreases-read_params_and_body
+decreases-read_params_and_body l = 100 * l.levels + 2

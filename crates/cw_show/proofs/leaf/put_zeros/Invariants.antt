@@ -1,5 +1,6 @@
-use Rattle.std.proofs.Common.{◌≡◌, ◌++◌, replicate}
+use Rattle.std.proofs.Common.{replicate}
+use Rattle.cw_show.specs.Adding.{Extends}
 use Rattle.cw_show.proofs.leaf.put_zeros.Given as goal
 
 abbrev pub invariant-loop : goal.invariant-loop
-invariant-loop l = l.out.items ≡ l.initial.out.items ++ replicate l.counter 48
+invariant-loop l = Extends l.initial.out l.out (replicate l.counter 48)

@@ -1,66 +1,109 @@
-use Rattle.std.proofs.Common.{ap, ap₂, sym, ◌∙◌, ◌++◌}
-use Rattle.std.proofs.lemmas.Result.{on_ok_weaker}
-use Rattle.cw_tree.specs.declared.statement.RawStmt.{out-RawStmt}
-use Rattle.cw_tree.specs.declared.statement.RawProc.{out-RawProc}
-use Rattle.cw_show.specs.Spelling.{with_tokens}
+use Rattle.std.proofs.Common.{refl, sym}
+use Rattle.cw_tree.proofs.Statements.{of_declaration-Data, of_declaration-Overlay, of_declaration-Proc, of_declaration-Switch, of_form-For, of_form-If-None, of_form-If-Some, of_form-Simple, of_simple-Answer, of_simple-Assign, of_simple-AssignBits, of_simple-Block, of_simple-Call, of_simple-Empty, of_simple-Goto, of_simple-GotoSwitch}
 use Rattle.cw_show.specs.Canonical.{semicolon}
-use Rattle.cw_show.specs.StatementTokens.{decl_tokens, stmt_tokens, labels_tokens, form_tokens, head_tokens}
-use Rattle.cw_show.proofs.Adding.{all_between, one_more_behind, behind_first}
-use Rattle.cw_show.proofs.StatementLayers.{two_parts, one_more_ended, block_added, if_alone_added, if_else_added, for_added, stmt-layer, proc-layer}
+use Rattle.cw_show.specs.StatementTokens.{decl_tokens, stmt_tokens}
+use Rattle.cw_show.proofs.Adding.{nothing, in_order, becomes, begun, one_more_behind, none_between, all_between, one_more_ended, none_more_ended, behind_first}
+use Rattle.cw_show.proofs.StatementLayers.{steps, block-layer, proc-layer, stmt-layer}
 use Rattle.cw_show.proofs.statement.+statement.Goals as goal
+
+pub put_stmt-returns : goal.put_stmt-returns
+put_stmt-returns t c = becomes (in_order c.put_labels.ensures c.put_form.ensures) (rw (c.as_slice.ensures, c.get.ensures) (sym (stmt-layer c.args.stmt.now)))
+
+pub put_form-returns-in-Simple : goal.put_form-returns-in-Simple
+put_form-returns-in-Simple t c = becomes c.put_simple.ensures (rw (c.in-Simple.is, c.get.ensures) (sym (of_form-Simple steps c.in-Simple.simple)))
+
+pub put_form-returns-in-None : goal.put_form-returns-in-None
+put_form-returns-in-None t c = becomes (in_order c.put_word.ensures (in_order c.put_cond.ensures
+    (in_order c.put_word-in-If.ensures (in_order c.put_labels.ensures (in_order c.put_simple-in-If.ensures (nothing c.put_simple-in-If.new.out))))))
+    (rw (c.in-If.is, c.get-in-If.ensures, c.as_slice.ensures, c.get-in-If-2.ensures, c.in-None.is)
+    (sym (of_form-If-None steps c.in-If.at c.in-If.test c.in-If.labels c.in-If.first)))
+
+pub put_form-returns-in-Some : goal.put_form-returns-in-Some
+put_form-returns-in-Some t c = becomes (in_order c.put_word.ensures (in_order c.put_cond.ensures
+    (in_order c.put_word-in-If.ensures (in_order c.put_labels.ensures (in_order c.put_simple-in-If.ensures c.put_else.ensures)))))
+    (rw (c.in-If.is, c.get-in-If.ensures, c.as_slice.ensures, c.get-in-If-2.ensures, c.in-Some.is, c.get-in-Some.ensures)
+    (sym (of_form-If-Some steps c.in-If.at c.in-If.test c.in-If.labels c.in-If.first c.in-Some.second)))
+
+pub put_form-returns-in-For : goal.put_form-returns-in-For
+put_form-returns-in-For t c = becomes (in_order c.put_control.ensures c.put_stmt.ensures)
+    (rw (c.in-For.is, c.get-in-For.ensures, c.as_slice-in-For.ensures, c.get-in-For-2.ensures) (sym (of_form-For steps c.in-For.at c.in-For.variable c.in-For.elems c.in-For.body)))
+
+pub put_else-returns : goal.put_else-returns
+put_else-returns t c = in_order c.put_word.ensures c.put_stmt.ensures
+
+pub put_simple-returns-in-Empty : goal.put_simple-returns-in-Empty
+put_simple-returns-in-Empty t c = becomes (nothing c.args.out.now) (rw c.in-Empty.is (sym (of_simple-Empty steps)))
+
+pub put_simple-returns-in-Assign : goal.put_simple-returns-in-Assign
+put_simple-returns-in-Assign t c = becomes c.put_assignment.ensures (rw (c.in-Assign.is, c.get.ensures, c.get-in-Assign.ensures)
+    (sym (of_simple-Assign steps c.in-Assign.place c.in-Assign.value)))
+
+pub put_simple-returns-in-AssignBits : goal.put_simple-returns-in-AssignBits
+put_simple-returns-in-AssignBits t c = becomes (in_order c.put_bits.ensures c.put_assignment-in-AssignBits.ensures)
+    (rw (c.in-AssignBits.is, c.get-in-AssignBits.ensures, c.get-in-AssignBits-2.ensures, c.get-in-AssignBits-3.ensures)
+    (sym (of_simple-AssignBits steps c.in-AssignBits.bits c.in-AssignBits.place c.in-AssignBits.value)))
+
+pub put_simple-returns-in-Goto : goal.put_simple-returns-in-Goto
+put_simple-returns-in-Goto t c = becomes (in_order c.put_word.ensures c.put_name.ensures) (rw c.in-Goto.is (sym (of_simple-Goto steps c.in-Goto.field-0 c.in-Goto.label)))
+
+pub put_simple-returns-in-GotoSwitch : goal.put_simple-returns-in-GotoSwitch
+put_simple-returns-in-GotoSwitch t c = becomes (in_order c.put_word-in-GotoSwitch.ensures (in_order c.put_name-in-GotoSwitch.ensures c.put_index.ensures))
+    (rw (c.in-GotoSwitch.is, c.get-in-GotoSwitch.ensures) (sym (of_simple-GotoSwitch steps c.in-GotoSwitch.field-0 c.in-GotoSwitch.switch c.in-GotoSwitch.index)))
+
+pub put_simple-returns-in-Call : goal.put_simple-returns-in-Call
+put_simple-returns-in-Call t c = becomes (in_order c.put_name-in-Call.ensures c.put_call.ensures)
+    (rw (c.in-Call.is, c.as_slice.ensures) (sym (of_simple-Call steps c.in-Call.name c.in-Call.arguments)))
+
+pub put_simple-returns-in-Answer : goal.put_simple-returns-in-Answer
+put_simple-returns-in-Answer t c = becomes (in_order c.put_word-in-Answer.ensures c.put_expr.ensures)
+    (rw (c.in-Answer.is, c.get-in-Answer.ensures) (sym (of_simple-Answer steps c.in-Answer.field-0 c.in-Answer.value)))
+
+pub put_simple-returns-in-Block : goal.put_simple-returns-in-Block
+put_simple-returns-in-Block t c = becomes c.put_block.ensures (rw (c.in-Block.is, c.get-in-Block.ensures) (sym (of_simple-Block steps c.in-Block.block)))
+
+pub put_block-returns : goal.put_block-returns
+put_block-returns t c = becomes (in_order c.put_word.ensures (in_order c.put_decls.ensures (in_order c.put_stmts.ensures c.put_word-2.ensures)))
+    (rw (c.as_slice.ensures, c.as_slice-2.ensures) (sym (block-layer c.args.block.now)))
+
+pub put_decl-returns-in-Data : goal.put_decl-returns-in-Data
+put_decl-returns-in-Data t c = becomes c.put_data.ensures (rw c.in-Data.is (sym (of_declaration-Data steps c.in-Data.data)))
+
+pub put_decl-returns-in-Overlay : goal.put_decl-returns-in-Overlay
+put_decl-returns-in-Overlay t c = becomes c.put_overlay.ensures (rw c.in-Overlay.is (sym (of_declaration-Overlay steps c.in-Overlay.field-0 c.in-Overlay.base c.in-Overlay.data)))
+
+pub put_decl-returns-in-Switch : goal.put_decl-returns-in-Switch
+put_decl-returns-in-Switch t c = becomes c.put_switch.ensures (rw (c.in-Switch.is, c.as_slice.ensures)
+    (sym (of_declaration-Switch steps c.in-Switch.field-0 c.in-Switch.name c.in-Switch.goals)))
+
+pub put_decl-returns-in-Proc : goal.put_decl-returns-in-Proc
+put_decl-returns-in-Proc t c = becomes c.put_proc.ensures (rw (c.in-Proc.is, c.get.ensures) (sym (of_declaration-Proc steps c.in-Proc.proc)))
+
+pub put_proc-returns : goal.put_proc-returns
+put_proc-returns t c = becomes (in_order c.put_head.ensures c.put_stmt.ensures) (rw (c.as_slice.ensures, c.get.ensures) (sym (proc-layer c.args.proc.now)))
+
+pub put_stmts-returns-in-empty : goal.put_stmts-returns-in-empty
+put_stmts-returns-in-empty t c = none_between semicolon stmt_tokens c.args.stmts.now c.args.stmts.now c.args.out.now refl refl c.in-empty.len_below
+
+pub put_stmts-loop-stmt-init : goal.put_stmts-loop-stmt-init
+put_stmts-loop-stmt-init t c = begun _ _
 
 pub put_stmts-loop-stmt-preserved : goal.put_stmts-loop-stmt-preserved
 put_stmts-loop-stmt-preserved t c =
-    one_more_behind semicolon stmt_tokens (behind_first c.args.stmts.now) c.loop-stmt.stmt-index c.stmt-item.result c.loop-stmt.out.items c.put_symbol.new.out.items c.put_stmt-in-loop-stmt.new.out.items _
-    c.loop-stmt-test.true c.stmt-item.is c.in_ok-put_symbol-in-len1-up.ensures c.in_ok-put_stmt-in-len1-up-2.ensures c.loop-stmt.invariant
+    one_more_behind semicolon stmt_tokens (behind_first c.args.stmts.now) c.loop-stmt.stmt-index c.stmt-item.result
+    c.loop-stmt-test.true c.stmt-item.is c.loop-stmt.invariant c.put_symbol.ensures c.put_stmt-in-loop-stmt.ensures
 
 pub put_stmts-returns-after-loop-stmt : goal.put_stmts-returns-after-loop-stmt
 put_stmts-returns-after-loop-stmt t c =
-    all_between semicolon stmt_tokens c.args.stmts.now c.first-item.result c.loop-stmt.stmt-index c.args.out.now.items c.put_stmt.new.out.items c.loop-stmt.out.items
-    c.in-len1-up.len_at_least c.first-item.is c.loop-stmt-test.false c.in_ok-put_stmt-in-len1-up.ensures c.loop-stmt.invariant
+    all_between semicolon stmt_tokens c.args.stmts.now c.args.stmts.now c.first-item.result c.loop-stmt.stmt-index
+    refl refl c.in-len1-up.len_at_least c.first-item.is c.loop-stmt-test.false c.put_stmt.ensures c.loop-stmt.invariant
 
-pub put_stmt-returns : goal.put_stmt-returns
-put_stmt-returns t c =
-    on_ok_weaker c.put_form.result
-    (λ e. two_parts (labels_tokens c.as_slice.result.now) (form_tokens c.get.result.now) c.args.out.now.items c.put_labels.new.out.items c.put_form.new.out.items c.in_ok-put_labels.ensures e
-    ∙ ap₂ (λ a b. with_tokens c.args.out.now.items (labels_tokens a ++ form_tokens b)) c.as_slice.ensures c.get.ensures ∙ ap (with_tokens c.args.out.now.items) (sym (stmt-layer c.args.stmt.now)))
-    c.put_form.ensures
+pub put_decls-loop-decl-init : goal.put_decls-loop-decl-init
+put_decls-loop-decl-init t c = begun _ _
 
 pub put_decls-loop-decl-preserved : goal.put_decls-loop-decl-preserved
 put_decls-loop-decl-preserved t c =
-    one_more_ended decl_tokens c.args.decls.now c.loop-decl.decl-index c.decl-item.result c.loop-decl.out.items c.put_decl.new.out.items c.put_symbol.new.out.items _
-    c.loop-decl-test.true c.decl-item.is c.in_ok-put_decl.ensures c.in_ok-put_symbol.ensures c.loop-decl.invariant
+    one_more_ended decl_tokens c.args.decls.now c.loop-decl.decl-index c.decl-item.result
+    c.loop-decl-test.true c.decl-item.is c.loop-decl.invariant c.put_decl.ensures c.put_symbol.ensures
 
-pub put_block-returns : goal.put_block-returns
-put_block-returns t c =
-    on_ok_weaker c.put_word-2.result
-    (block_added c.args.block.now c.as_slice.result.now c.as_slice-2.result.now c.args.out.now.items c.put_word.new.out.items c.put_decls.new.out.items c.put_stmts.new.out.items c.put_word-2.new.out.items
-    c.as_slice.ensures c.as_slice-2.ensures c.in_ok-put_word.ensures c.in_ok-put_decls.ensures c.in_ok-put_stmts.ensures)
-    c.put_word-2.ensures
-
-pub put_form-returns-in-None : goal.put_form-returns-in-None
-put_form-returns-in-None t c =
-    if_alone_added c.args.form.now c.in-If.at c.in-If.test c.get-in-If.result.now c.in-If.labels c.as_slice.result.now c.in-If.first c.get-in-If-2.result.now c.in-If.second c.args.out.now.items c.put_word.new.out.items c.put_cond.new.out.items c.put_word-in-If.new.out.items c.put_labels.new.out.items c.put_simple-in-If.new.out.items
-    c.in-If.is c.in-None.is c.get-in-If.ensures c.as_slice.ensures c.get-in-If-2.ensures c.in_ok-put_word-in-If.ensures c.in_ok-put_cond-in-If.ensures c.in_ok-put_word-in-If-2.ensures c.in_ok-put_labels-in-If.ensures c.in_ok-put_simple-in-If.ensures
-
-pub put_form-returns-in-Some : goal.put_form-returns-in-Some
-put_form-returns-in-Some t c =
-    on_ok_weaker c.put_else.result
-    (if_else_added c.args.form.now c.in-If.at c.in-If.test c.get-in-If.result.now c.in-If.labels c.as_slice.result.now c.in-If.first c.get-in-If-2.result.now c.in-If.second c.in-Some.second c.get-in-Some.result.now c.args.out.now.items c.put_word.new.out.items c.put_cond.new.out.items c.put_word-in-If.new.out.items c.put_labels.new.out.items c.put_simple-in-If.new.out.items c.put_else.new.out.items
-    c.in-If.is c.in-Some.is c.get-in-If.ensures c.as_slice.ensures c.get-in-If-2.ensures c.get-in-Some.ensures c.in_ok-put_word-in-If.ensures c.in_ok-put_cond-in-If.ensures c.in_ok-put_word-in-If-2.ensures c.in_ok-put_labels-in-If.ensures c.in_ok-put_simple-in-If.ensures)
-    c.put_else.ensures
-
-pub put_form-returns-in_ok-put_control-in-For : goal.put_form-returns-in_ok-put_control-in-For
-put_form-returns-in_ok-put_control-in-For t c =
-    on_ok_weaker c.put_stmt.result
-    (for_added c.args.form.now c.in-For.at c.in-For.variable c.get-in-For.result.now c.in-For.elems c.as_slice-in-For.result.now c.in-For.body c.get-in-For-2.result.now c.args.out.now.items c.put_control.new.out.items c.put_stmt.new.out.items
-    c.in-For.is c.get-in-For.ensures c.as_slice-in-For.ensures c.get-in-For-2.ensures c.in_ok-put_control-in-For.ensures)
-    c.put_stmt.ensures
-
-pub put_proc-returns : goal.put_proc-returns
-put_proc-returns t c =
-    let p = out-RawProc c.args.proc.now in
-    on_ok_weaker c.put_stmt.result
-    (λ e. two_parts (head_tokens p.answer p.tag p.name c.as_slice.result.now) (stmt_tokens c.get.result.now) c.args.out.now.items c.put_head.new.out.items c.put_stmt.new.out.items c.in_ok-put_head.ensures e
-    ∙ ap₂ (λ a b. with_tokens c.args.out.now.items (head_tokens p.answer p.tag p.name a ++ stmt_tokens b)) c.as_slice.ensures c.get.ensures ∙ ap (with_tokens c.args.out.now.items) (sym (proc-layer c.args.proc.now)))
-    c.put_stmt.ensures
+pub put_decls-returns : goal.put_decls-returns
+put_decls-returns t c = none_more_ended decl_tokens c.args.decls.now c.loop-decl.decl-index c.loop-decl-test.false c.loop-decl.invariant
