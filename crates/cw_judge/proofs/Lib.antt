@@ -1,1 +1,4 @@
+mod Counting
+mod Forms
 mod Joining
+mod Presets

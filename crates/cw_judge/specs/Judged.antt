@@ -35,7 +35,7 @@ use Rattle.cw_items.specs.declared.families.Site.{Site}
 use Rattle.cw_items.specs.declared.thing.Thing.{Thing}
 use Rattle.cw_items.specs.Families.{things_judged, nothing_known, all_known}
 use Rattle.cw_items.specs.Things.{text_things}
-use Rattle.cw_judge.specs.Declared.{declared_judged, overlaid_judged, common_overlaid_judged}
+use Rattle.cw_judge.specs.Declarations.{declared_judged, overlaid_judged, common_overlaid_judged}
 use Rattle.cw_judge.specs.Operators.{expression_operators, condition_operators, reference_operators, few_operators, few_each}
 
 -- ---- an expression that is no part of another: it is evaluated at a scale, and has at most 1,024 operators

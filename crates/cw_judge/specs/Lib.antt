@@ -1,3 +1,3 @@
 pub mod Operators
-pub mod Declared
+pub mod Declarations
 pub mod Judged

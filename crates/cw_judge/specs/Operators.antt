@@ -1,7 +1,7 @@
 -- The operators of an expression or condition, those inside its brackets, arguments and indexes among them, in order of the text: `+`, `-`,
 -- `*`, `/`, comparisons, AND, OR, MASK, UNION, DIFFER and BITS. There are at most 1,024.
 -- The limit is this project's profile.
-use Rattle.std.specs.Prelude.{ℕ, List, [], ◌∷◌, ◌++◌, map, Option, Some, None, slice_get}
+use Rattle.std.specs.Prelude.{ℕ, zero, suc, List, [], ◌∷◌, ◌++◌, map, Option, Some, None, slice_get}
 use Rattle.cw_tree.specs.declared.leaf.Position.{Position}
 use Rattle.cw_tree.specs.declared.leaf.RawSign.{RawSign}
 use Rattle.cw_tree.specs.declared.leaf.RawFactorSign.{RawFactorSign}
@@ -24,6 +24,8 @@ use Rattle.cw_tree.specs.declared.expression.RawTerm.{RawTerm, fold-RawTerm}
 use Rattle.cw_tree.specs.declared.expression.RawUnion.{RawUnion, fold-RawUnion}
 use Rattle.cw_scale.specs.declared.fault.Rule.TheVariants as rule
 use Rattle.cw_scale.specs.Faults.{Judgement, fine, wrong, both}
+use Rattle.cw_judge.specs.declared.operators.Tally.{Tally}
+use Rattle.cw_judge.specs.declared.operators.Tally.TheVariants as tally
 
 abbrev pub Places : Type 0
 Places = List Position
@@ -178,3 +180,27 @@ few_operators operators = too_many_if (slice_get operators 1024)
 abbrev pub few_each : List Places → Judgement
 few_each [] = fine
 few_each (x ∷ xs) = both (few_operators x) (few_each xs)
+
+-- ---- the same counted one by one: how many may still come, or the first that is one too many
+
+abbrev pub one_counted : Position → Tally → Tally
+one_counted at (tally.TooMany extra) = tally.TooMany extra
+one_counted at (tally.Left zero) = tally.TooMany at
+one_counted at (tally.Left (suc left)) = tally.Left left
+
+abbrev pub counted : Places → Tally → Tally
+counted [] t = t
+counted (at ∷ rest) t = counted rest (one_counted at t)
+
+-- the operator behind an operand, if there is one, and those behind it
+abbrev pub first_if : Places → Places
+first_if [] = []
+first_if (o ∷ os) = o ∷ []
+
+abbrev pub others : {A : Type 0} → List A → List A
+others [] = []
+others (x ∷ xs) = xs
+
+abbrev pub tally_judged : Tally → Judgement
+tally_judged (tally.Left left) = fine
+tally_judged (tally.TooMany at) = wrong rule.TooMany at

@@ -1,8 +1,8 @@
 //! Declared data with its presets, and what is overlaid.
 ghost use Rattle.std.specs.Prelude.{◌≡◌};
 ghost use Rattle.cw_table.specs.Rows.{item_at};
-ghost use Rattle.cw_judge.specs.Declared.{is_framed, names_framed, groups_framed, frame_judged, places_of, one_kind, presets_judged, declared_judged};
-ghost use Rattle.cw_judge.specs.Declared.{stands_in_common, common_base_judged, overlaid_judged, common_overlaid_judged};
+ghost use Rattle.cw_judge.specs.Declarations.{is_framed, names_framed, groups_framed, frame_judged, places_of, one_kind, presets_judged, declared_judged};
+ghost use Rattle.cw_judge.specs.Declarations.{stands_in_common, common_base_judged, overlaid_judged, common_overlaid_judged};
 
 use cw_data::data::judge_data;
 use cw_data::overlays::{judge_base, name_of};
@@ -80,22 +80,14 @@ fn judge_presets(sites: &Table<Site>, items: &RawData, first: &mut Option<Fault>
 {
     match items {
         RawData::Singles(scale, names, presets) => {
-            judge_singles_preset(
-                names.as_slice(),
-                places_of(presets),
-                fraction_of(scale),
-                first,
-            );
-            judge_frame(names_framed(sites, names.as_slice()), presets, first);
+            let names = names.as_slice();
+            judge_singles_preset(names, places_of(presets), fraction_of(scale), first);
+            judge_frame(names_framed(sites, names), presets, first);
         }
         RawData::Arrays(scale, groups, presets) => {
-            judge_arrays_preset(
-                groups.as_slice(),
-                places_of(presets),
-                fraction_of(scale),
-                first,
-            );
-            judge_frame(groups_framed(sites, groups.as_slice()), presets, first);
+            let groups = groups.as_slice();
+            judge_arrays_preset(groups, places_of(presets), fraction_of(scale), first);
+            judge_frame(groups_framed(sites, groups), presets, first);
         }
         RawData::Table(table, inside, behind) => {
             let framed = is_framed(sites, table.name.at.token);

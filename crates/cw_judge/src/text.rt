@@ -78,68 +78,50 @@ pub fn absolute_addresses(alloc: Global, lists: &[RawComm]) -> Result<Table<u32>
 
 // ---- communicators
 
-fn judge_citem(
-    named: &Named,
-    sites: &Table<Site>,
-    absolute: &Table<u32>,
-    item: &RawCitem,
-    first: &mut Option<Fault>,
-)
-    ensures { first.new ≡ citem_judged named.now sites.now absolute.now item.now first.old }
+// What a communicator is judged by: the names, where things stand, and what stands at an address of its own.
+#[derive(Clone, Copy)]
+struct Grounds<'a> {
+    named: &'a Named<'a>,
+    sites: &'a Table<Site>,
+    absolute: &'a Table<u32>,
+}
+
+fn judge_citem(by: Grounds, item: &RawCitem, first: &mut Option<Fault>)
+    ensures { first.new ≡ citem_judged by.entry.named.now by.entry.sites.now by.entry.absolute.now item.now first.old }
 {
     match item {
-        RawCitem::Data(items) => judge_declared(sites, items, first),
+        RawCitem::Data(items) => judge_declared(by.sites, items, first),
         RawCitem::Overlay(_, base, items) => {
-            judge_common_overlaid(named, sites, absolute, base, items, first);
+            judge_common_overlaid(by.named, by.sites, by.absolute, base, items, first);
         }
         RawCitem::Label(..) | RawCitem::Switch(..) => {}
         RawCitem::Spec(spec) => judge_spec(spec, first),
     }
 }
 
-fn judge_citems(
-    named: &Named,
-    sites: &Table<Site>,
-    absolute: &Table<u32>,
-    items: &[RawCitem],
-    first: &mut Option<Fault>,
-)
-    ensures { first.new ≡ citems_judged named.now sites.now absolute.now items.now first.old }
+fn judge_citems(by: Grounds, items: &[RawCitem], first: &mut Option<Fault>)
+    ensures { first.new ≡ citems_judged by.entry.named.now by.entry.sites.now by.entry.absolute.now items.now first.old }
 {
     for item in items {
-        judge_citem(named, sites, absolute, item, first);
+        judge_citem(by, item, first);
     }
 }
 
-fn judge_communicator(
-    named: &Named,
-    sites: &Table<Site>,
-    absolute: &Table<u32>,
-    list: &RawComm,
-    first: &mut Option<Fault>,
-)
-    ensures { first.new ≡ communicator_judged named.now sites.now absolute.now list.now first.old }
+fn judge_communicator(by: Grounds, list: &RawComm, first: &mut Option<Fault>)
+    ensures { first.new ≡ communicator_judged by.entry.named.now by.entry.sites.now by.entry.absolute.now list.now first.old }
 {
     match list {
-        RawComm::Common(_, items) => {
-            judge_citems(named, sites, absolute, items.as_slice(), first);
-        }
+        RawComm::Common(_, items) => judge_citems(by, items.as_slice(), first),
         RawComm::Library(_, specs) => judge_specs(specs.as_slice(), first),
         RawComm::Absolute(_, items) => judge_aitems(items.as_slice(), first),
     }
 }
 
-fn judge_communicators(
-    named: &Named,
-    sites: &Table<Site>,
-    absolute: &Table<u32>,
-    lists: &[RawComm],
-    first: &mut Option<Fault>,
-)
-    ensures { first.new ≡ communicators_judged named.now sites.now absolute.now lists.now first.old }
+fn judge_communicators(by: Grounds, lists: &[RawComm], first: &mut Option<Fault>)
+    ensures { first.new ≡ communicators_judged by.entry.named.now by.entry.sites.now by.entry.absolute.now lists.now first.old }
 {
     for list in lists {
-        judge_communicator(named, sites, absolute, list, first);
+        judge_communicator(by, list, first);
     }
 }
 
@@ -151,14 +133,13 @@ fn judge_stored(alloc: Global, named: &Named, things: &[Thing]) -> Result<Option
     let known = judge_things(alloc, things, &mut first)?;
     let absolute = absolute_addresses(alloc, named.raw.comms.as_slice())?;
     let sites = known.sites();
-    judge_communicators(
-        named,
-        sites,
-        &absolute,
-        named.raw.comms.as_slice(),
-        &mut first,
-    );
-    judge_block(alloc, &named.raw.block, named, sites, &mut first)?;
+    let by = Grounds {
+        named: &*named,
+        sites: &*sites,
+        absolute: &absolute,
+    };
+    judge_communicators(by, named.raw.comms.as_slice(), &mut first);
+    judge_block(&named.raw.block, named, sites, &mut first);
     Ok(first)
 }
 

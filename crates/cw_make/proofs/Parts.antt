@@ -168,5 +168,3 @@ module _ (named : Named) (numbers : Numbers) where
 
 pub nothing_more : (procs o : Procs) → procs ≡ [] → o ≡ o ++ procs
 nothing_more procs o none = sym (append-nil o) ∙ ap (λ l. o ++ l) (sym none)
-
-pub ruleset parts = (of_proc, of_simple_form, of_if, of_if_else, of_for, of_inner_block, of_procedure, of_statement)

@@ -7,100 +7,81 @@ ghost use Rattle.cw_number.specs.things.Things.{is_recursive};
 
 use cw_make_items::lookup::{control_here, item_here};
 use cw_make_items::types::{answer_of, plain_spec, scale_of, width_of};
-use cw_make_stmt::statements::statement_of;
-use cw_number::numbered::Numbered;
-use cw_scope::resolve::Named;
-use cw_table::table::Table;
+use cw_make_stmt::statements::{Source, statement_of};
 use cw_tree::leaf::RawName;
 use cw_tree::statement::{
     RawBlock, RawDecl, RawForm, RawParam, RawProc, RawPtag, RawSimple, RawStmt,
 };
 use cw_unit::unit::{Param, Proc};
 use cw_word::{List, NoMemory};
-use std::alloc::Global;
 
-fn param_of(
-    alloc: Global,
-    numbers: &Table<Numbered>,
-    param: &RawParam,
-    name: &RawName,
-) -> Result<Param, NoMemory>
-    ensures { IfOk result (λ p. p ≡ param_of numbers.now param.now name.now) }
+fn param_of(text: Source, param: &RawParam, name: &RawName) -> Result<Param, NoMemory>
+    ensures { IfOk result (λ p. p ≡ param_of text.entry.numbers.now param.now name.now) }
 {
     let token = name.at.token;
     match param {
         RawParam::Value(_, scale, _) => {
-            Ok(Param::Value(item_here(numbers, token), scale_of(scale)))
+            Ok(Param::Value(item_here(text.numbers, token), scale_of(scale)))
         }
         RawParam::Location(_, scale, _) => {
-            Ok(Param::Location(item_here(numbers, token), scale_of(scale)))
+            Ok(Param::Location(item_here(text.numbers, token), scale_of(scale)))
         }
         RawParam::Array(scale, _) => {
-            Ok(Param::Array(item_here(numbers, token), scale_of(scale)))
+            Ok(Param::Array(item_here(text.numbers, token), scale_of(scale)))
         }
         RawParam::Table(table) => {
-            Ok(Param::Table(item_here(numbers, token), width_of(&table.size)))
+            Ok(Param::Table(item_here(text.numbers, token), width_of(&table.size)))
         }
-        RawParam::Label(..) => Ok(Param::Label(control_here(numbers, token))),
-        RawParam::Switch(..) => Ok(Param::Switch(control_here(numbers, token))),
+        RawParam::Label(..) => Ok(Param::Label(control_here(text.numbers, token))),
+        RawParam::Switch(..) => Ok(Param::Switch(control_here(text.numbers, token))),
         RawParam::Proc(answer, _, _, params) => {
-            let spec = plain_spec(alloc, answer, params.as_slice())?;
-            Ok(Param::Proc(control_here(numbers, token), spec))
+            let spec = plain_spec(text.alloc, answer, params.as_slice())?;
+            Ok(Param::Proc(control_here(text.numbers, token), spec))
         }
     }
 }
 
 fn each_param(
-    alloc: Global,
-    numbers: &Table<Numbered>,
+    text: Source,
     param: &RawParam,
     names: &[RawName],
     out: &mut List<Param>,
 ) -> Result<(), NoMemory>
-    ensures { OnOk result (out.new ≡ out.old ++ each_param numbers.now param.now names.now) }
+    ensures { OnOk result (out.new ≡ out.old ++ each_param text.entry.numbers.now param.now names.now) }
 {
     for name in names {
-        let one = param_of(alloc, numbers, param, name)?;
+        let one = param_of(text, param, name)?;
         out.push(one)?;
     }
     Ok(())
 }
 
-fn params_in(
-    alloc: Global,
-    numbers: &Table<Numbered>,
-    param: &RawParam,
-    out: &mut List<Param>,
-) -> Result<(), NoMemory>
-    ensures { OnOk result (out.new ≡ out.old ++ params_in numbers.now param.now) }
+fn params_in(text: Source, param: &RawParam, out: &mut List<Param>) -> Result<(), NoMemory>
+    ensures { OnOk result (out.new ≡ out.old ++ params_in text.entry.numbers.now param.now) }
 {
     match param {
-        RawParam::Value(_, _, names) => each_param(alloc, numbers, param, names.as_slice(), out),
-        RawParam::Location(_, _, names) => each_param(alloc, numbers, param, names.as_slice(), out),
-        RawParam::Array(_, names) => each_param(alloc, numbers, param, names.as_slice(), out),
+        RawParam::Value(_, _, names) => each_param(text, param, names.as_slice(), out),
+        RawParam::Location(_, _, names) => each_param(text, param, names.as_slice(), out),
+        RawParam::Array(_, names) => each_param(text, param, names.as_slice(), out),
         RawParam::Table(table) => {
-            let one = param_of(alloc, numbers, param, &table.name)?;
+            let one = param_of(text, param, &table.name)?;
             out.push(one)
         }
-        RawParam::Label(_, names) => each_param(alloc, numbers, param, names.as_slice(), out),
-        RawParam::Switch(_, names) => each_param(alloc, numbers, param, names.as_slice(), out),
+        RawParam::Label(_, names) => each_param(text, param, names.as_slice(), out),
+        RawParam::Switch(_, names) => each_param(text, param, names.as_slice(), out),
         RawParam::Proc(_, _, name, _) => {
-            let one = param_of(alloc, numbers, param, name)?;
+            let one = param_of(text, param, name)?;
             out.push(one)
         }
     }
 }
 
-fn params_of(
-    alloc: Global,
-    numbers: &Table<Numbered>,
-    params: &[RawParam],
-) -> Result<List<Param>, NoMemory>
-    ensures { IfOk result (λ all. all ≡ params_of numbers.now params.now) }
+fn params_of(text: Source, params: &[RawParam]) -> Result<List<Param>, NoMemory>
+    ensures { IfOk result (λ all. all ≡ params_of text.entry.numbers.now params.now) }
 {
-    let mut all = List::new(alloc);
+    let mut all = List::new(text.alloc);
     for param in params {
-        params_in(alloc, numbers, param, &mut all)?;
+        params_in(text, param, &mut all)?;
     }
     Ok(all)
 }
@@ -138,17 +119,12 @@ fn is_recursive(tag: &RawPtag) -> bool
     }
 }
 
-fn proc_of(
-    alloc: Global,
-    named: &Named,
-    numbers: &Table<Numbered>,
-    p: &RawProc,
-) -> Result<Proc, NoMemory>
-    ensures { IfOk result (λ q. q ≡ proc_of named.now numbers.now p.now) }
+fn proc_of(text: Source, p: &RawProc) -> Result<Proc, NoMemory>
+    ensures { IfOk result (λ q. q ≡ proc_of text.entry.named.now text.entry.numbers.now p.now) }
 {
-    let params = params_of(alloc, numbers, p.params.as_slice())?;
+    let params = params_of(text, p.params.as_slice())?;
     let specials = controls(params.as_slice());
-    let body = statement_of(alloc, named, numbers, p.body.get())?;
+    let body = statement_of(text, p.body.get())?;
     Ok(Proc {
         name: p.name.name,
         answer: answer_of(&p.answer),
@@ -160,135 +136,78 @@ fn proc_of(
 }
 
 #[cycle(procedures)]
-#[tactic(auto, using(crate::proofs::Parts::parts))]
-fn statement_procs(
-    alloc: Global,
-    s: &RawStmt,
-    named: &Named,
-    numbers: &Table<Numbered>,
-    out: &mut List<Proc>,
-) -> Result<(), NoMemory>
-    ensures { OnOk result (out.new ≡ out.old ++ statement_procs named.now numbers.now s.now) }
+fn statement_procs(s: &RawStmt, text: Source, out: &mut List<Proc>) -> Result<(), NoMemory>
+    ensures { OnOk result (out.new ≡ out.old ++ statement_procs text.entry.named.now text.entry.numbers.now s.now) }
 {
-    form_procs(alloc, s.form.get(), named, numbers, out)
+    form_procs(s.form.get(), text, out)
 }
 
 #[cycle(procedures)]
-#[tactic(auto, using(crate::proofs::Parts::parts))]
-fn form_procs(
-    alloc: Global,
-    form: &RawForm,
-    named: &Named,
-    numbers: &Table<Numbered>,
-    out: &mut List<Proc>,
-) -> Result<(), NoMemory>
-    ensures { OnOk result (out.new ≡ out.old ++ form_procs named.now numbers.now form.now) }
+fn form_procs(form: &RawForm, text: Source, out: &mut List<Proc>) -> Result<(), NoMemory>
+    ensures { OnOk result (out.new ≡ out.old ++ form_procs text.entry.named.now text.entry.numbers.now form.now) }
 {
     match form {
-        RawForm::Simple(s) => simple_procs(alloc, s.get(), named, numbers, out),
-        RawForm::If {
-            at: _,
-            test: _,
-            labels: _,
-            first,
-            second,
-        } => {
-            simple_procs(alloc, first.get(), named, numbers, out)?;
+        RawForm::Simple(s) => simple_procs(s.get(), text, out),
+        RawForm::If { first, second, .. } => {
+            simple_procs(first.get(), text, out)?;
             match second {
                 None => Ok(()),
-                Some(s) => statement_procs(alloc, s.get(), named, numbers, out),
+                Some(s) => statement_procs(s.get(), text, out),
             }
         }
-        RawForm::For {
-            at: _,
-            variable: _,
-            elems: _,
-            body,
-        } => statement_procs(alloc, body.get(), named, numbers, out),
+        RawForm::For { body, .. } => statement_procs(body.get(), text, out),
     }
 }
 
 #[cycle(procedures)]
-#[tactic(auto, using(crate::proofs::Parts::parts))]
-fn simple_procs(
-    alloc: Global,
-    s: &RawSimple,
-    named: &Named,
-    numbers: &Table<Numbered>,
-    out: &mut List<Proc>,
-) -> Result<(), NoMemory>
-    ensures { OnOk result (out.new ≡ out.old ++ simple_procs named.now numbers.now s.now) }
+fn simple_procs(s: &RawSimple, text: Source, out: &mut List<Proc>) -> Result<(), NoMemory>
+    ensures { OnOk result (out.new ≡ out.old ++ simple_procs text.entry.named.now text.entry.numbers.now s.now) }
 {
     match s {
-        RawSimple::Block(block) => block_procs(alloc, block.get(), named, numbers, out),
+        RawSimple::Block(block) => block_procs(block.get(), text, out),
         _ => Ok(()),
     }
 }
 
 #[cycle(procedures)]
-#[tactic(auto, using(crate::proofs::Parts::parts))]
-fn block_procs(
-    alloc: Global,
-    block: &RawBlock,
-    named: &Named,
-    numbers: &Table<Numbered>,
-    out: &mut List<Proc>,
-) -> Result<(), NoMemory>
-    ensures { OnOk result (out.new ≡ out.old ++ block_procs named.now numbers.now block.now) }
+fn block_procs(block: &RawBlock, text: Source, out: &mut List<Proc>) -> Result<(), NoMemory>
+    ensures { OnOk result (out.new ≡ out.old ++ block_procs text.entry.named.now text.entry.numbers.now block.now) }
 {
     for declaration in block.decls.as_slice() {
-        declaration_procs(alloc, declaration, named, numbers, out)?;
+        declaration_procs(declaration, text, out)?;
     }
     for statement in block.stmts.as_slice() {
-        statement_procs(alloc, statement, named, numbers, out)?;
+        statement_procs(statement, text, out)?;
     }
     Ok(())
 }
 
 #[cycle(procedures)]
-#[tactic(auto, using(crate::proofs::Parts::parts))]
-fn declaration_procs(
-    alloc: Global,
-    d: &RawDecl,
-    named: &Named,
-    numbers: &Table<Numbered>,
-    out: &mut List<Proc>,
-) -> Result<(), NoMemory>
-    ensures { OnOk result (out.new ≡ out.old ++ declaration_procs named.now numbers.now d.now) }
+fn declaration_procs(d: &RawDecl, text: Source, out: &mut List<Proc>) -> Result<(), NoMemory>
+    ensures { OnOk result (out.new ≡ out.old ++ declaration_procs text.entry.named.now text.entry.numbers.now d.now) }
 {
     match d {
         RawDecl::Proc(procedure) => {
-            let made = proc_of(alloc, named, numbers, procedure.get())?;
+            let made = proc_of(text, procedure.get())?;
             out.push(made)?;
-            procedure_procs(alloc, procedure.get(), named, numbers, out)
+            procedure_procs(procedure.get(), text, out)
         }
         _ => Ok(()),
     }
 }
 
 #[cycle(procedures)]
-#[tactic(auto, using(crate::proofs::Parts::parts))]
-fn procedure_procs(
-    alloc: Global,
-    p: &RawProc,
-    named: &Named,
-    numbers: &Table<Numbered>,
-    out: &mut List<Proc>,
-) -> Result<(), NoMemory>
-    ensures { OnOk result (out.new ≡ out.old ++ procedure_procs named.now numbers.now p.now) }
+fn procedure_procs(p: &RawProc, text: Source, out: &mut List<Proc>) -> Result<(), NoMemory>
+    ensures { OnOk result (out.new ≡ out.old ++ procedure_procs text.entry.named.now text.entry.numbers.now p.now) }
 {
-    statement_procs(alloc, p.body.get(), named, numbers, out)
+    statement_procs(p.body.get(), text, out)
 }
 
 /// The procedures of a text, in order of the text.
-pub fn procs_of(
-    alloc: Global,
-    named: &Named,
-    numbers: &Table<Numbered>,
-) -> Result<List<Proc>, NoMemory>
-    ensures { IfOk result (λ all. all ≡ procs_of named.now numbers.now named.now.raw.now) }
+pub fn procs_of(text: Source) -> Result<List<Proc>, NoMemory>
+    ensures { IfOk result (λ all. all ≡ procs_of text.entry.named.now text.entry.numbers.now text.entry.named.now.raw.now) }
 {
-    let mut all = List::new(alloc);
-    block_procs(alloc, &named.raw.block, named, numbers, &mut all)?;
+    let mut all = List::new(text.alloc);
+    block_procs(&text.named.raw.block, text, &mut all)?;
     Ok(all)
 }

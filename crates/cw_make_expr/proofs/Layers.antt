@@ -1,6 +1,7 @@
 -- The trees of a text's expressions by their first layer, and of each rule when its loop has ended.
-use Rattle.std.proofs.Common.{◌≡◌, ℕ, ◌≤◌, ◌<◌, Bool, true, false, List, [], ◌∷◌, refl, sym, ap, ◌∙◌, map, length, drop, get_or, Option}
+use Rattle.std.proofs.Common.{◌≡◌, ℕ, ◌≤◌, ◌<◌, Bool, true, false, List, [], ◌∷◌, sym, ap, ◌∙◌, map, length, take, get_or, Option}
 use Rattle.std.specs.Prelude.{◌==◌}
+use Rattle.std.proofs.lemmas.List.{take_all}
 use Rattle.cw_tree.specs.declared.leaf.RawSign.{RawSign}
 use Rattle.cw_tree.specs.declared.leaf.RawFactorSign.{RawFactorSign}
 use Rattle.cw_tree.specs.declared.expression.RawCand.{RawCand, out-RawCand}
@@ -21,7 +22,7 @@ use Rattle.cw_unit.specs.declared.unit.Cond.{Cond}
 use Rattle.cw_make_expr.specs.Nodes.{nothing, no_condition, comparison, comparator, whole_part_if}
 use Rattle.cw_make_expr.specs.Parts.{Numbers}
 use Rattle.cw_make_expr.specs.Made.{Made, Placed, operand_for, logic_from, logic_of, factors_from, term_of, terms_from, signed_term, is_alone, sum_from, sum_of, prim_of, all_of, any_of, expression_step, primary_step, reference_step, conjunction_step, comparison_step, condition_step, differ_step, mask_step, prim_step, sum_step, term_step, union_step, primary_made, conjunction_made, comparison_made, condition_made, differ_made, mask_made, prim_made, sum_made, term_made, union_made}
-use Rattle.cw_scale.proofs.Turns.{behind_first, first_and_rest, no_item, length_map, none_more}
+use Rattle.cw_scale.proofs.Turns.{behind_first, first_and_rest, no_item, length_map}
 
 -- what is made of the parts
 abbrev pub steps : Named → Numbers → ExpressionSteps Made Made Placed Cond Cond Cond Made Made Made Made Made Made
@@ -60,24 +61,23 @@ module _ (named : Named) (numbers : Numbers) where
 pub logic_none : {A : Type 0} (op : LogicOp) (f : A → Made) (all : List A) (operand : Bool) → length all < 1 → nothing ≡ (logic_of op (map f all)).made operand
 logic_none op f all operand h = ap (λ l. (logic_of op (map f l)).made operand) (sym (no_item all h))
 
-pub logic_end : {A : Type 0} (op : LogicOp) (f : A → Made) (all : List A) (first : A) (operand inside : Bool) (i : ℕ) (s0 s : Expr) → 1 ≤ length all → first ≡ get_or all 0 first
-    → length (behind_first all) ≤ i → inside ≡ operand_for (length (behind_first all) == 0) operand → s0 ≡ (f first).made inside
-    → logic_from op s (map f (drop i (behind_first all))) ≡ logic_from op s0 (map f (behind_first all)) → s ≡ (logic_of op (map f all)).made operand
-logic_end op f all first operand inside i s0 s n e le ei e0 h =
-    none_more (logic_from op) (λ z. refl) f (behind_first all) i s (logic_from op s0 (map f (behind_first all))) le h
-    ∙ ap (λ z. logic_from op z (map f (behind_first all))) (e0 ∙ ap (λ b. (f first).made b) (ei ∙ ap (λ k. operand_for (k == 0) operand) (sym (length_map f (behind_first all)))))
+pub logic_end : {A : Type 0} (op : LogicOp) (f : A → Made) (all : List A) (first : A) (operand inside : Bool) (i : ℕ) → 1 ≤ length all → first ≡ get_or all 0 first
+    → length (behind_first all) ≤ i → inside ≡ operand_for (length (behind_first all) == 0) operand
+    → logic_from op ((f first).made inside) (map f (take i (behind_first all))) ≡ (logic_of op (map f all)).made operand
+logic_end op f all first operand inside i n e le ei =
+    ap (λ l. logic_from op ((f first).made inside) (map f l)) (take_all i (behind_first all) le)
+    ∙ ap (λ b. logic_from op ((f first).made b) (map f (behind_first all))) (ei ∙ ap (λ k. operand_for (k == 0) operand) (sym (length_map f (behind_first all))))
     ∙ ap (λ l. (logic_of op (map f l)).made operand) (sym (first_and_rest all first n e))
 
 -- conditions with AND or with OR between any two
-module _ (from : Cond → List Cond → Cond) (joined : List Cond → Cond) (begun : (c : Cond) (cs : List Cond) → joined (c ∷ cs) ≡ from c cs) (done : (c : Cond) → from c [] ≡ c) (none : no_condition ≡ joined []) where
+module _ (from : Cond → List Cond → Cond) (joined : List Cond → Cond) (begun : (c : Cond) (cs : List Cond) → joined (c ∷ cs) ≡ from c cs) (none : no_condition ≡ joined []) where
   pub conditions_none : {A : Type 0} (f : A → Cond) (all : List A) → length all < 1 → no_condition ≡ joined (map f all)
   conditions_none f all h = none ∙ ap (λ l. joined (map f l)) (sym (no_item all h))
 
-  pub conditions_end : {A : Type 0} (f : A → Cond) (all : List A) (first : A) (i : ℕ) (s0 s : Cond) → 1 ≤ length all → first ≡ get_or all 0 first → length (behind_first all) ≤ i → s0 ≡ f first
-      → from s (map f (drop i (behind_first all))) ≡ from s0 (map f (behind_first all)) → s ≡ joined (map f all)
-  conditions_end f all first i s0 s n e le e0 h =
-      none_more from done f (behind_first all) i s (from s0 (map f (behind_first all))) le h
-      ∙ ap (λ z. from z (map f (behind_first all))) e0 ∙ sym (begun (f first) (map f (behind_first all)))
+  pub conditions_end : {A : Type 0} (f : A → Cond) (all : List A) (first : A) (i : ℕ) → 1 ≤ length all → first ≡ get_or all 0 first → length (behind_first all) ≤ i
+      → from (f first) (map f (take i (behind_first all))) ≡ joined (map f all)
+  conditions_end f all first i n e le =
+      ap (λ l. from (f first) (map f l)) (take_all i (behind_first all) le) ∙ sym (begun (f first) (map f (behind_first all)))
       ∙ ap (λ l. joined (map f l)) (sym (first_and_rest all first n e))
 
 pub term_none : {A : Type 0} (f : A → Made) (all : List A) (signs : List RawFactorSign) (operand : Bool) → length all < 1 → nothing ≡ (term_of (map f all) signs).made operand

@@ -1,3 +1,4 @@
+mod Alone
 mod Arms
 mod Layers
 mod Loops

@@ -199,6 +199,11 @@ module _ (named : Named) (numbers : Numbers) where
   abbrev pub value_of : RawName → Expr
   value_of n = value_of_name (is_called (kind_of named n)) (target n) (place_of_name n)
 
+  -- a name by itself as an argument
+  abbrev pub named_handed : Option RawName → Arg
+  named_handed None = no_argument
+  named_handed (Some n) = handed (kind_of named n) (number_of named numbers n)
+
   -- ---- rules of the grammar
 
   abbrev pub expression_step : RawExpr-F Made Made Placed Cond Cond Cond Made Made Made Made Made Made → Made

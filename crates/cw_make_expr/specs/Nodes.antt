@@ -1,5 +1,5 @@
 -- The nodes of a unit's expressions, conditions and references.
-use Rattle.std.specs.Prelude.{ℕ, ℤ, List, [], Bool, true, false, Option, None, if◌then◌else◌}
+use Rattle.std.specs.Prelude.{ℕ, ℤ, ◌≡◌, List, [], Bool, true, false, Option, None, Result, IfOk, if◌then◌else◌}
 use Rattle.cw_word.specs.Number.{Number}
 use Rattle.cw_tree.specs.declared.leaf.AddOp.{AddOp}
 use Rattle.cw_tree.specs.declared.leaf.AddOp.TheVariants as add
@@ -18,6 +18,10 @@ use Rattle.cw_unit.specs.declared.unit.Cond.{Cond, roll-Cond}
 use Rattle.cw_unit.specs.declared.unit.Spot.{Spot}
 use Rattle.cw_unit.specs.declared.unit.Ref.{Ref, roll-Ref}
 use Rattle.cw_unit.specs.declared.unit.Arg.TheOpen as layer
+
+-- what is made, if it can be
+abbrev pub Makes : {T E : Type 0} → Result T E → T → Type 0
+Makes r x = IfOk r (λ t. t ≡ x)
 
 abbrev pub number : Number → Expr
 number n = roll-Expr (layer.Num n)

@@ -1,101 +1,76 @@
 //! What an expression is as an argument that is no value and no place.
 ghost use Rattle.std.specs.Prelude.{◌≡◌};
-ghost use Rattle.cw_make_expr.specs.Made.{expression_made, sum_made, term_made, differ_made, union_made, mask_made, prim_made, primary_made, reference_made};
+ghost use Rattle.cw_scope.specs.declared.resolve.Named.{Named};
+ghost use Rattle.cw_make_expr.specs.Parts.{Numbers};
+ghost use Rattle.cw_make_expr.specs.Made.{expression_made, primary_made, reference_made, named_handed};
 
 use crate::parts::{handed, no_argument, number_of};
 use cw_number::numbered::Numbered;
 use cw_scale::kinds::kind_of;
 use cw_scope::resolve::Named;
 use cw_table::table::Table;
-use cw_tree::expression::{
-    RawDiffer, RawExpr, RawMask, RawPrim, RawPrimary, RawRef, RawSum, RawTerm, RawUnion,
-};
+use cw_tree::expression::{RawExpr, RawPrimary, RawRef};
+use cw_tree::leaf::RawName;
 use cw_unit::unit::Arg;
 
-fn reference_handed(named: &Named, numbers: &Table<Numbered>, r: &RawRef) -> Arg
-    ensures { result ≡ (reference_made named.now numbers.now r.now).handed }
+// The name that a reference is.
+fn reference_name(r: &RawRef) -> Option<RawName>
+    ensures { (named : Named) (numbers : Numbers) → (reference_made named numbers r.now).handed ≡ named_handed named numbers result }
 {
     match r {
-        RawRef::Name(name) => handed(kind_of(named, name), &number_of(named, numbers, name)),
-        _ => no_argument(),
+        RawRef::Name(name) => Some(*name),
+        _ => None,
     }
 }
 
-fn primary_handed(named: &Named, numbers: &Table<Numbered>, e: &RawPrimary) -> Arg
-    ensures { result ≡ (primary_made named.now numbers.now e.now).handed }
+fn primary_name(p: &RawPrimary) -> Option<RawName>
+    ensures { (named : Named) (numbers : Numbers) → (primary_made named numbers p.now).handed ≡ named_handed named numbers result }
 {
-    match e {
-        RawPrimary::Ref(r) => reference_handed(named, numbers, r),
-        _ => no_argument(),
+    match p {
+        RawPrimary::Ref(r) => reference_name(r),
+        _ => None,
     }
 }
 
-fn prim_handed(named: &Named, numbers: &Table<Numbered>, e: &RawPrim) -> Arg
-    ensures { result ≡ (prim_made named.now numbers.now e.now).handed }
+// The name that an expression is by itself.
+fn name_alone(e: &RawExpr) -> Option<RawName>
+    ensures { (named : Named) (numbers : Numbers) → (expression_made named numbers e.now).handed ≡ named_handed named numbers result }
 {
-    match e.bits.as_slice() {
-        [] => primary_handed(named, numbers, &e.primary),
-        _ => no_argument(),
+    let sum = match e {
+        RawExpr::Choice(..) => return None,
+        RawExpr::Sum(sum) => sum,
+    };
+    let sum = sum.get();
+    if sum.sign.is_some() {
+        return None;
     }
-}
-
-fn mask_handed(named: &Named, numbers: &Table<Numbered>, e: &RawMask) -> Arg
-    ensures { result ≡ (mask_made named.now numbers.now e.now).handed }
-{
-    match e.operands.as_slice() {
-        [first] => prim_handed(named, numbers, first),
-        _ => no_argument(),
-    }
-}
-
-fn union_handed(named: &Named, numbers: &Table<Numbered>, e: &RawUnion) -> Arg
-    ensures { result ≡ (union_made named.now numbers.now e.now).handed }
-{
-    match e.operands.as_slice() {
-        [first] => mask_handed(named, numbers, first),
-        _ => no_argument(),
-    }
-}
-
-fn differ_handed(named: &Named, numbers: &Table<Numbered>, e: &RawDiffer) -> Arg
-    ensures { result ≡ (differ_made named.now numbers.now e.now).handed }
-{
-    match e.operands.as_slice() {
-        [first] => union_handed(named, numbers, first),
-        _ => no_argument(),
-    }
-}
-
-fn term_handed(named: &Named, numbers: &Table<Numbered>, e: &RawTerm) -> Arg
-    ensures { result ≡ (term_made named.now numbers.now e.now).handed }
-{
-    match e.operands.as_slice() {
-        [first] => differ_handed(named, numbers, first),
-        _ => no_argument(),
-    }
-}
-
-fn sum_handed(named: &Named, numbers: &Table<Numbered>, e: &RawSum) -> Arg
-    ensures { result ≡ (sum_made named.now numbers.now e.now).handed }
-{
-    match e.operands.as_slice() {
-        [first] => {
-            if e.sign.is_none() {
-                term_handed(named, numbers, first)
-            } else {
-                no_argument()
-            }
-        }
-        _ => no_argument(),
-    }
+    let [term] = sum.operands.as_slice() else {
+        return None;
+    };
+    let [differ] = term.operands.as_slice() else {
+        return None;
+    };
+    let [union] = differ.operands.as_slice() else {
+        return None;
+    };
+    let [mask] = union.operands.as_slice() else {
+        return None;
+    };
+    let [prim] = mask.operands.as_slice() else {
+        return None;
+    };
+    let [] = prim.bits.as_slice() else {
+        return None;
+    };
+    primary_name(&prim.primary)
 }
 
 /// What an expression is as an argument, if it is a name by itself.
 pub(crate) fn expression_handed(named: &Named, numbers: &Table<Numbered>, e: &RawExpr) -> Arg
     ensures { result ≡ (expression_made named.now numbers.now e.now).handed }
 {
-    match e {
-        RawExpr::Choice(..) => no_argument(),
-        RawExpr::Sum(sum) => sum_handed(named, numbers, sum.get()),
+    match name_alone(e) {
+        None => no_argument(),
+        Some(name) => handed(kind_of(named, &name), &number_of(named, numbers, &name)),
     }
 }

@@ -9,12 +9,12 @@ ghost use Rattle.cw_make_expr.specs.Made.{bits_around, arguments_for, argument_f
 
 use crate::handed::expression_handed;
 use crate::nodes::{
-    added, bits, both, call, choice, comparator, comparison, either, force, locate, logic, minus,
+    added, bits, both, call, choice, comparator, compared, either, force, locate, logic, minus,
     multiplied, no_condition, nothing, place_argument, read, reference, whole_part_if,
 };
 use crate::parts::{
-    field_of, indexed_spot, is_called, item_here, item_in, named_spot, number_of, params_of, small,
-    target_of, twice_indexed_spot, word,
+    Source, field_of, indexed_spot, is_called, item_here, item_in, named_spot, number_of,
+    params_of, small, target_of, twice_indexed_spot, word,
 };
 use cw_amount::amount::{is_negative, octal_word, place_amount};
 use cw_facts::fact::Kind;
@@ -78,21 +78,19 @@ fn twice_indexed_place(
 }
 
 // What a name by itself reads, or the call of a procedure that takes nothing.
-fn value_of(
-    alloc: Global,
-    named: &Named,
-    numbers: &Table<Numbered>,
-    name: &RawName,
-) -> Result<Boxed<Expr>, NoMemory>
-    ensures { IfOk result (λ t. t ≡ value_of named.now numbers.now name.now) }
+fn value_of(text: Source, name: &RawName) -> Result<Boxed<Expr>, NoMemory>
+    ensures { IfOk result (λ t. t ≡ value_of text.entry.named.now text.entry.numbers.now name.now) }
 {
-    let kind = kind_of(named, name);
-    let number = number_of(named, numbers, name);
+    let kind = kind_of(text.named, name);
+    let number = number_of(text.named, text.numbers, name);
     if is_called(kind) {
-        Boxed::new(alloc, call(target_of(kind, &number), List::new(alloc)))
+        Boxed::new(
+            text.alloc,
+            call(target_of(kind, &number), List::new(text.alloc)),
+        )
     } else {
         let at = named_spot(kind, item_in(&number));
-        read(alloc, reference_at(kind, at))
+        read(text.alloc, reference_at(kind, at))
     }
 }
 
@@ -142,142 +140,110 @@ fn bits_around(alloc: Global, all: &[RawBits], e: Boxed<Expr>) -> Result<Boxed<E
 /// The tree of an expression, as an operand of `*`, `/`, word logic or BITS or elsewhere.
 #[cycle(made)]
 pub(crate) fn make_expression(
-    alloc: Global,
-    named: &Named,
-    numbers: &Table<Numbered>,
+    text: Source,
     e: &RawExpr,
     operand: bool,
 ) -> Result<Boxed<Expr>, NoMemory>
-    ensures { IfOk result (λ t. t ≡ (expression_made named.now numbers.now e.now).made operand) }
+    ensures { IfOk result (λ t. t ≡ (expression_made text.entry.named.now text.entry.numbers.now e.now).made operand) }
 {
     match e {
         RawExpr::Choice(_, test, first, second) => {
-            let test = make_condition(alloc, named, numbers, test.get())?;
-            let first = make_expression(alloc, named, numbers, first.get(), false)?;
-            let second = make_expression(alloc, named, numbers, second.get(), false)?;
-            choice(alloc, test, first, second)
+            let test = make_condition(text, test.get());
+            let first = make_expression(text, first.get(), false);
+            let second = make_expression(text, second.get(), false);
+            choice(text.alloc, test, first, second)
         }
-        RawExpr::Sum(sum) => make_sum(alloc, named, numbers, sum.get(), operand),
+        RawExpr::Sum(sum) => make_sum(text, sum.get(), operand),
     }
 }
 
 /// The tree of a condition.
 #[cycle(made)]
-pub(crate) fn make_condition(
-    alloc: Global,
-    named: &Named,
-    numbers: &Table<Numbered>,
-    c: &RawCond,
-) -> Result<Boxed<Cond>, NoMemory>
-    ensures { IfOk result (λ t. t ≡ condition_made named.now numbers.now c.now) }
+pub(crate) fn make_condition(text: Source, c: &RawCond) -> Result<Boxed<Cond>, NoMemory>
+    ensures { IfOk result (λ t. t ≡ condition_made text.entry.named.now text.entry.numbers.now c.now) }
 {
     match c.operands.as_slice() {
-        [] => Boxed::new(alloc, no_condition()),
+        [] => Boxed::new(text.alloc, no_condition()),
         [first, others @ ..] => {
-            let mut so_far = make_conjunction(alloc, named, numbers, first)?;
+            let mut so_far = make_conjunction(text, first);
             for operand in others {
-                let next = make_conjunction(alloc, named, numbers, operand)?;
-                so_far = either(alloc, so_far, next)?;
+                so_far = either(text.alloc, so_far, make_conjunction(text, operand));
             }
-            Ok(so_far)
+            so_far
         }
     }
 }
 
 #[cycle(made)]
-fn make_conjunction(
-    alloc: Global,
-    named: &Named,
-    numbers: &Table<Numbered>,
-    c: &RawCand,
-) -> Result<Boxed<Cond>, NoMemory>
-    ensures { IfOk result (λ t. t ≡ conjunction_made named.now numbers.now c.now) }
+fn make_conjunction(text: Source, c: &RawCand) -> Result<Boxed<Cond>, NoMemory>
+    ensures { IfOk result (λ t. t ≡ conjunction_made text.entry.named.now text.entry.numbers.now c.now) }
 {
     match c.operands.as_slice() {
-        [] => Boxed::new(alloc, no_condition()),
+        [] => Boxed::new(text.alloc, no_condition()),
         [first, others @ ..] => {
-            let mut so_far = make_comparison(alloc, named, numbers, first)?;
+            let mut so_far = make_comparison(text, first);
             for operand in others {
-                let next = make_comparison(alloc, named, numbers, operand)?;
-                so_far = both(alloc, so_far, next)?;
+                so_far = both(text.alloc, so_far, make_comparison(text, operand));
             }
-            Ok(so_far)
+            so_far
         }
     }
 }
 
 #[cycle(made)]
-fn make_comparison(
-    alloc: Global,
-    named: &Named,
-    numbers: &Table<Numbered>,
-    c: &RawCmp,
-) -> Result<Boxed<Cond>, NoMemory>
-    ensures { IfOk result (λ t. t ≡ comparison_made named.now numbers.now c.now) }
+fn make_comparison(text: Source, c: &RawCmp) -> Result<Boxed<Cond>, NoMemory>
+    ensures { IfOk result (λ t. t ≡ comparison_made text.entry.named.now text.entry.numbers.now c.now) }
 {
-    let left = make_sum(alloc, named, numbers, c.left.get(), false)?;
-    let right = make_sum(alloc, named, numbers, c.right.get(), false)?;
-    let op = comparator(c.operator.op);
-    Boxed::new(alloc, comparison(op, left.into_inner(), right.into_inner()))
+    let left = make_sum(text, c.left.get(), false);
+    let right = make_sum(text, c.right.get(), false);
+    compared(text.alloc, comparator(c.operator.op), left, right)
 }
 
 #[cycle(made)]
-fn make_sum(
-    alloc: Global,
-    named: &Named,
-    numbers: &Table<Numbered>,
-    e: &RawSum,
-    operand: bool,
-) -> Result<Boxed<Expr>, NoMemory>
-    ensures { IfOk result (λ t. t ≡ (sum_made named.now numbers.now e.now).made operand) }
+fn make_sum(text: Source, e: &RawSum, operand: bool) -> Result<Boxed<Expr>, NoMemory>
+    ensures { IfOk result (λ t. t ≡ (sum_made text.entry.named.now text.entry.numbers.now e.now).made operand) }
 {
     match e.operands.as_slice() {
-        [] => Boxed::new(alloc, nothing()),
+        [] => Boxed::new(text.alloc, nothing()),
         [first, others @ ..] => {
             if is_alone(&e.sign, others.len()) {
-                return make_term(alloc, named, numbers, first, operand);
+                return make_term(text, first, operand);
             }
-            let head = make_term(alloc, named, numbers, first, false)?;
-            let mut so_far = signed_term(alloc, &e.sign, head)?;
+            let head = make_term(text, first, false)?;
+            let mut so_far = signed_term(text.alloc, &e.sign, head)?;
             let mut signs = e.operators.as_slice();
             for other in others {
                 match signs {
-                    [] => return whole_part_if(alloc, operand, so_far),
+                    [] => return whole_part_if(text.alloc, operand, so_far),
                     [sign, more @ ..] => {
-                        let next = make_term(alloc, named, numbers, other, false)?;
-                        so_far = added(alloc, sign.op, so_far, next)?;
+                        let next = make_term(text, other, false)?;
+                        so_far = added(text.alloc, sign.op, so_far, next)?;
                         signs = more;
                     }
                 }
             }
-            let whole = whole_part_if(alloc, operand, so_far)?;
+            let whole = whole_part_if(text.alloc, operand, so_far)?;
             Ok(whole)
         }
     }
 }
 
 #[cycle(made)]
-fn make_term(
-    alloc: Global,
-    named: &Named,
-    numbers: &Table<Numbered>,
-    e: &RawTerm,
-    operand: bool,
-) -> Result<Boxed<Expr>, NoMemory>
-    ensures { IfOk result (λ t. t ≡ (term_made named.now numbers.now e.now).made operand) }
+fn make_term(text: Source, e: &RawTerm, operand: bool) -> Result<Boxed<Expr>, NoMemory>
+    ensures { IfOk result (λ t. t ≡ (term_made text.entry.named.now text.entry.numbers.now e.now).made operand) }
 {
     match e.operands.as_slice() {
-        [] => Boxed::new(alloc, nothing()),
+        [] => Boxed::new(text.alloc, nothing()),
         [first, others @ ..] => {
             let inside = operand_for(others.len() == 0, operand);
-            let mut so_far = make_differ(alloc, named, numbers, first, inside)?;
+            let mut so_far = make_differ(text, first, inside)?;
             let mut signs = e.operators.as_slice();
             for other in others {
                 match signs {
                     [] => return Ok(so_far),
                     [sign, more @ ..] => {
-                        let next = make_differ(alloc, named, numbers, other, true)?;
-                        so_far = multiplied(alloc, sign.op, so_far, next)?;
+                        let next = make_differ(text, other, true)?;
+                        so_far = multiplied(text.alloc, sign.op, so_far, next)?;
                         signs = more;
                     }
                 }
@@ -288,157 +254,128 @@ fn make_term(
 }
 
 #[cycle(made)]
-fn make_differ(
-    alloc: Global,
-    named: &Named,
-    numbers: &Table<Numbered>,
-    e: &RawDiffer,
-    operand: bool,
-) -> Result<Boxed<Expr>, NoMemory>
-    ensures { IfOk result (λ t. t ≡ (differ_made named.now numbers.now e.now).made operand) }
+fn make_differ(text: Source, e: &RawDiffer, operand: bool) -> Result<Boxed<Expr>, NoMemory>
+    ensures { IfOk result (λ t. t ≡ (differ_made text.entry.named.now text.entry.numbers.now e.now).made operand) }
 {
     match e.operands.as_slice() {
-        [] => Boxed::new(alloc, nothing()),
+        [] => Boxed::new(text.alloc, nothing()),
         [first, others @ ..] => {
             let inside = operand_for(others.len() == 0, operand);
-            let mut so_far = make_union(alloc, named, numbers, first, inside)?;
+            let mut so_far = make_union(text, first, inside);
             for other in others {
-                let next = make_union(alloc, named, numbers, other, true)?;
-                so_far = logic(alloc, LogicOp::Differ, so_far, next)?;
+                let next = make_union(text, other, true);
+                so_far = logic(text.alloc, LogicOp::Differ, so_far, next);
             }
-            Ok(so_far)
+            so_far
         }
     }
 }
 
 #[cycle(made)]
-fn make_union(
-    alloc: Global,
-    named: &Named,
-    numbers: &Table<Numbered>,
-    e: &RawUnion,
-    operand: bool,
-) -> Result<Boxed<Expr>, NoMemory>
-    ensures { IfOk result (λ t. t ≡ (union_made named.now numbers.now e.now).made operand) }
+fn make_union(text: Source, e: &RawUnion, operand: bool) -> Result<Boxed<Expr>, NoMemory>
+    ensures { IfOk result (λ t. t ≡ (union_made text.entry.named.now text.entry.numbers.now e.now).made operand) }
 {
     match e.operands.as_slice() {
-        [] => Boxed::new(alloc, nothing()),
+        [] => Boxed::new(text.alloc, nothing()),
         [first, others @ ..] => {
             let inside = operand_for(others.len() == 0, operand);
-            let mut so_far = make_mask(alloc, named, numbers, first, inside)?;
+            let mut so_far = make_mask(text, first, inside);
             for other in others {
-                let next = make_mask(alloc, named, numbers, other, true)?;
-                so_far = logic(alloc, LogicOp::Union, so_far, next)?;
+                let next = make_mask(text, other, true);
+                so_far = logic(text.alloc, LogicOp::Union, so_far, next);
             }
-            Ok(so_far)
+            so_far
         }
     }
 }
 
 #[cycle(made)]
-fn make_mask(
-    alloc: Global,
-    named: &Named,
-    numbers: &Table<Numbered>,
-    e: &RawMask,
-    operand: bool,
-) -> Result<Boxed<Expr>, NoMemory>
-    ensures { IfOk result (λ t. t ≡ (mask_made named.now numbers.now e.now).made operand) }
+fn make_mask(text: Source, e: &RawMask, operand: bool) -> Result<Boxed<Expr>, NoMemory>
+    ensures { IfOk result (λ t. t ≡ (mask_made text.entry.named.now text.entry.numbers.now e.now).made operand) }
 {
     match e.operands.as_slice() {
-        [] => Boxed::new(alloc, nothing()),
+        [] => Boxed::new(text.alloc, nothing()),
         [first, others @ ..] => {
             let inside = operand_for(others.len() == 0, operand);
-            let mut so_far = make_prim(alloc, named, numbers, first, inside)?;
+            let mut so_far = make_prim(text, first, inside);
             for other in others {
-                let next = make_prim(alloc, named, numbers, other, true)?;
-                so_far = logic(alloc, LogicOp::Mask, so_far, next)?;
+                let next = make_prim(text, other, true);
+                so_far = logic(text.alloc, LogicOp::Mask, so_far, next);
             }
-            Ok(so_far)
+            so_far
         }
     }
 }
 
 #[cycle(made)]
-fn make_prim(
-    alloc: Global,
-    named: &Named,
-    numbers: &Table<Numbered>,
-    e: &RawPrim,
-    operand: bool,
-) -> Result<Boxed<Expr>, NoMemory>
-    ensures { IfOk result (λ t. t ≡ (prim_made named.now numbers.now e.now).made operand) }
+fn make_prim(text: Source, e: &RawPrim, operand: bool) -> Result<Boxed<Expr>, NoMemory>
+    ensures { IfOk result (λ t. t ≡ (prim_made text.entry.named.now text.entry.numbers.now e.now).made operand) }
 {
     let all = e.bits.as_slice();
     let inside = operand_for(all.len() == 0, operand);
-    let inner = make_primary(alloc, named, numbers, &e.primary, inside)?;
-    bits_around(alloc, all, inner)
+    let inner = make_primary(text, &e.primary, inside)?;
+    bits_around(text.alloc, all, inner)
 }
 
 #[cycle(made)]
-fn make_primary(
-    alloc: Global,
-    named: &Named,
-    numbers: &Table<Numbered>,
-    e: &RawPrimary,
-    operand: bool,
-) -> Result<Boxed<Expr>, NoMemory>
-    ensures { IfOk result (λ t. t ≡ (primary_made named.now numbers.now e.now).made operand) }
+fn make_primary(text: Source, e: &RawPrimary, operand: bool) -> Result<Boxed<Expr>, NoMemory>
+    ensures { IfOk result (λ t. t ≡ (primary_made text.entry.named.now text.entry.numbers.now e.now).made operand) }
 {
     match e {
-        RawPrimary::Number(n) => Boxed::new(alloc, Expr::Num(n.number)),
+        RawPrimary::Number(n) => Boxed::new(text.alloc, Expr::Num(n.number)),
         RawPrimary::Octal(n) => {
             let word = word(&octal_word(&n.number.number));
-            Boxed::new(alloc, Expr::Const(word.cast_signed()))
+            Boxed::new(text.alloc, Expr::Const(word.cast_signed()))
         }
         RawPrimary::Literal(c) => {
-            Boxed::new(alloc, Expr::Const(u16::from(c.byte).cast_signed()))
+            Boxed::new(text.alloc, Expr::Const(u16::from(c.byte).cast_signed()))
         }
-        RawPrimary::Text(at, _) => Boxed::new(alloc, Expr::Text(item_here(numbers, at.token))),
+        RawPrimary::Text(at, _) => Boxed::new(
+            text.alloc,
+            Expr::Text(item_here(text.numbers, at.token)),
+        ),
         RawPrimary::Location(_, r) => {
-            let place = make_reference(alloc, named, numbers, r.get())?;
-            locate(alloc, place)
+            let place = make_reference(text, r.get())?;
+            locate(text.alloc, place)
         }
         RawPrimary::Forced(scale, e) => {
-            let inner = make_expression(alloc, named, numbers, e.get(), false)?;
-            force(alloc, fraction_of(scale.get()), inner)
+            let inner = make_expression(text, e.get(), false)?;
+            force(text.alloc, fraction_of(scale.get()), inner)
         }
         RawPrimary::Bracket(_, e) => {
-            let inner = make_expression(alloc, named, numbers, e.get(), false)?;
-            whole_part_if(alloc, operand, inner)
+            let inner = make_expression(text, e.get(), false)?;
+            whole_part_if(text.alloc, operand, inner)
         }
-        RawPrimary::Ref(r) => make_value(alloc, named, numbers, r),
+        RawPrimary::Ref(r) => make_value(text, r),
         RawPrimary::Call(name, arguments) => {
-            let params = params_of(named, name);
-            let arguments = make_arguments(alloc, named, numbers, params, arguments.as_slice())?;
-            Boxed::new(alloc, call(target(named, numbers, name), arguments))
+            let params = params_of(text.named, name);
+            let arguments = make_arguments(text, params, arguments.as_slice())?;
+            Boxed::new(
+                text.alloc,
+                call(target(text.named, text.numbers, name), arguments),
+            )
         }
     }
 }
 
 /// The place that a reference names.
 #[cycle(made)]
-pub(crate) fn make_reference(
-    alloc: Global,
-    named: &Named,
-    numbers: &Table<Numbered>,
-    r: &RawRef,
-) -> Result<Ref, NoMemory>
-    ensures { IfOk result (λ t. t ≡ (reference_made named.now numbers.now r.now).place) }
+pub(crate) fn make_reference(text: Source, r: &RawRef) -> Result<Ref, NoMemory>
+    ensures { IfOk result (λ t. t ≡ (reference_made text.entry.named.now text.entry.numbers.now r.now).place) }
 {
     match r {
-        RawRef::Name(name) => Ok(place_of_name(named, numbers, name)),
+        RawRef::Name(name) => Ok(place_of_name(text.named, text.numbers, name)),
         RawRef::One(name, index) => {
-            let index = make_expression(alloc, named, numbers, index.get(), false)?;
-            Ok(indexed_place(named, numbers, name, index.into_inner()))
+            let index = make_expression(text, index.get(), false)?;
+            Ok(indexed_place(text.named, text.numbers, name, index.into_inner()))
         }
         RawRef::Two(name, first, second) => {
-            let first = make_expression(alloc, named, numbers, first.get(), false)?;
-            let second = make_expression(alloc, named, numbers, second.get(), false)?;
-            Ok(twice_indexed_place(named, numbers, name, first, second))
+            let first = make_expression(text, first.get(), false)?;
+            let second = make_expression(text, second.get(), false)?;
+            Ok(twice_indexed_place(text.named, text.numbers, name, first, second))
         }
         RawRef::Bare(_, address) => {
-            let address = make_expression(alloc, named, numbers, address.get(), false)?;
+            let address = make_expression(text, address.get(), false)?;
             Ok(reference(Spot::Bare(address.into_inner()), 0, None))
         }
     }
@@ -446,19 +383,14 @@ pub(crate) fn make_reference(
 
 // What a reference reads, or the call of a procedure that takes nothing.
 #[cycle(made)]
-fn make_value(
-    alloc: Global,
-    named: &Named,
-    numbers: &Table<Numbered>,
-    r: &RawRef,
-) -> Result<Boxed<Expr>, NoMemory>
-    ensures { IfOk result (λ t. t ≡ (reference_made named.now numbers.now r.now).value) }
+fn make_value(text: Source, r: &RawRef) -> Result<Boxed<Expr>, NoMemory>
+    ensures { IfOk result (λ t. t ≡ (reference_made text.entry.named.now text.entry.numbers.now r.now).value) }
 {
     match r {
-        RawRef::Name(name) => value_of(alloc, named, numbers, name),
+        RawRef::Name(name) => value_of(text, name),
         _ => {
-            let place = make_reference(alloc, named, numbers, r)?;
-            read(alloc, place)
+            let place = make_reference(text, r)?;
+            read(text.alloc, place)
         }
     }
 }
@@ -466,21 +398,19 @@ fn make_value(
 /// Arguments by what the parameters take.
 #[cycle(made)]
 pub(crate) fn make_arguments(
-    alloc: Global,
-    named: &Named,
-    numbers: &Table<Numbered>,
+    text: Source,
     params: &[RawPs],
     arguments: &[RawExpr],
 ) -> Result<List<Arg>, NoMemory>
-    ensures { IfOk result (λ all. all ≡ arguments_for (map (expression_made named.now numbers.now) arguments.now) params.now) }
+    ensures { IfOk result (λ all. all ≡ arguments_for (map (expression_made text.entry.named.now text.entry.numbers.now) arguments.now) params.now) }
 {
-    let mut all = List::new(alloc);
+    let mut all = List::new(text.alloc);
     let mut rest = params;
     for argument in arguments {
         match rest {
             [] => return Ok(all),
             [param, others @ ..] => {
-                all.push(make_argument(alloc, named, numbers, param, argument)?)?;
+                all.push(make_argument(text, param, argument)?)?;
                 rest = others;
             }
         }
@@ -489,24 +419,18 @@ pub(crate) fn make_arguments(
 }
 
 #[cycle(made)]
-fn make_argument(
-    alloc: Global,
-    named: &Named,
-    numbers: &Table<Numbered>,
-    param: &RawPs,
-    e: &RawExpr,
-) -> Result<Arg, NoMemory>
-    ensures { IfOk result (λ a. a ≡ argument_for param.now (expression_made named.now numbers.now e.now)) }
+fn make_argument(text: Source, param: &RawPs, e: &RawExpr) -> Result<Arg, NoMemory>
+    ensures { IfOk result (λ a. a ≡ argument_for param.now (expression_made text.entry.named.now text.entry.numbers.now e.now)) }
 {
     match param {
         RawPs::Plain(RawIps::Value(_, scale)) => {
-            let value = make_expression(alloc, named, numbers, e, false)?;
+            let value = make_expression(text, e, false)?;
             Ok(Arg::Value(value.into_inner(), fraction_of(scale)))
         }
         RawPs::Plain(RawIps::Location(_, scale)) => {
-            let value = make_expression(alloc, named, numbers, e, false)?;
+            let value = make_expression(text, e, false)?;
             Ok(place_argument(value.into_inner(), fraction_of(scale)))
         }
-        _ => Ok(expression_handed(named, numbers, e)),
+        _ => Ok(expression_handed(text.named, text.numbers, e)),
     }
 }

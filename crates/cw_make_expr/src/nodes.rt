@@ -1,6 +1,8 @@
 //! The nodes of a unit's expressions, conditions and references.
 ghost use Rattle.std.specs.Prelude.{◌≡◌, IfOk};
-ghost use Rattle.cw_make_expr.specs.Nodes.{nothing, read, call, force, locate, bits, logic, minus, added, multiplied, choice, comparator, comparison};
+ghost use Rattle.cw_unit.specs.declared.unit.Cond.{Cond};
+ghost use Rattle.cw_unit.specs.declared.unit.Expr.{Expr};
+ghost use Rattle.cw_make_expr.specs.Nodes.{Makes, nothing, read, call, force, locate, bits, logic, minus, added, multiplied, choice, comparator, comparison};
 ghost use Rattle.cw_make_expr.specs.Nodes.{no_condition, both, either, reference, place_argument, whole_part, whole_part_if};
 
 use cw_tree::leaf::{AddOp, CompareOp as Compared, MulOp};
@@ -49,11 +51,17 @@ pub(crate) fn bits(alloc: Global, t: u8, b: u8, e: Boxed<Expr>) -> Result<Boxed<
 pub(crate) fn logic(
     alloc: Global,
     op: LogicOp,
-    a: Boxed<Expr>,
-    b: Boxed<Expr>,
+    a: Result<Boxed<Expr>, NoMemory>,
+    b: Result<Boxed<Expr>, NoMemory>,
 ) -> Result<Boxed<Expr>, NoMemory>
-    ensures { IfOk result (λ e. e ≡ logic op a b) }
+    ensures { (x y : Expr) → Makes a x → Makes b y → Makes result (logic op x y) }
 {
+    let Ok(a) = a else {
+        return Err(NoMemory);
+    };
+    let Ok(b) = b else {
+        return Err(NoMemory);
+    };
     Boxed::new(alloc, Expr::Logic(op, a, b))
 }
 
@@ -95,12 +103,21 @@ pub(crate) fn multiplied(
 
 pub(crate) fn choice(
     alloc: Global,
-    test: Boxed<Cond>,
-    a: Boxed<Expr>,
-    b: Boxed<Expr>,
+    test: Result<Boxed<Cond>, NoMemory>,
+    a: Result<Boxed<Expr>, NoMemory>,
+    b: Result<Boxed<Expr>, NoMemory>,
 ) -> Result<Boxed<Expr>, NoMemory>
-    ensures { IfOk result (λ e. e ≡ choice test a b) }
+    ensures { (t : Cond) (x y : Expr) → Makes test t → Makes a x → Makes b y → Makes result (choice t x y) }
 {
+    let Ok(test) = test else {
+        return Err(NoMemory);
+    };
+    let Ok(a) = a else {
+        return Err(NoMemory);
+    };
+    let Ok(b) = b else {
+        return Err(NoMemory);
+    };
     Boxed::new(alloc, Expr::Choice(test, a, b))
 }
 
@@ -125,6 +142,24 @@ pub(crate) fn comparison(op: CompareOp, a: Expr, b: Expr) -> Cond
     Cond::Cmp(op, a, b)
 }
 
+/// The comparison of two expressions.
+pub(crate) fn compared(
+    alloc: Global,
+    op: CompareOp,
+    a: Result<Boxed<Expr>, NoMemory>,
+    b: Result<Boxed<Expr>, NoMemory>,
+) -> Result<Boxed<Cond>, NoMemory>
+    ensures { (x y : Expr) → Makes a x → Makes b y → Makes result (comparison op x y) }
+{
+    let Ok(a) = a else {
+        return Err(NoMemory);
+    };
+    let Ok(b) = b else {
+        return Err(NoMemory);
+    };
+    Boxed::new(alloc, comparison(op, a.into_inner(), b.into_inner()))
+}
+
 /// What stands for a condition that is not there.
 pub(crate) fn no_condition() -> Cond
     ensures { result ≡ no_condition }
@@ -132,15 +167,35 @@ pub(crate) fn no_condition() -> Cond
     comparison(CompareOp::Equal, nothing(), nothing())
 }
 
-pub(crate) fn both(alloc: Global, c: Boxed<Cond>, d: Boxed<Cond>) -> Result<Boxed<Cond>, NoMemory>
-    ensures { IfOk result (λ x. x ≡ both c d) }
+pub(crate) fn both(
+    alloc: Global,
+    c: Result<Boxed<Cond>, NoMemory>,
+    d: Result<Boxed<Cond>, NoMemory>,
+) -> Result<Boxed<Cond>, NoMemory>
+    ensures { (x y : Cond) → Makes c x → Makes d y → Makes result (both x y) }
 {
+    let Ok(c) = c else {
+        return Err(NoMemory);
+    };
+    let Ok(d) = d else {
+        return Err(NoMemory);
+    };
     Boxed::new(alloc, Cond::And(c, d))
 }
 
-pub(crate) fn either(alloc: Global, c: Boxed<Cond>, d: Boxed<Cond>) -> Result<Boxed<Cond>, NoMemory>
-    ensures { IfOk result (λ x. x ≡ either c d) }
+pub(crate) fn either(
+    alloc: Global,
+    c: Result<Boxed<Cond>, NoMemory>,
+    d: Result<Boxed<Cond>, NoMemory>,
+) -> Result<Boxed<Cond>, NoMemory>
+    ensures { (x y : Cond) → Makes c x → Makes d y → Makes result (either x y) }
 {
+    let Ok(c) = c else {
+        return Err(NoMemory);
+    };
+    let Ok(d) = d else {
+        return Err(NoMemory);
+    };
     Boxed::new(alloc, Cond::Or(c, d))
 }
 

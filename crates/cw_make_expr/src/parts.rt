@@ -22,6 +22,14 @@ use cw_unit::unit::{Arg, Expr, Field, Goal, Spot, Target};
 use cw_word::Boxed;
 use std::alloc::Global;
 
+/// A named text with the numbers of its names, and where its trees are put.
+#[derive(Clone, Copy)]
+pub struct Source<'a> {
+    pub alloc: Global,
+    pub named: &'a Named<'a>,
+    pub numbers: &'a Table<Numbered>,
+}
+
 // ---- numbers
 
 pub fn small(amount: &Option<u64>) -> u8

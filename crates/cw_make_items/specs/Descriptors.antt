@@ -74,13 +74,16 @@ table_body t = body.Table (width_of t.size) (within 65535 (place_amount t.size.s
 
 -- ---- the lists
 
+abbrev pub bare_desc : RawName → DescBody → Desc
+bare_desc n b = record { name = n.name; library = false; over = None; body = b }
+
 abbrev pub label_descs : List RawName → List Desc
 label_descs [] = []
-label_descs (n ∷ ns) = record { name = n.name; library = false; over = None; body = body.Label } ∷ label_descs ns
+label_descs (n ∷ ns) = bare_desc n body.Label ∷ label_descs ns
 
 abbrev pub switch_descs : List RawName → List Desc
 switch_descs [] = []
-switch_descs (n ∷ ns) = record { name = n.name; library = false; over = None; body = body.Switch } ∷ switch_descs ns
+switch_descs (n ∷ ns) = bare_desc n body.Switch ∷ switch_descs ns
 
 abbrev pub spec_desc : (library : Bool) → RawSpec → Desc
 spec_desc l s = record { name = s.name.name; library = l; over = None; body = body.Proc (spec_of s.answer s.params) }

@@ -5,7 +5,7 @@ ghost use Rattle.cw_number.specs.things.Things.{amount_or_none};
 ghost use Rattle.cw_make_items.specs.Descriptors.{dimension, second_dimension, dimensions_of, part_form, element_of};
 ghost use Rattle.cw_make_items.specs.Descriptors.{elements_of, array_body, table_body, descriptor_at};
 ghost use Rattle.cw_make_items.specs.Descriptors.{over_base, over_thing, over_at, data_desc, word_descs, array_descs};
-ghost use Rattle.cw_make_items.specs.Descriptors.{group_descs, data_descs, label_descs, switch_descs};
+ghost use Rattle.cw_make_items.specs.Descriptors.{group_descs, data_descs, bare_desc, label_descs, switch_descs};
 ghost use Rattle.cw_make_items.specs.Descriptors.{spec_desc, citem_descs, citems_descs, library_desc, library_descs, communicator_descs, descs_of};
 
 use crate::lookup::item_here;
@@ -135,131 +135,104 @@ fn over_base(listed: &Table<Listing>, base: &Option<Base>) -> Option<(u16, u16)>
     }
 }
 
-fn over_at(
-    numbers: &Table<Numbered>,
-    listed: &Table<Listing>,
-    things: &[Thing],
-    token: u32,
-) -> Option<(u16, u16)>
-    ensures { result ≡ over_at numbers.now listed.now things.now token }
+// What descriptors are made by: the numbers of a text, what it lists and what it stores.
+#[derive(Clone, Copy)]
+struct Grounds<'a> {
+    alloc: Global,
+    numbers: &'a Table<Numbered>,
+    listed: &'a Table<Listing>,
+    things: &'a [Thing],
+}
+
+fn over_at(by: Grounds, token: u32) -> Option<(u16, u16)>
+    ensures { result ≡ over_at by.entry.numbers.now by.entry.listed.now by.entry.things.now token }
 {
-    match things.get(item_here(numbers, token) as usize) {
+    match by.things.get(item_here(by.numbers, token) as usize) {
         None => None,
-        Some(thing) => over_base(listed, &thing.base),
+        Some(thing) => over_base(by.listed, &thing.base),
     }
 }
 
 // ---- the lists
 
-fn data_desc(
-    numbers: &Table<Numbered>,
-    listed: &Table<Listing>,
-    things: &[Thing],
-    name: &RawName,
-    body: DescBody,
-) -> Desc
-    ensures { result ≡ data_desc numbers.now listed.now things.now name.now body }
+fn data_desc(by: Grounds, name: &RawName, body: DescBody) -> Desc
+    ensures { result ≡ data_desc by.entry.numbers.now by.entry.listed.now by.entry.things.now name.now body }
 {
     Desc {
         name: name.name,
         library: false,
-        over: over_at(numbers, listed, things, name.at.token),
+        over: over_at(by, name.at.token),
         body,
     }
 }
 
 fn word_descs(
-    numbers: &Table<Numbered>,
-    listed: &Table<Listing>,
-    things: &[Thing],
+    by: Grounds,
     scale: &RawType,
     names: &[RawName],
     out: &mut List<Desc>,
 ) -> Result<(), NoMemory>
-    ensures { OnOk result (out.new ≡ out.old ++ word_descs numbers.now listed.now things.now scale.now names.now) }
+    ensures { OnOk result (out.new ≡ out.old ++ word_descs by.entry.numbers.now by.entry.listed.now by.entry.things.now scale.now names.now) }
 {
     for name in names {
         let body = DescBody::Word(scale_of(scale));
-        out.push(data_desc(numbers, listed, things, name, body))?;
+        out.push(data_desc(by, name, body))?;
     }
     Ok(())
 }
 
 fn array_descs(
-    alloc: Global,
-    numbers: &Table<Numbered>,
-    listed: &Table<Listing>,
-    things: &[Thing],
+    by: Grounds,
     scale: &RawType,
     bounds: &RawBounds,
     names: &[RawName],
     out: &mut List<Desc>,
 ) -> Result<(), NoMemory>
-    ensures { OnOk result (out.new ≡ out.old ++ array_descs numbers.now listed.now things.now scale.now bounds.now names.now) }
+    ensures { OnOk result (out.new ≡ out.old ++ array_descs by.entry.numbers.now by.entry.listed.now by.entry.things.now scale.now bounds.now names.now) }
 {
     for name in names {
-        let body = array_body(alloc, scale, bounds)?;
-        out.push(data_desc(numbers, listed, things, name, body))?;
+        let body = array_body(by.alloc, scale, bounds)?;
+        out.push(data_desc(by, name, body))?;
     }
     Ok(())
 }
 
 fn group_descs(
-    alloc: Global,
-    numbers: &Table<Numbered>,
-    listed: &Table<Listing>,
-    things: &[Thing],
+    by: Grounds,
     scale: &RawType,
     groups: &[RawGroup],
     out: &mut List<Desc>,
 ) -> Result<(), NoMemory>
-    ensures { OnOk result (out.new ≡ out.old ++ group_descs numbers.now listed.now things.now scale.now groups.now) }
+    ensures { OnOk result (out.new ≡ out.old ++ group_descs by.entry.numbers.now by.entry.listed.now by.entry.things.now scale.now groups.now) }
 {
     for group in groups {
         let names = group.names.as_slice();
-        array_descs(
-            alloc,
-            numbers,
-            listed,
-            things,
-            scale,
-            &group.bounds,
-            names,
-            out,
-        )?;
+        array_descs(by, scale, &group.bounds, names, out)?;
     }
     Ok(())
 }
 
-fn data_descs(
-    alloc: Global,
-    numbers: &Table<Numbered>,
-    listed: &Table<Listing>,
-    things: &[Thing],
-    items: &RawData,
-    out: &mut List<Desc>,
-) -> Result<(), NoMemory>
-    ensures { OnOk result (out.new ≡ out.old ++ data_descs numbers.now listed.now things.now items.now) }
+fn data_descs(by: Grounds, items: &RawData, out: &mut List<Desc>) -> Result<(), NoMemory>
+    ensures { OnOk result (out.new ≡ out.old ++ data_descs by.entry.numbers.now by.entry.listed.now by.entry.things.now items.now) }
 {
     match items {
-        RawData::Singles(scale, names, _) => {
-            word_descs(numbers, listed, things, scale, names.as_slice(), out)
-        }
-        RawData::Arrays(scale, groups, _) => {
-            group_descs(
-                alloc,
-                numbers,
-                listed,
-                things,
-                scale,
-                groups.as_slice(),
-                out,
-            )
-        }
+        RawData::Singles(scale, names, _) => { word_descs(by, scale, names.as_slice(), out) }
+        RawData::Arrays(scale, groups, _) => { group_descs(by, scale, groups.as_slice(), out) }
         RawData::Table(table, _, _) => {
-            let body = table_body(alloc, table)?;
-            out.push(data_desc(numbers, listed, things, &table.name, body))
+            let body = table_body(by.alloc, table)?;
+            out.push(data_desc(by, &table.name, body))
         }
+    }
+}
+
+fn bare_desc(name: &RawName, body: DescBody) -> Desc
+    ensures { result ≡ bare_desc name.now body }
+{
+    Desc {
+        name: name.name,
+        library: false,
+        over: None,
+        body,
     }
 }
 
@@ -267,12 +240,7 @@ fn label_descs(names: &[RawName], out: &mut List<Desc>) -> Result<(), NoMemory>
     ensures { OnOk result (out.new ≡ out.old ++ label_descs names.now) }
 {
     for name in names {
-        out.push(Desc {
-            name: name.name,
-            library: false,
-            over: None,
-            body: DescBody::Label,
-        })?;
+        out.push(bare_desc(name, DescBody::Label))?;
     }
     Ok(())
 }
@@ -281,12 +249,7 @@ fn switch_descs(names: &[RawName], out: &mut List<Desc>) -> Result<(), NoMemory>
     ensures { OnOk result (out.new ≡ out.old ++ switch_descs names.now) }
 {
     for name in names {
-        out.push(Desc {
-            name: name.name,
-            library: false,
-            over: None,
-            body: DescBody::Switch,
-        })?;
+        out.push(bare_desc(name, DescBody::Switch))?;
     }
     Ok(())
 }
@@ -303,40 +266,26 @@ fn spec_desc(alloc: Global, library: bool, spec: &RawSpec) -> Result<Desc, NoMem
     })
 }
 
-fn citem_descs(
-    alloc: Global,
-    numbers: &Table<Numbered>,
-    listed: &Table<Listing>,
-    things: &[Thing],
-    item: &RawCitem,
-    out: &mut List<Desc>,
-) -> Result<(), NoMemory>
-    ensures { OnOk result (out.new ≡ out.old ++ citem_descs numbers.now listed.now things.now item.now) }
+fn citem_descs(by: Grounds, item: &RawCitem, out: &mut List<Desc>) -> Result<(), NoMemory>
+    ensures { OnOk result (out.new ≡ out.old ++ citem_descs by.entry.numbers.now by.entry.listed.now by.entry.things.now item.now) }
 {
     match item {
-        RawCitem::Data(items) => data_descs(alloc, numbers, listed, things, items, out),
-        RawCitem::Overlay(_, _, items) => data_descs(alloc, numbers, listed, things, items, out),
+        RawCitem::Data(items) => data_descs(by, items, out),
+        RawCitem::Overlay(_, _, items) => data_descs(by, items, out),
         RawCitem::Label(_, names) => label_descs(names.as_slice(), out),
         RawCitem::Switch(_, names) => switch_descs(names.as_slice(), out),
         RawCitem::Spec(spec) => {
-            let desc = spec_desc(alloc, false, spec)?;
+            let desc = spec_desc(by.alloc, false, spec)?;
             out.push(desc)
         }
     }
 }
 
-fn citems_descs(
-    alloc: Global,
-    numbers: &Table<Numbered>,
-    listed: &Table<Listing>,
-    things: &[Thing],
-    items: &[RawCitem],
-    out: &mut List<Desc>,
-) -> Result<(), NoMemory>
-    ensures { OnOk result (out.new ≡ out.old ++ citems_descs numbers.now listed.now things.now items.now) }
+fn citems_descs(by: Grounds, items: &[RawCitem], out: &mut List<Desc>) -> Result<(), NoMemory>
+    ensures { OnOk result (out.new ≡ out.old ++ citems_descs by.entry.numbers.now by.entry.listed.now by.entry.things.now items.now) }
 {
     for item in items {
-        citem_descs(alloc, numbers, listed, things, item, out)?;
+        citem_descs(by, item, out)?;
     }
     Ok(())
 }
@@ -360,21 +309,12 @@ fn library_descs(alloc: Global, specs: &[RawSpec], out: &mut List<Desc>) -> Resu
     Ok(())
 }
 
-fn communicator_descs(
-    alloc: Global,
-    numbers: &Table<Numbered>,
-    listed: &Table<Listing>,
-    things: &[Thing],
-    list: &RawComm,
-    out: &mut List<Desc>,
-) -> Result<(), NoMemory>
-    ensures { OnOk result (out.new ≡ out.old ++ communicator_descs numbers.now listed.now things.now list.now) }
+fn communicator_descs(by: Grounds, list: &RawComm, out: &mut List<Desc>) -> Result<(), NoMemory>
+    ensures { OnOk result (out.new ≡ out.old ++ communicator_descs by.entry.numbers.now by.entry.listed.now by.entry.things.now list.now) }
 {
     match list {
-        RawComm::Common(_, items) => {
-            citems_descs(alloc, numbers, listed, things, items.as_slice(), out)
-        }
-        RawComm::Library(_, specs) => library_descs(alloc, specs.as_slice(), out),
+        RawComm::Common(_, items) => { citems_descs(by, items.as_slice(), out) }
+        RawComm::Library(_, specs) => library_descs(by.alloc, specs.as_slice(), out),
         RawComm::Absolute(..) => Ok(()),
     }
 }
@@ -389,9 +329,15 @@ pub fn descs_of(
 ) -> Result<List<Desc>, NoMemory>
     ensures { IfOk result (λ all. all ≡ descs_of numbers.now listed.now things.now lists.now) }
 {
+    let by = Grounds {
+        alloc,
+        numbers,
+        listed,
+        things,
+    };
     let mut all = List::new(alloc);
     for list in lists {
-        communicator_descs(alloc, numbers, listed, things, list, &mut all)?;
+        communicator_descs(by, list, &mut all)?;
     }
     Ok(all)
 }

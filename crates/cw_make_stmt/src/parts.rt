@@ -9,10 +9,10 @@ ghost use Rattle.cw_make_stmt.specs.Made.{assignment_of, bits_assignment_of, ass
 use cw_amount::amount::place_amount;
 use cw_make_expr::Numbered;
 use cw_make_expr::calls::{call_of, condition_of, expression_of, reference_of};
-use cw_make_expr::parts::{number_of, small};
+use cw_make_expr::parts::{Source, number_of, small};
 use cw_scope::resolve::Named;
 use cw_table::table::Table;
-use cw_tree::expression::{RawBits, RawCond, RawExpr, RawRef};
+use cw_tree::expression::{RawBits, RawExpr, RawRef};
 use cw_tree::leaf::{Position, RawName};
 use cw_tree::statement::RawFelem;
 use cw_unit::unit::{Cond, Dest, Expr, Felem, Goal, Ref, Stmt};
@@ -142,96 +142,56 @@ pub(crate) fn repetition(
     Boxed::new(alloc, Stmt::For(line, item, variable, elements, body))
 }
 
-// ---- trees of expressions, in boxes until a statement takes them
-
-fn boxed_expression(
-    alloc: Global,
-    named: &Named,
-    numbers: &Table<Numbered>,
-    e: &RawExpr,
-) -> Result<Boxed<Expr>, NoMemory>
-    ensures { IfOk result (λ t. t ≡ expression_of named.now numbers.now e.now) }
+/// The tree of a reference, in a box until a statement takes it.
+pub(crate) fn boxed_reference(text: Source, r: &RawRef) -> Result<Boxed<Ref>, NoMemory>
+    ensures { IfOk result (λ t. t ≡ reference_of text.entry.named.now text.entry.numbers.now r.now) }
 {
-    Boxed::new(alloc, expression_of(alloc, named, numbers, e)?)
-}
-
-pub(crate) fn boxed_condition(
-    alloc: Global,
-    named: &Named,
-    numbers: &Table<Numbered>,
-    c: &RawCond,
-) -> Result<Boxed<Cond>, NoMemory>
-    ensures { IfOk result (λ t. t ≡ condition_of named.now numbers.now c.now) }
-{
-    Boxed::new(alloc, condition_of(alloc, named, numbers, c)?)
-}
-
-pub(crate) fn boxed_reference(
-    alloc: Global,
-    named: &Named,
-    numbers: &Table<Numbered>,
-    r: &RawRef,
-) -> Result<Boxed<Ref>, NoMemory>
-    ensures { IfOk result (λ t. t ≡ reference_of named.now numbers.now r.now) }
-{
-    Boxed::new(alloc, reference_of(alloc, named, numbers, r)?)
+    Boxed::new(text.alloc, reference_of(text, r)?)
 }
 
 // ---- the elements of a FOR
 
-fn felem_of(
-    alloc: Global,
-    named: &Named,
-    numbers: &Table<Numbered>,
-    element: &RawFelem,
-) -> Result<Felem, NoMemory>
-    ensures { IfOk result (λ e. e ≡ felem_of named.now numbers.now element.now) }
+fn felem_of(text: Source, element: &RawFelem) -> Result<Felem, NoMemory>
+    ensures { IfOk result (λ e. e ≡ felem_of text.entry.named.now text.entry.numbers.now element.now) }
 {
     match element {
         RawFelem::One(e) => {
-            let value = expression_of(alloc, named, numbers, e.get())?;
-            Ok(Felem::One(value))
+            let value = expression_of(text, e.get())?;
+            Ok(Felem::One(value.into_inner()))
         }
         RawFelem::While(e, test) => {
-            let value = boxed_expression(alloc, named, numbers, e.get())?;
-            let test = condition_of(alloc, named, numbers, test.get())?;
-            Ok(Felem::While(value.into_inner(), test))
+            let value = expression_of(text, e.get())?;
+            let test = condition_of(text, test.get())?;
+            Ok(Felem::While(value.into_inner(), test.into_inner()))
         }
         RawFelem::Step(first, step, last) => {
-            let first = boxed_expression(alloc, named, numbers, first.get())?;
-            let step = boxed_expression(alloc, named, numbers, step.get())?;
-            let last = expression_of(alloc, named, numbers, last.get())?;
-            Ok(Felem::Step(first.into_inner(), step.into_inner(), last))
+            let first = expression_of(text, first.get())?;
+            let step = expression_of(text, step.get())?;
+            let last = expression_of(text, last.get())?;
+            Ok(Felem::Step(first.into_inner(), step.into_inner(), last.into_inner()))
         }
     }
 }
 
-pub(crate) fn felems_of(
-    alloc: Global,
-    named: &Named,
-    numbers: &Table<Numbered>,
-    elements: &[RawFelem],
-) -> Result<List<Felem>, NoMemory>
-    ensures { IfOk result (λ all. all ≡ map (felem_of named.now numbers.now) elements.now) }
+pub(crate) fn felems_of(text: Source, elements: &[RawFelem]) -> Result<List<Felem>, NoMemory>
+    ensures { IfOk result (λ all. all ≡ map (felem_of text.entry.named.now text.entry.numbers.now) elements.now) }
 {
-    let mut all = List::new(alloc);
+    let mut all = List::new(text.alloc);
     for element in elements {
-        all.push(felem_of(alloc, named, numbers, element)?)?;
+        all.push(felem_of(text, element)?)?;
     }
     Ok(all)
 }
 
 pub(crate) fn call_statement(
-    alloc: Global,
-    named: &Named,
-    numbers: &Table<Numbered>,
+    text: Source,
     name: &RawName,
     arguments: &[RawExpr],
 ) -> Result<Boxed<Stmt>, NoMemory>
-    ensures { IfOk result (λ s. s ≡ call_statement named.now numbers.now name.now arguments.now) }
+    ensures { IfOk result (λ s. s ≡ call_statement text.entry.named.now text.entry.numbers.now name.now arguments.now) }
 {
-    let (target, arguments) = call_of(alloc, named, numbers, name, arguments)?;
-    Boxed::new(alloc, Stmt::Call(line_of(&name.at), target, arguments))
+    let (target, arguments) = call_of(text, name, arguments)?;
+    Boxed::new(text.alloc, Stmt::Call(line_of(&name.at), target, arguments))
 }
 
 fn reference_line(r: &RawRef) -> u16
@@ -252,61 +212,48 @@ fn put_bits(line: u16, t: u8, b: u8, place: Ref, value: Expr) -> Stmt
     Stmt::PutBits(line, t, b, place, value)
 }
 
-fn assignment_of(
-    alloc: Global,
-    named: &Named,
-    numbers: &Table<Numbered>,
-    r: &RawRef,
-    value: Boxed<Expr>,
-) -> Result<Boxed<Stmt>, NoMemory>
-    ensures { IfOk result (λ s. s ≡ assignment_of named.now numbers.now r.now value) }
+fn assignment_of(text: Source, r: &RawRef, value: Boxed<Expr>) -> Result<Boxed<Stmt>, NoMemory>
+    ensures { IfOk result (λ s. s ≡ assignment_of text.entry.named.now text.entry.numbers.now r.now value) }
 {
-    let place = reference_of(alloc, named, numbers, r)?;
-    Boxed::new(alloc, put(reference_line(r), place, value.into_inner()))
+    let place = reference_of(text, r)?;
+    Boxed::new(
+        text.alloc,
+        put(reference_line(r), place, value.into_inner()),
+    )
 }
 
 fn bits_assignment_of(
-    alloc: Global,
-    named: &Named,
-    numbers: &Table<Numbered>,
+    text: Source,
     bits: &RawBits,
     r: &RawRef,
     value: Boxed<Expr>,
 ) -> Result<Boxed<Stmt>, NoMemory>
-    ensures { IfOk result (λ s. s ≡ bits_assignment_of named.now numbers.now bits.now r.now value) }
+    ensures { IfOk result (λ s. s ≡ bits_assignment_of text.entry.named.now text.entry.numbers.now bits.now r.now value) }
 {
     let t = small(&place_amount(&bits.size.first));
     let b = small(&place_amount(&bits.size.second));
     let line = line_of(&bits.at);
-    let place = reference_of(alloc, named, numbers, r)?;
-    Boxed::new(alloc, put_bits(line, t, b, place, value.into_inner()))
+    let place = reference_of(text, r)?;
+    Boxed::new(text.alloc, put_bits(line, t, b, place, value.into_inner()))
 }
 
-pub(crate) fn assignment(
-    alloc: Global,
-    named: &Named,
-    numbers: &Table<Numbered>,
-    r: &RawRef,
-    e: &RawExpr,
-) -> Result<Boxed<Stmt>, NoMemory>
-    ensures { IfOk result (λ s. s ≡ assignment named.now numbers.now r.now e.now) }
+pub(crate) fn assignment(text: Source, r: &RawRef, e: &RawExpr) -> Result<Boxed<Stmt>, NoMemory>
+    ensures { IfOk result (λ s. s ≡ assignment text.entry.named.now text.entry.numbers.now r.now e.now) }
 {
-    let value = boxed_expression(alloc, named, numbers, e)?;
-    assignment_of(alloc, named, numbers, r, value)
+    let value = expression_of(text, e)?;
+    assignment_of(text, r, value)
 }
 
 pub(crate) fn bits_assignment(
-    alloc: Global,
-    named: &Named,
-    numbers: &Table<Numbered>,
+    text: Source,
     bits: &RawBits,
     r: &RawRef,
     e: &RawExpr,
 ) -> Result<Boxed<Stmt>, NoMemory>
-    ensures { IfOk result (λ s. s ≡ bits_assignment named.now numbers.now bits.now r.now e.now) }
+    ensures { IfOk result (λ s. s ≡ bits_assignment text.entry.named.now text.entry.numbers.now bits.now r.now e.now) }
 {
-    let value = boxed_expression(alloc, named, numbers, e)?;
-    bits_assignment_of(alloc, named, numbers, bits, r, value)
+    let value = expression_of(text, e)?;
+    bits_assignment_of(text, bits, r, value)
 }
 
 pub(crate) fn jump(named: &Named, numbers: &Table<Numbered>, at: &Position, name: &RawName) -> Stmt
@@ -316,29 +263,22 @@ pub(crate) fn jump(named: &Named, numbers: &Table<Numbered>, at: &Position, name
 }
 
 pub(crate) fn switch_jump(
-    alloc: Global,
-    named: &Named,
-    numbers: &Table<Numbered>,
+    text: Source,
     at: &Position,
     name: &RawName,
     index: &RawExpr,
 ) -> Result<Boxed<Stmt>, NoMemory>
-    ensures { IfOk result (λ s. s ≡ switch_jump named.now numbers.now at.now name.now index.now) }
+    ensures { IfOk result (λ s. s ≡ switch_jump text.entry.named.now text.entry.numbers.now at.now name.now index.now) }
 {
-    let number = number_of(named, numbers, name);
-    let index = expression_of(alloc, named, numbers, index)?;
-    Boxed::new(alloc, Stmt::Go(line_of(at), switch_of(&number, index)))
+    let number = number_of(text.named, text.numbers, name);
+    let index = expression_of(text, index)?;
+    let goal = switch_of(&number, index.into_inner());
+    Boxed::new(text.alloc, Stmt::Go(line_of(at), goal))
 }
 
-pub(crate) fn answer(
-    alloc: Global,
-    named: &Named,
-    numbers: &Table<Numbered>,
-    at: &Position,
-    e: &RawExpr,
-) -> Result<Boxed<Stmt>, NoMemory>
-    ensures { IfOk result (λ s. s ≡ answer named.now numbers.now at.now e.now) }
+pub(crate) fn answer(text: Source, at: &Position, e: &RawExpr) -> Result<Boxed<Stmt>, NoMemory>
+    ensures { IfOk result (λ s. s ≡ answer text.entry.named.now text.entry.numbers.now at.now e.now) }
 {
-    let value = expression_of(alloc, named, numbers, e)?;
-    Boxed::new(alloc, Stmt::Answer(line_of(at), value))
+    let value = expression_of(text, e)?;
+    Boxed::new(text.alloc, Stmt::Answer(line_of(at), value.into_inner()))
 }

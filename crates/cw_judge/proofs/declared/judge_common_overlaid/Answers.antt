@@ -1,4 +1,4 @@
-use Rattle.cw_judge.specs.Declared.{declared_judged, common_base_judged, common_overlaid_judged}
+use Rattle.cw_judge.specs.Declarations.{declared_judged, common_base_judged, common_overlaid_judged}
 use Rattle.cw_judge.proofs.Joining.{one_then_other}
 use Rattle.cw_judge.proofs.declared.judge_common_overlaid.Goals as goal
 

@@ -1,5 +1,5 @@
 use Rattle.cw_data.specs.Overlays.{base_judged}
-use Rattle.cw_judge.specs.Declared.{declared_judged, overlaid_judged}
+use Rattle.cw_judge.specs.Declarations.{declared_judged, overlaid_judged}
 use Rattle.cw_judge.proofs.Joining.{one_then_other}
 use Rattle.cw_judge.proofs.declared.judge_overlaid.Goals as goal
 

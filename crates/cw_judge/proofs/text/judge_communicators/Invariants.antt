@@ -3,4 +3,6 @@ use Rattle.cw_judge.specs.Judged.{communicators_judged}
 use Rattle.cw_judge.proofs.text.judge_communicators.Given as goal
 
 abbrev pub invariant-loop-list : goal.invariant-loop-list
-invariant-loop-list l = communicators_judged l.named l.sites l.absolute (drop l.list-index l.lists) l.first ≡ communicators_judged l.named l.sites l.absolute l.lists l.initial.first
+invariant-loop-list l =
+    communicators_judged l.by.named.now l.by.sites.now l.by.absolute.now (drop l.list-index l.lists) l.first
+    ≡ communicators_judged l.by.named.now l.by.sites.now l.by.absolute.now l.lists l.initial.first

@@ -14,7 +14,7 @@ use Rattle.cw_tree.specs.declared.items.RawData.TheVariants as items
 use Rattle.cw_facts.specs.Facts.{base_name}
 use Rattle.cw_scope.specs.declared.resolve.Named.{Named}
 use Rattle.cw_scale.specs.declared.fault.Rule.TheVariants as rule
-use Rattle.cw_scale.specs.Faults.{Judgement, fine, wrong, unless, both}
+use Rattle.cw_scale.specs.Faults.{Judgement, fine, unless, both}
 use Rattle.cw_scale.specs.Kinds.{fraction_of}
 use Rattle.cw_data.specs.Data.{data_judged}
 use Rattle.cw_data.specs.Overlays.{base_judged}

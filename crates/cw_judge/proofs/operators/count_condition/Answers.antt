@@ -1,0 +1,9 @@
+use Rattle.std.proofs.Common.{ap, ◌∙◌}
+use Rattle.cw_judge.specs.Operators.{tally_judged, condition_operators}
+use Rattle.cw_judge.proofs.Counting.{few_counted}
+use Rattle.cw_judge.proofs.operators.count_condition.Goals as goal
+
+pub returns : goal.returns
+returns c =
+    c.judge_tally.ensures ∙ ap (λ t. tally_judged t c.args.first.now) c.condition_operators.ensures
+    ∙ few_counted (condition_operators c.args.c.now) 1024 c.args.first.now
