@@ -1,2 +1,4 @@
 pub mod Flags
 pub mod Noted
+pub mod Forms
+pub mod Growing

@@ -1,7 +1,7 @@
 //! From orders to code.
-ghost use Rattle.std.specs.Prelude.{◌≡◌, length, map, slice_index, IfOk, OnOk, All};
+ghost use Rattle.std.specs.Prelude.{◌≡◌, length, map, slice_index, IfOk, All};
 ghost use Rattle.cw_order.specs.HasCode.{HasCode};
-ghost use Rattle.cw_tmpl.specs.Assembling.{Adds};
+ghost use Rattle.cw_assemble.specs.Growing.{Adds};
 ghost use Rattle.cw_tmpl.specs.Pieces.{blanks, relocations};
 ghost use Rattle.cw_tmpl.specs.Templates.{entry_pieces};
 ghost use Rattle.cw_tmpl.specs.ReferenceCode.{templates, landings, switches, names_of, reach_of, order_places, mark_starts, label_starts, statements_from, pieces_of, orders_code};
@@ -10,6 +10,7 @@ ghost use Rattle.cw_assemble.specs.Flags.{AreFlags};
 ghost use Rattle.cw_assemble.specs.Noted.{blocks_from};
 
 use crate::blocks::put_block;
+use crate::draft::Draft;
 use crate::jumping::{put_landing, put_switch};
 use crate::named::{named_labels, named_switches};
 use crate::noted::{block_noted, blocks_of};
@@ -24,8 +25,8 @@ use cw_word::{List, NoMemory};
 use std::alloc::Global;
 
 /// Adds the entry of a segment, which makes the base record.
-fn put_entry(code: &mut Assembly) -> Result<(), NoMemory>
-    ensures { OnOk result (Adds code.old entry_pieces code.new) }
+fn put_entry(code: &mut Draft)
+    ensures { Adds code.old entry_pieces code.new }
 {
     code.put_all(&[
         Coded::Call(Target::LibraryAhead(START)),
@@ -33,64 +34,46 @@ fn put_entry(code: &mut Assembly) -> Result<(), NoMemory>
         Coded::Word(Target::Limit(Limit::FrameWords)),
         Coded::Word(Target::Limit(Limit::Calls)),
         Coded::Word(Target::Limit(Limit::Segment)),
-    ])
+    ]);
 }
 
 /// Adds the code of orders.
-fn put_orders(
-    code: &mut Assembly,
-    list: &[Order],
-    blocks: &[Block],
-    names: &Names,
-) -> Result<(), NoMemory>
+fn put_orders(code: &mut Draft, list: &[Order], blocks: &[Block], names: &Names)
     requires codes { All HasCode list.now }
     requires noted { blocks.now ≡ blocks_from 0 list.now }
-    ensures { OnOk result (Adds code.old (templates names.now (length code.old.bytes) 0 0 list.now) code.new) }
+    ensures { Adds code.old (templates names.now (length code.old.assembly.bytes) 0 0 list.now) code.new }
 {
     let mut left = 0;
     for k in 0..list.len() {
         let order = &list[k];
         let block = block_noted(blocks, list, left, k);
         let short = names.reach.is_short(k, block, order);
-        put_block(code, short, block, order, k, names)?;
+        put_block(code, short, block, order, k, names);
         left = orders_left(block);
     }
-    Ok(())
 }
 
 /// Adds the landings of the labels that have one.
-fn put_landings(
-    code: &mut Assembly,
-    orders: &Orders,
-    named: &[bool],
-    names: &Names,
-) -> Result<(), NoMemory>
+fn put_landings(code: &mut Draft, orders: &Orders, named: &[bool], names: &Names)
     requires { AreFlags named.now (length orders.now.labels) (is_named_label orders.now) }
-    ensures { OnOk result (Adds code.old (landings names.now (is_named_label orders.now) (length code.old.bytes) 0 orders.now.labels) code.new) }
+    ensures { Adds code.old (landings names.now (is_named_label orders.now) (length code.old.assembly.bytes) 0 orders.now.labels) code.new }
 {
     let labels = orders.labels.as_slice();
     for number in 0..labels.len() {
         let has = has_landing(named[number], labels[number]);
-        put_landing(code, has, &labels[number], names)?;
+        put_landing(code, has, &labels[number], names);
     }
-    Ok(())
 }
 
 /// Adds the routines of the switches that something names.
-fn put_switches(
-    code: &mut Assembly,
-    orders: &Orders,
-    named: &[bool],
-    names: &Names,
-) -> Result<(), NoMemory>
+fn put_switches(code: &mut Draft, orders: &Orders, named: &[bool], names: &Names)
     requires { AreFlags named.now (length orders.now.switches) (is_named_switch orders.now) }
-    ensures { OnOk result (Adds code.old (switches names.now (is_named_switch orders.now) (length code.old.bytes) 0 orders.now.switches) code.new) }
+    ensures { Adds code.old (switches names.now (is_named_switch orders.now) (length code.old.assembly.bytes) 0 orders.now.switches) code.new }
 {
     let switches = orders.switches.as_slice();
     for number in 0..switches.len() {
-        put_switch(code, named[number], &switches[number], names)?;
+        put_switch(code, named[number], &switches[number], names);
     }
-    Ok(())
 }
 
 /// The bytes and the relocations of the orders' code.
@@ -110,15 +93,12 @@ fn code_of(
     ensures bytes { IfOk result (λ code. code.bytes ≡ blanks (pieces_of orders.now)) }
     ensures relocs { IfOk result (λ code. code.relocs ≡ relocations 0 (pieces_of orders.now)) }
 {
-    let mut code = Assembly {
-        bytes: List::new(alloc),
-        relocs: List::new(alloc),
-    };
-    put_entry(&mut code)?;
-    put_orders(&mut code, orders.list.as_slice(), blocks, names)?;
-    put_landings(&mut code, orders, labels, names)?;
-    put_switches(&mut code, orders, switches, names)?;
-    Ok(code)
+    let mut code = Draft::new(alloc);
+    put_entry(&mut code);
+    put_orders(&mut code, orders.list.as_slice(), blocks, names);
+    put_landings(&mut code, orders, labels, names);
+    put_switches(&mut code, orders, switches, names);
+    code.finish()
 }
 
 /// The blocks of the orders, where their code stands, and what tells the forms of the blocks: the places where it is longest, and the CALLs that

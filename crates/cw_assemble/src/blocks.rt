@@ -1,8 +1,8 @@
 //! Code of blocks of several orders.
-ghost use Rattle.std.specs.Prelude.{◌≡◌, ◌≤◌, ◌+◌, ◌-ℤ◌, true, false, ◌<◌, ◌++◌, ◌∷◌, [], length, OnOk};
+ghost use Rattle.std.specs.Prelude.{◌≡◌, ◌≤◌, ◌+◌, ◌-ℤ◌, true, false, ◌<◌, ◌++◌, ◌∷◌, [], length};
 ghost use Rattle.cw_order.specs.HasCode.{HasCode};
 ghost use Rattle.cw_order.specs.declared.order.Order.TheVariants as order;
-ghost use Rattle.cw_tmpl.specs.Assembling.{Adds};
+ghost use Rattle.cw_assemble.specs.Growing.{Adds};
 ghost use Rattle.cw_tmpl.specs.Blocks.{is_within, form_within, TestsWithin, OperandWithin, NamesParts};
 ghost use Rattle.cw_tmpl.specs.Names.{no_names};
 ghost use Rattle.cw_tmpl.specs.Pieces.{IsCoded};
@@ -18,8 +18,9 @@ ghost use Rattle.cw_tmpl.specs.Templates.{branch_by, template_by, operated, word
 
 use crate::calling::frame_field;
 use crate::checks::{put_check, put_count};
+use crate::draft::Draft;
 use crate::indexes::{indexes_to, put_times_entry, put_top_below, put_top_from_lower};
-use crate::jumping::{condition, distance, opposite, short_distance};
+use crate::jumping::put_branch;
 use crate::orders::{put_order, put_short_order};
 use crate::parts::{put_part_taken, put_shifted_down_signed, put_shifted_up};
 use crate::rows::put_row;
@@ -31,14 +32,11 @@ use cw_tmpl::instructions::{
     jump_if_below, load, multiply, operate, operate_number, set_word, store, with_number,
 };
 use cw_tmpl::library::{ADDRESS, BOUNDS};
-use cw_tmpl::{
-    Assembly, Block, Bounded, Bounds, Coded, Element, Form, Names, Simple, Target, Test, Use,
-};
-use cw_word::NoMemory;
+use cw_tmpl::{Block, Bounded, Bounds, Coded, Element, Form, Names, Simple, Target, Test, Use};
 
 /// Adds what is needed before an instruction names a place.
-fn put_address(code: &mut Assembly, place: Place) -> Result<(), NoMemory>
-    ensures { OnOk result (Adds code.old (address_pieces place) code.new) }
+fn put_address(code: &mut Draft, place: Place)
+    ensures { Adds code.old (address_pieces place) code.new }
 {
     match place {
         Place::Word { .. } => code.put_all(&[]),
@@ -101,8 +99,8 @@ fn change_place(number: u8, place: Place) -> Coded
 }
 
 /// Adds SI with the address of a word of a family and the word at a place added.
-fn put_index(code: &mut Assembly, index: Place, family: u16, offset: u16) -> Result<(), NoMemory>
-    ensures { OnOk result (Adds code.old (index_added index family offset) code.new) }
+fn put_index(code: &mut Draft, index: Place, family: u16, offset: u16)
+    ensures { Adds code.old (index_added index family offset) code.new }
 {
     let base = Coded::Move {
         reg: SI,
@@ -126,22 +124,22 @@ fn put_index(code: &mut Assembly, index: Place, family: u16, offset: u16) -> Res
 }
 
 /// Adds the address of an element, compared with the length of the data area and doubled, in SI. `zero` is the word that index 0 names.
-fn put_address_tested(code: &mut Assembly, element: Element, zero: u16) -> Result<(), NoMemory>
-    ensures { OnOk result (Adds code.old (address_tested element zero) code.new) }
+fn put_address_tested(code: &mut Draft, element: Element, zero: u16)
+    ensures { Adds code.old (address_tested element zero) code.new }
 {
-    put_index(code, element.index, element.family, zero)?;
+    put_index(code, element.index, element.family, zero);
     code.put_all(&[
         Coded::Whole(compare(SI, DI)),
         Coded::Whole(jump_if_below(5)),
         Coded::Call(Target::LibraryAhead(ADDRESS)),
         Coded::Data(element.line),
         Coded::Whole(double(SI)),
-    ])
+    ]);
 }
 
 /// Adds SI from a place.
-pub(crate) fn put_index_loaded(code: &mut Assembly, index: Place) -> Result<(), NoMemory>
-    ensures { OnOk result (Adds code.old (index_loaded index) code.new) }
+pub(crate) fn put_index_loaded(code: &mut Draft, index: Place)
+    ensures { Adds code.old (index_loaded index) code.new }
 {
     match index {
         Place::Word { family, offset } => code.put_all(&[Coded::Fetch {
@@ -156,13 +154,13 @@ pub(crate) fn put_index_loaded(code: &mut Assembly, index: Place) -> Result<(), 
 }
 
 /// Adds SI less a lower bound.
-pub(crate) fn put_from_lower(code: &mut Assembly, lower: i16) -> Result<(), NoMemory>
-    ensures { OnOk result (Adds code.old (from_lower lower) code.new) }
+pub(crate) fn put_from_lower(code: &mut Draft, lower: i16)
+    ensures { Adds code.old (from_lower lower) code.new }
 {
     if lower == 0 {
-        Ok(())
+        code.put_all(&[]);
     } else {
-        code.put_all(&[Coded::Whole(operate_number(5, SI, lower.cast_unsigned()))])
+        code.put_all(&[Coded::Whole(operate_number(5, SI, lower.cast_unsigned()))]);
     }
 }
 
@@ -175,14 +173,8 @@ pub(crate) fn indexes_between(lower: i16, upper: i16, span: u16) -> u16
 }
 
 /// Adds the comparison of SI with so many indexes, and the address of the word that SI then counts from, doubled, in SI.
-fn put_index_below(
-    code: &mut Assembly,
-    count: u16,
-    line: u16,
-    family: u16,
-    first: u16,
-) -> Result<(), NoMemory>
-    ensures { OnOk result (Adds code.old (index_below count line family first) code.new) }
+fn put_index_below(code: &mut Draft, count: u16, line: u16, family: u16, first: u16)
+    ensures { Adds code.old (index_below count line family first) code.new }
 {
     code.put_all(&[
         Coded::Whole(operate_number(7, SI, count)),
@@ -197,29 +189,24 @@ fn put_index_below(
             },
         },
         Coded::Whole(double(SI)),
-    ])
+    ]);
 }
 
 /// Adds the address of an element whose index is compared with its bounds, doubled, in SI.
-fn put_index_tested(
-    code: &mut Assembly,
-    element: Element,
-    upper: i16,
-    line: u16,
-) -> Result<(), NoMemory>
+fn put_index_tested(code: &mut Draft, element: Element, upper: i16, line: u16)
     requires { is_within (upper -ℤ element.lower) element.span ≡ true }
-    ensures { OnOk result (Adds code.old (index_tested element upper line) code.new) }
+    ensures { Adds code.old (index_tested element upper line) code.new }
 {
-    put_index_loaded(code, element.index)?;
-    put_from_lower(code, element.lower)?;
+    put_index_loaded(code, element.index);
+    put_from_lower(code, element.lower);
     let count = indexes_between(element.lower, upper, element.span);
-    put_index_below(code, count, line, element.family, element.first)
+    put_index_below(code, count, line, element.family, element.first);
 }
 
 /// Adds the address of an element, tested and doubled, in SI.
-fn put_element_address(code: &mut Assembly, element: Element) -> Result<(), NoMemory>
+fn put_element_address(code: &mut Draft, element: Element)
     requires { TestsWithin element element.test }
-    ensures { OnOk result (Adds code.old (element_address element) code.new) }
+    ensures { Adds code.old (element_address element) code.new }
 {
     match element.test {
         Test::Address { zero } => put_address_tested(code, element, zero),
@@ -228,71 +215,65 @@ fn put_element_address(code: &mut Assembly, element: Element) -> Result<(), NoMe
 }
 
 /// Adds the address of an element and an instruction behind it.
-fn put_at_element(code: &mut Assembly, element: Element, last: Coded) -> Result<(), NoMemory>
+fn put_at_element(code: &mut Draft, element: Element, last: Coded)
     requires last { IsCoded last }
     requires within { TestsWithin element element.test }
-    ensures { OnOk result (Adds code.old (element_address element ++ last ∷ []) code.new) }
+    ensures { Adds code.old (element_address element ++ last ∷ []) code.new }
 {
-    put_element_address(code, element)?;
-    code.put_all(&[last])
+    put_element_address(code, element);
+    code.put_all(&[last]);
 }
 
-fn put_fetch_part(
-    code: &mut Assembly,
-    place: Place,
-    t: u8,
-    b: u8,
-    signed: bool,
-) -> Result<(), NoMemory>
+fn put_fetch_part(code: &mut Draft, place: Place, t: u8, b: u8, signed: bool)
     requires { t + b ≤ 16 }
-    ensures { OnOk result (Adds code.old (block_pieces no_names 0 0 false (block.FetchPart place t b signed) order.Save) code.new) }
+    ensures { Adds code.old (block_pieces no_names 0 0 false (block.FetchPart place t b signed) order.Save) code.new }
 {
-    put_address(code, place)?;
-    code.put_all(&[load_place(place)])?;
-    put_part_taken(code, t, b, signed)
+    put_address(code, place);
+    code.put_all(&[load_place(place)]);
+    put_part_taken(code, t, b, signed);
 }
 
-fn put_assign_part(code: &mut Assembly, place: Place, t: u8, b: u8) -> Result<(), NoMemory>
+fn put_assign_part(code: &mut Draft, place: Place, t: u8, b: u8)
     requires some { 1 ≤ t }
     requires within { t + b ≤ 16 }
-    ensures { OnOk result (Adds code.old (block_pieces no_names 0 0 false (block.AssignPart place t b) order.Save) code.new) }
+    ensures { Adds code.old (block_pieces no_names 0 0 false (block.AssignPart place t b) order.Save) code.new }
 {
-    put_shifted_up(code, b)?;
-    put_address(code, place)?;
+    put_shifted_up(code, b);
+    put_address(code, place);
     code.put_all(&[
         operate_place(6, place),
         Coded::Whole(with_number(4, mask(t, b))),
         change_place(6, place),
-    ])
+    ]);
 }
 
-fn put_fetch(code: &mut Assembly, place: Place) -> Result<(), NoMemory>
-    ensures { OnOk result (Adds code.old (address_pieces place ++ load_place place ∷ []) code.new) }
+fn put_fetch(code: &mut Draft, place: Place)
+    ensures { Adds code.old (address_pieces place ++ load_place place ∷ []) code.new }
 {
-    put_address(code, place)?;
-    code.put_all(&[load_place(place)])
+    put_address(code, place);
+    code.put_all(&[load_place(place)]);
 }
 
-fn put_assign(code: &mut Assembly, place: Place) -> Result<(), NoMemory>
-    ensures { OnOk result (Adds code.old (address_pieces place ++ store_place place ∷ []) code.new) }
+fn put_assign(code: &mut Draft, place: Place)
+    ensures { Adds code.old (address_pieces place ++ store_place place ∷ []) code.new }
 {
-    put_address(code, place)?;
-    code.put_all(&[store_place(place)])
+    put_address(code, place);
+    code.put_all(&[store_place(place)]);
 }
 
-fn put_operation_at(code: &mut Assembly, number: u8, place: Place) -> Result<(), NoMemory>
+fn put_operation_at(code: &mut Draft, number: u8, place: Place)
     requires { number < 8 }
-    ensures { OnOk result (Adds code.old (address_pieces place ++ operate_place number place ∷ []) code.new) }
+    ensures { Adds code.old (address_pieces place ++ operate_place number place ∷ []) code.new }
 {
-    put_address(code, place)?;
-    code.put_all(&[operate_place(number, place)])
+    put_address(code, place);
+    code.put_all(&[operate_place(number, place)]);
 }
 
 /// Adds an operation on AX and a simple operand.
-fn put_with_operand(code: &mut Assembly, number: u8, operand: Simple) -> Result<(), NoMemory>
+fn put_with_operand(code: &mut Draft, number: u8, operand: Simple)
     requires number { number < 8 }
     requires within { OperandWithin operand }
-    ensures { OnOk result (Adds code.old (with_operand number operand) code.new) }
+    ensures { Adds code.old (with_operand number operand) code.new }
 {
     match operand {
         Simple::Number(word) => code.put_all(&[Coded::Whole(with_number(number, word))]),
@@ -303,27 +284,27 @@ fn put_with_operand(code: &mut Assembly, number: u8, operand: Simple) -> Result<
     }
 }
 
-fn put_product_at(code: &mut Assembly, place: Place) -> Result<(), NoMemory>
-    ensures { OnOk result (Adds code.old (product_with (simple.Contents place)) code.new) }
+fn put_product_at(code: &mut Draft, place: Place)
+    ensures { Adds code.old (product_with (simple.Contents place)) code.new }
 {
-    code.put_all(&[Coded::Whole(copy(CX, AX))])?;
-    put_address(code, place)?;
-    code.put_all(&[load_place(place), Coded::Whole(multiply(CX))])
+    code.put_all(&[Coded::Whole(copy(CX, AX))]);
+    put_address(code, place);
+    code.put_all(&[load_place(place), Coded::Whole(multiply(CX))]);
 }
 
-fn put_product_of(code: &mut Assembly, element: Element) -> Result<(), NoMemory>
+fn put_product_of(code: &mut Draft, element: Element)
     requires { TestsWithin element element.test }
-    ensures { OnOk result (Adds code.old (product_with (simple.Element element)) code.new) }
+    ensures { Adds code.old (product_with (simple.Element element)) code.new }
 {
-    code.put_all(&[Coded::Whole(copy(CX, AX))])?;
-    put_element_address(code, element)?;
-    code.put_all(&[Coded::Whole(load(AX, AT_SI)), Coded::Whole(multiply(CX))])
+    code.put_all(&[Coded::Whole(copy(CX, AX))]);
+    put_element_address(code, element);
+    code.put_all(&[Coded::Whole(load(AX, AT_SI)), Coded::Whole(multiply(CX))]);
 }
 
 /// Adds a product of AX and a simple operand.
-fn put_product_with(code: &mut Assembly, operand: Simple) -> Result<(), NoMemory>
+fn put_product_with(code: &mut Draft, operand: Simple)
     requires { OperandWithin operand }
-    ensures { OnOk result (Adds code.old (product_with operand) code.new) }
+    ensures { Adds code.old (product_with operand) code.new }
 {
     match operand {
         Simple::Number(word) => code.put_all(&[
@@ -336,98 +317,50 @@ fn put_product_with(code: &mut Assembly, operand: Simple) -> Result<(), NoMemory
 }
 
 /// Adds a sum or a difference, and its check.
-fn put_sum(
-    code: &mut Assembly,
-    short: bool,
-    number: u8,
-    operand: Simple,
-    line: u16,
-    to: u64,
-) -> Result<(), NoMemory>
+fn put_sum(code: &mut Draft, short: bool, number: u8, operand: Simple, line: u16, to: u32)
     requires number { number < 8 }
     requires within { OperandWithin operand }
-    ensures { OnOk result
-        (Adds code.old (with_operand number operand
-        ++ checked_by short line (length code.old.bytes + pieces_size (with_operand number operand)) to)
-        code.new) }
+    ensures { Adds code.old (with_operand number operand
+        ++ checked_by short line (length code.old.assembly.bytes + pieces_size (with_operand number operand)) to)
+        code.new }
 {
-    put_with_operand(code, number, operand)?;
-    put_check(code, short, line, to)
+    put_with_operand(code, number, operand);
+    put_check(code, short, line, to);
 }
 
 /// Adds a product, and its check.
-fn put_product(
-    code: &mut Assembly,
-    short: bool,
-    operand: Simple,
-    line: u16,
-    to: u64,
-) -> Result<(), NoMemory>
+fn put_product(code: &mut Draft, short: bool, operand: Simple, line: u16, to: u32)
     requires { OperandWithin operand }
-    ensures { OnOk result
-        (Adds code.old (product_with operand ++ checked_by short line
-        (length code.old.bytes + pieces_size (product_with operand)) to) code.new) }
+    ensures { Adds code.old (product_with operand ++ checked_by short line
+        (length code.old.assembly.bytes + pieces_size (product_with operand)) to) code.new }
 {
-    put_product_with(code, operand)?;
-    put_check(code, short, line, to)
-}
-
-/// Adds a jump behind a comparison, where that holds.
-fn put_branch(
-    code: &mut Assembly,
-    short: bool,
-    comparator: Comparator,
-    to: u64,
-) -> Result<(), NoMemory>
-    ensures { OnOk result (Adds code.old (branch_by short comparator (length code.old.bytes) to) code.new) }
-{
-    let place = code.bytes.as_slice().len();
-    if short {
-        code.put_all(&[Coded::Whole(Instr::JumpIf {
-            cond: condition(comparator),
-            by: short_distance(place + 2, to),
-        })])
-    } else {
-        code.put_all(&[
-            Coded::Whole(Instr::JumpIf {
-                cond: opposite(comparator),
-                by: 3,
-            }),
-            Coded::Whole(Instr::Jump(distance(place + 5, to))),
-        ])
-    }
+    put_product_with(code, operand);
+    put_check(code, short, line, to);
 }
 
 /// Adds a jump where a comparison of AX with a simple operand holds.
-fn put_comparison(
-    code: &mut Assembly,
-    short: bool,
-    operand: Simple,
-    comparator: Comparator,
-    to: u64,
-) -> Result<(), NoMemory>
+fn put_comparison(code: &mut Draft, short: bool, operand: Simple, comparator: Comparator, to: u32)
     requires { OperandWithin operand }
-    ensures { OnOk result
-        (Adds code.old (with_operand 7 operand ++ branch_by short comparator
-        (length code.old.bytes + pieces_size (with_operand 7 operand)) to) code.new) }
+    ensures { Adds code.old (with_operand 7 operand ++ branch_by short comparator
+        (length code.old.assembly.bytes + pieces_size (with_operand 7 operand)) to) code.new }
 {
-    put_with_operand(code, 7, operand)?;
-    put_branch(code, short, comparator, to)
+    put_with_operand(code, 7, operand);
+    put_branch(code, short, comparator, to);
 }
 
 /// Adds the code of a simple operand and an order that uses it, whose jump may be short, or whose check may jump back.
 fn put_operated(
-    code: &mut Assembly,
+    code: &mut Draft,
     short: bool,
     operand: Simple,
     with: Use,
     number: usize,
     names: &Names,
-) -> Result<(), NoMemory>
+)
     requires { OperandWithin operand }
-    ensures { OnOk result (Adds code.old (operated names.now (length code.old.bytes) number short operand with) code.new) }
+    ensures { Adds code.old (operated names.now (length code.old.assembly.bytes) number short operand with) code.new }
 {
-    let call = u64::from(names.call(number));
+    let call = names.call(number);
     match with {
         Use::Add(line) => put_sum(code, short, 0, operand, line, call),
         Use::Subtract(line) => put_sum(code, short, 5, operand, line, call),
@@ -436,69 +369,56 @@ fn put_operated(
         Use::Union => put_with_operand(code, 1, operand),
         Use::Differ => put_with_operand(code, 6, operand),
         Use::Compare { comparator, mark } => {
-            put_comparison(
-                code,
-                short,
-                operand,
-                comparator,
-                u64::from(names.mark(mark)),
-            )
+            put_comparison(code, short, operand, comparator, names.mark(mark))
         }
     }
 }
 
 /// Adds a word of the frame compared with a number.
-fn put_word_compared(code: &mut Assembly, offset: u16, with: u16) -> Result<(), NoMemory>
-    ensures { OnOk result (Adds code.old (word_compared offset with) code.new) }
+fn put_word_compared(code: &mut Draft, offset: u16, with: u16)
+    ensures { Adds code.old (word_compared offset with) code.new }
 {
     code.put_all(&[
         Coded::Whole(load(BX, BASE)),
         Coded::Whole(compare_number(frame_field(offset), with)),
-    ])
+    ]);
 }
 
 /// Adds what fetches two words of the frame, the first one first.
-fn put_both(code: &mut Assembly, first: u16, second: u16) -> Result<(), NoMemory>
-    ensures { OnOk result (Adds code.old (block_pieces no_names 0 0 false (block.FetchBoth first second) order.Save) code.new) }
+fn put_both(code: &mut Draft, first: u16, second: u16)
+    ensures { Adds code.old (block_pieces no_names 0 0 false (block.FetchBoth first second) order.Save) code.new }
 {
     code.put_all(&[
         Coded::Whole(load(BX, BASE)),
         Coded::Whole(load(AX, frame_field(first))),
         Coded::Whole(Instr::Push(AX)),
         Coded::Whole(load(AX, frame_field(second))),
-    ])
+    ]);
 }
 
 /// Adds a jump where a comparison of a word of the frame with a number holds.
 fn put_compare_word(
-    code: &mut Assembly,
+    code: &mut Draft,
     short: bool,
     offset: u16,
     with: u16,
     comparator: Comparator,
-    to: u64,
-) -> Result<(), NoMemory>
-    ensures { OnOk result
-        (Adds code.old (word_compared offset with
-        ++ branch_by short comparator (length code.old.bytes + pieces_size (word_compared offset with)) to)
-        code.new) }
+    to: u32,
+)
+    ensures { Adds code.old (word_compared offset with
+        ++ branch_by short comparator (length code.old.assembly.bytes + pieces_size (word_compared offset with)) to)
+        code.new }
 {
-    put_word_compared(code, offset, with)?;
-    put_branch(code, short, comparator, to)
+    put_word_compared(code, offset, with);
+    put_branch(code, short, comparator, to);
 }
 
 /// Adds the address of a word of the entry whose number is in AX.
-pub(crate) fn put_entry_formed(
-    code: &mut Assembly,
-    family: u16,
-    first: u16,
-    width: u16,
-    word: u16,
-) -> Result<(), NoMemory>
+pub(crate) fn put_entry_formed(code: &mut Draft, family: u16, first: u16, width: u16, word: u16)
     requires { first + word < 65536 }
-    ensures { OnOk result (Adds code.old (times_entry width ++ coded.Sum 0 (target.Word family (first + word)) ∷ []) code.new) }
+    ensures { Adds code.old (times_entry width ++ coded.Sum 0 (target.Word family (first + word)) ∷ []) code.new }
 {
-    put_times_entry(code, width)?;
+    put_times_entry(code, width);
     code.put_all(&[Coded::Sum {
         reg: AX,
         target: Target::Word {
@@ -509,15 +429,9 @@ pub(crate) fn put_entry_formed(
 }
 
 /// Adds the address that is formed of an index in AX.
-fn put_formed(
-    code: &mut Assembly,
-    bounds: Bounds,
-    family: u16,
-    first: u16,
-    form: Form,
-) -> Result<(), NoMemory>
+fn put_formed(code: &mut Draft, bounds: Bounds, family: u16, first: u16, form: Form)
     requires { form_within bounds first form ≡ true }
-    ensures { OnOk result (Adds code.old (formed family first form) code.new) }
+    ensures { Adds code.old (formed family first form) code.new }
 {
     match form {
         Form::Element { .. } => code.put_all(&[Coded::Sum {
@@ -543,9 +457,9 @@ fn indexes_formed(bounds: Bounds, first: u16, form: Form) -> u16
 }
 
 /// Adds the comparison of an index with its bounds, and the address that is formed of it.
-fn put_bounded(code: &mut Assembly, bounded: Bounded) -> Result<(), NoMemory>
+fn put_bounded(code: &mut Draft, bounded: Bounded)
     requires { form_within bounded.bounds bounded.first bounded.form ≡ true }
-    ensures { OnOk result (Adds code.old (bounded_address bounded) code.new) }
+    ensures { Adds code.old (bounded_address bounded) code.new }
 {
     let Bounded {
         bounds,
@@ -554,52 +468,46 @@ fn put_bounded(code: &mut Assembly, bounded: Bounded) -> Result<(), NoMemory>
         form,
     } = bounded;
     let count = indexes_formed(bounds, first, form);
-    put_top_from_lower(code, bounds.lower)?;
-    put_top_below(code, bounds.line, count)?;
-    put_formed(code, bounds, family, first, form)
+    put_top_from_lower(code, bounds.lower);
+    put_top_below(code, bounds.line, count);
+    put_formed(code, bounds, family, first, form);
 }
 
 /// Adds the code of a quotient by a number in the processor's own division.
-fn put_divided_by(code: &mut Assembly, number: u16) -> Result<(), NoMemory>
-    ensures { OnOk result (Adds code.old (block_pieces no_names 0 0 false (block.Divide number 0) order.Save) code.new) }
+fn put_divided_by(code: &mut Draft, number: u16)
+    ensures { Adds code.old (block_pieces no_names 0 0 false (block.Divide number 0) order.Save) code.new }
 {
     code.put_all(&[
         Coded::Whole(set_word(BX, number)),
         Coded::Whole(Instr::Cwd),
         Coded::Whole(divide_signed(BX)),
-    ])
+    ]);
 }
 
 /// Adds the code of an order alone, whose jump may be short, or whose check may jump back.
-fn put_single(
-    code: &mut Assembly,
-    short: bool,
-    order: &Order,
-    number: usize,
-    names: &Names,
-) -> Result<(), NoMemory>
+fn put_single(code: &mut Draft, short: bool, order: &Order, number: usize, names: &Names)
     requires { HasCode order.now }
-    ensures { OnOk result (Adds code.old (template_by short names.now (length code.old.bytes) number order.now) code.new) }
+    ensures { Adds code.old (template_by short names.now (length code.old.assembly.bytes) number order.now) code.new }
 {
     if short {
-        put_short_order(code, order, number, names)
+        put_short_order(code, order, number, names);
     } else {
-        put_order(code, order, names)
+        put_order(code, order, names);
     }
 }
 
 /// Adds the code of a block that begins with an order of this number, and whose jump may be short, or whose check may jump back.
 pub(crate) fn put_block(
-    code: &mut Assembly,
+    code: &mut Draft,
     short: bool,
     block: Block,
     order: &Order,
     number: usize,
     names: &Names,
-) -> Result<(), NoMemory>
+)
     requires code { HasCode order.now }
     requires parts { NamesParts block }
-    ensures { OnOk result (Adds code.old (block_pieces names.now (length code.old.bytes) number short block order.now) code.new) }
+    ensures { Adds code.old (block_pieces names.now (length code.old.assembly.bytes) number short block order.now) code.new }
 {
     match block {
         Block::Within(_) => code.put_all(&[]),
@@ -624,9 +532,7 @@ pub(crate) fn put_block(
         Block::AssignElement(element) => {
             put_at_element(code, element, Coded::Whole(store(AT_SI, AX)))
         }
-        Block::Count { down, line } => {
-            put_count(code, short, down, line, u64::from(names.call(number)))
-        }
+        Block::Count { down, line } => { put_count(code, short, down, line, names.call(number)) }
         Block::Halve { places, .. } => put_shifted_down_signed(code, places),
         Block::Bounded(bounded) => put_bounded(code, bounded),
         Block::Row(row) => put_row(code, row),
@@ -636,13 +542,6 @@ pub(crate) fn put_block(
             with,
             comparator,
             mark,
-        } => put_compare_word(
-            code,
-            short,
-            offset,
-            with,
-            comparator,
-            u64::from(names.mark(mark)),
-        ),
+        } => put_compare_word(code, short, offset, with, comparator, names.mark(mark)),
     }
 }

@@ -3,10 +3,10 @@
 
 mod arithmetic;
 mod assembling;
-mod backward;
 mod blocks;
 mod calling;
 mod checks;
+mod draft;
 mod indexes;
 mod jumping;
 mod loops;

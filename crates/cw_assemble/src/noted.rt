@@ -16,6 +16,7 @@ pub(crate) fn blocks_of(alloc: Global, orders: &[Order]) -> Result<List<Block>, 
     let mut left = 0;
     for k in 0..orders.len() {
         let order = &orders[k];
+        // Only the proof speaks of the order, and sees what the body reads.
         let _ = order;
         let block = block_in(left, orders, k);
         blocks.push(block)?;
@@ -31,6 +32,7 @@ pub(crate) fn block_noted(blocks: &[Block], orders: &[Order], left: u8, k: usize
     ensures value { result ≡ block_at left (drop k orders.now) }
     ensures parts { NamesParts result }
 {
+    // Only the contract speaks of these two, and the prover sees what the body reads.
     let _ = orders;
     let _ = left;
     blocks[k]

@@ -5,6 +5,7 @@ use Rattle.cw_track.specs.Machine.{Machine}
 use Rattle.cw_track.specs.Tracking.{step_budget}
 use Rattle.cw_unit.specs.declared.unit.Unit.{Unit as SourceUnit}
 use Rattle.cw_unit.specs.declared.unit.Proc.{Proc}
+use Rattle.cw_unit.specs.declared.unit.Param.{Param}
 use Rattle.cw_unit.specs.declared.unit.Label.{Label}
 use Rattle.cw_unit.specs.declared.unit.Switch.{Switch}
 use Rattle.cw_unit.specs.declared.unit.Goal.{Goal}
@@ -51,8 +52,11 @@ place_of l (p ∷ ps) = place_if (nat_eq l p.0) p.1 (place_of l ps)
 -- ---- bodies
 
 -- the return at the end of a procedure, which answers 0: none where no run comes to that end
+abbrev pub leave_with : (ends : Bool) → List Param → List Order
+leave_with ends ps = if ends then (order.Const 0 ∷ order.Return (argument_words ps) true ∷ []) else []
+
 abbrev pub leave_orders : Proc → List Order
-leave_orders q = if comes_to_end q.body then (order.Const 0 ∷ order.Return (argument_words q.params) true ∷ []) else []
+leave_orders q = leave_with (comes_to_end q.body) q.params
 
 module _ (u : SourceUnit) where
   -- a procedure: its entry, its body, and the return at its end

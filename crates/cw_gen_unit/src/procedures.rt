@@ -1,18 +1,18 @@
 //! Procedures.
 ghost use Rattle.std.specs.Prelude.{◌≡◌, ◌∷◌, [], Some, OnOk, slice_get, slice_index};
-ghost use Rattle.cw_unit.specs.Configuration.{fraction_of_answer};
+ghost use Rattle.cw_unit.specs.Scales.{fraction_of};
 ghost use Rattle.cw_unit.specs.Storage.{layout_of};
 ghost use Rattle.cw_order.specs.declared.order.Order.TheVariants as order;
 ghost use Rattle.cw_gen_expr.specs.Pieces.{plain};
 ghost use Rattle.cw_gen_expr.specs.Output.{made, added};
 ghost use Rattle.cw_gen_expr.specs.ReferenceEntries.{bound_order, parameter_orders, bind_orders};
-ghost use Rattle.cw_gen_unit.specs.ReferenceUnits.{entry_orders, leave_orders, procedure_piece};
-ghost use Rattle.cw_gen_unit.specs.Endings.{comes_to_end};
+ghost use Rattle.cw_gen_unit.specs.ReferenceUnits.{leave_with, procedure_piece};
 
 use crate::statements::emit_statement;
 use cw_gen_expr::orders::{all_words, home};
 use cw_gen_expr::output::Output;
 use cw_order::Order;
+use cw_unit::descriptor::Scale;
 use cw_unit::layout::{Layout, Sort};
 use cw_unit::unit::{Param, Proc, Unit};
 use cw_word::NoMemory;
@@ -82,30 +82,27 @@ fn frame(layout: &Layout, procedure: u16) -> u16
     }
 }
 
-/// Adds the entry of a procedure.
+/// Adds the entry of a procedure with these parameters.
 fn emit_entry(
     out: &mut Output,
-    unit: &Unit,
     layout: &Layout,
     number: u16,
-    procedure: &Proc,
+    parameters: &[Param],
 ) -> Result<(), NoMemory>
-    requires { layout.now ≡ layout_of unit.now }
-    ensures { OnOk result (made out.new ≡ added (plain (entry_orders unit.now number procedure.now)) (made out.old)) }
+    ensures { OnOk result (made out.new ≡ added (plain (order.Enter (slice_index layout.now.frames number) ∷ bind_orders layout.now parameters.now)) (made out.old)) }
 {
     out.push(Order::Enter(frame(layout, number)))?;
-    emit_bind(out, layout, procedure.params.as_slice())
+    emit_bind(out, layout, parameters)
 }
 
 /// Adds the return at the end of a procedure, which answers 0, where a run may come to that end.
-fn emit_leave(out: &mut Output, procedure: &Proc, ends: bool) -> Result<(), NoMemory>
-    requires { ends ≡ comes_to_end procedure.now.body }
-    ensures { OnOk result (made out.new ≡ added (plain (leave_orders procedure.now)) (made out.old)) }
+fn emit_leave(out: &mut Output, parameters: &[Param], ends: bool) -> Result<(), NoMemory>
+    ensures { OnOk result (made out.new ≡ added (plain (leave_with ends parameters.now)) (made out.old)) }
 {
     if !ends {
         return Ok(());
     }
-    let arguments = all_words(procedure.params.as_slice())?;
+    let arguments = all_words(parameters)?;
     out.push(Order::Const(0))?;
     out.push(Order::Return {
         arguments,
@@ -113,11 +110,11 @@ fn emit_leave(out: &mut Output, procedure: &Proc, ends: bool) -> Result<(), NoMe
     })
 }
 
-/// The scale of the answer of a procedure.
-fn answer_scale(procedure: &Proc) -> u8
-    ensures { result ≡ fraction_of_answer (Some procedure.now) }
+/// The scale of the answer of a procedure, 0 where it has none.
+fn answer_scale(answer: Option<Scale>) -> u8
+    ensures { result ≡ fraction_of answer }
 {
-    match procedure.answer {
+    match answer {
         Some(scale) => scale.f,
         None => 0,
     }
@@ -136,16 +133,17 @@ pub fn emit_procedure(
     requires numbered { slice_get unit.now.procs number ≡ Some procedure.now }
     ensures { OnOk result (made out.new ≡ added (procedure_piece unit.now number procedure.now) (made out.old)) }
 {
-    emit_entry(out, unit, layout, number, procedure)?;
+    let parameters = procedure.params.as_slice();
+    emit_entry(out, layout, number, parameters)?;
     let ends = emit_statement(
         alloc,
         out,
         unit,
         layout,
-        procedure.params.as_slice(),
+        parameters,
         Some(number),
-        answer_scale(procedure),
+        answer_scale(procedure.answer),
         &procedure.body,
     )?;
-    emit_leave(out, procedure, ends)
+    emit_leave(out, parameters, ends)
 }

@@ -4,7 +4,6 @@ ghost use Rattle.cw_unit.specs.declared.unit.Stmt.TheOpen as statement;
 ghost use Rattle.cw_gen_expr.specs.Pieces.{plain, followed_by};
 ghost use Rattle.cw_gen_expr.specs.Output.{made, added, Adds};
 ghost use Rattle.cw_gen_expr.specs.ReferenceExpressions.{scope_with, at_line, expression_piece, store_orders};
-ghost use Rattle.cw_gen_expr.specs.UnitTables as tables;
 ghost use Rattle.cw_gen_unit.specs.ReferenceStatements.{begin_orders, after_statement_call, own_order as spec_own_order, goal_order as spec_goal_order, jump_order as spec_jump_order};
 ghost use Rattle.cw_gen_unit.specs.ReferenceStatements.{jump_piece, jump_past, statement_step, statement_piece};
 ghost use Rattle.cw_gen_unit.specs.Endings.{is_empty as spec_is_empty, ends_behind as spec_ends_behind, comes_to_end};
@@ -17,7 +16,7 @@ use cw_gen_expr::output::Output;
 use cw_gen_expr::tree::{put_address, put_arguments, put_condition, put_expression};
 use cw_order::Order;
 use cw_unit::layout::Layout;
-use cw_unit::unit::{Arg, Dest, Expr, Field, Goal, Param, Ref, Stmt, Target, Unit};
+use cw_unit::unit::{Arg, Dest, Expr, Field, Goal, Label, Param, Ref, Stmt, Target, Unit};
 use cw_word::NoMemory;
 use std::alloc::Global;
 
@@ -81,23 +80,23 @@ fn put_bits(
     out.put(Order::StorePart { t, b });
 }
 
-/// The mark of a label.
-pub fn label_mark(unit: &Unit, label: u32) -> Result<u32, NoMemory>
-    ensures { IfOk result (λ mark. mark ≡ tables.label_mark unit.now label) }
+/// The mark of a label of a unit with so many definitions, which have the marks before.
+pub fn label_mark(defined: usize, label: u32) -> Result<u32, NoMemory>
+    ensures { IfOk result (λ mark. mark ≡ defined + label) }
 {
-    match u32::try_from(unit.defined.as_slice().len()) {
+    match u32::try_from(defined) {
         Ok(defined) => defined.checked_add(label).ok_or(NoMemory),
         Err(_) => Err(NoMemory),
     }
 }
 
-/// The order that jumps to a label of the unit, from the segment's body or that of a procedure.
-pub fn own_order(unit: &Unit, who: Option<u16>, label: u32, mark: u32) -> Order
-    ensures { result ≡ spec_own_order who (slice_get unit.now.labels label) mark }
+/// The order that jumps to one of a unit's labels, from the segment's body or that of a procedure.
+pub fn own_order(labels: &[Label], who: Option<u16>, label: u32, mark: u32) -> Order
+    ensures { result ≡ spec_own_order who (slice_get labels.now label) mark }
 {
     match who {
         None => Order::Jump(mark),
-        Some(_) => match unit.labels.as_slice().get(label as usize) {
+        Some(_) => match labels.get(label as usize) {
             None => Order::Jump(mark),
             Some(found) => match found.proc {
                 None => Order::GoMain(mark),
@@ -113,8 +112,8 @@ fn goal_order(unit: &Unit, who: Option<u16>, goal: Goal) -> Result<Order, NoMemo
 {
     match goal {
         Goal::Own(label) => {
-            let mark = label_mark(unit, label)?;
-            Ok(own_order(unit, who, label, mark))
+            let mark = label_mark(unit.defined.as_slice().len(), label)?;
+            Ok(own_order(unit.labels.as_slice(), who, label, mark))
         }
         Goal::Common(descriptor) => Ok(Order::GoCommon(descriptor)),
     }

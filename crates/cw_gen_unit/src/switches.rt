@@ -18,8 +18,8 @@ fn plain_mark(unit: &Unit, who: Option<u16>, goal: Goal) -> Result<Option<u32>, 
 {
     match goal {
         Goal::Own(label) => {
-            let mark = label_mark(unit, label)?;
-            match own_order(unit, who, label, mark) {
+            let mark = label_mark(unit.defined.as_slice().len(), label)?;
+            match own_order(unit.labels.as_slice(), who, label, mark) {
                 Order::Jump(mark) => Ok(Some(mark)),
                 _ => Ok(None),
             }

@@ -1,9 +1,8 @@
 //! The unit.
-ghost use Rattle.std.specs.Prelude.{◌≡◌, ℕ, ◌++◌, ◌∷◌, [], None, Some, length, drop, OnOk, IfOk, replicate, slice_get, List as Sequence};
+ghost use Rattle.std.specs.Prelude.{◌≡◌, ℕ, ◌+◌, ◌++◌, ◌∷◌, [], None, Some, length, drop, OnOk, IfOk, replicate, slice_get, List as Sequence};
 ghost use Rattle.cw_unit.specs.Storage.{layout_of};
 ghost use Rattle.cw_gen_expr.specs.Output.{made};
 ghost use Rattle.cw_gen_expr.specs.UnitTables.{first_mark};
-ghost use Rattle.cw_gen_expr.specs.UnitTables as tables;
 ghost use Rattle.cw_gen_unit.specs.ReferenceUnits.{body_piece, procedure_piece, procedures_piece, entries_of, procedure_labels};
 ghost use Rattle.cw_gen_unit.specs.ReferenceUnits.{label_places, definition_place as spec_definition_place};
 ghost use Rattle.cw_gen_unit.specs.ReferenceUnits.{definition_places as spec_definition_places, label_marks as spec_label_marks};
@@ -185,10 +184,11 @@ fn zeros(alloc: Global, count: usize) -> Result<Vec<u32>, NoMemory>
 fn label_marks(alloc: Global, unit: &Unit) -> Result<List<LabelMark>, NoMemory>
     ensures { IfOk result (λ marks. marks ≡ spec_label_marks unit.now 0 unit.now.labels) }
 {
+    let defined = unit.defined.as_slice().len();
     let labels = unit.labels.as_slice();
     let mut marks = List::new(alloc);
     for i in 0..labels.len() {
-        let mark = label_mark(unit, number(i)?)?;
+        let mark = label_mark(defined, number(i)?)?;
         marks.push(LabelMark {
             mark,
             in_procedure: labels[i].proc.is_some(),
@@ -197,12 +197,10 @@ fn label_marks(alloc: Global, unit: &Unit) -> Result<List<LabelMark>, NoMemory>
     Ok(marks)
 }
 
-/// The mark of a procedure.
-fn procedure_mark(unit: &Unit, procedure: usize) -> Result<u32, NoMemory>
-    ensures { IfOk result (λ mark. mark ≡ tables.procedure_mark unit.now procedure) }
+/// The mark of a procedure of a unit with so many definitions and labels, which have the marks before.
+fn procedure_mark(defined: usize, labels: usize, procedure: usize) -> Result<u32, NoMemory>
+    ensures { IfOk result (λ mark. mark ≡ defined + (labels + procedure)) }
 {
-    let defined = unit.defined.as_slice().len();
-    let labels = unit.labels.as_slice().len();
     let behind = labels.checked_add(procedure).ok_or(NoMemory)?;
     number(defined.checked_add(behind).ok_or(NoMemory)?)
 }
@@ -211,10 +209,12 @@ fn procedure_mark(unit: &Unit, procedure: usize) -> Result<u32, NoMemory>
 fn procedure_marks(alloc: Global, unit: &Unit) -> Result<List<u32>, NoMemory>
     ensures { IfOk result (λ marks. marks ≡ spec_procedure_marks unit.now 0 unit.now.procs) }
 {
+    let defined = unit.defined.as_slice().len();
+    let labels = unit.labels.as_slice().len();
     let procedures = unit.procs.as_slice();
     let mut marks = List::new(alloc);
     for i in 0..procedures.len() {
-        marks.push(procedure_mark(unit, i)?)?;
+        marks.push(procedure_mark(defined, labels, i)?)?;
     }
     Ok(marks)
 }
@@ -254,16 +254,15 @@ fn shared(alloc: Global, defined: &[(u16, Def)]) -> Result<List<Def>, NoMemory>
 /// The places of the unit's marks: of its definitions, its labels, its procedures, and of the orders' own, which are behind the first so many.
 fn all_marks(
     alloc: Global,
-    unit: &Unit,
+    defined: &[(u16, Def)],
     places: &[u32],
     entries: &[u32],
     made: &[u32],
     first: usize,
 ) -> Result<List<u32>, NoMemory>
-    ensures { IfOk result (λ marks. marks ≡ spec_definition_places places.now entries.now unit.now.defined
+    ensures { IfOk result (λ marks. marks ≡ spec_definition_places places.now entries.now defined.now
         ++ (places.now ++ (entries.now ++ drop first made.now))) }
 {
-    let defined = unit.defined.as_slice();
     let mut marks = definition_places(alloc, places, entries, defined)?;
     extend(&mut marks, places, 0)?;
     extend(&mut marks, entries, 0)?;
@@ -291,7 +290,7 @@ fn emit_bodies(
     emit_procedures(alloc, out, unit, layout, &mut places, &mut entries)?;
     let marks = all_marks(
         alloc,
-        unit,
+        unit.defined.as_slice(),
         places.as_slice(),
         entries.as_slice(),
         out.marks.as_slice(),

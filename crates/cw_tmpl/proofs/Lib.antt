@@ -8,3 +8,4 @@ pub mod Sizes
 pub mod Ways
 pub mod Reaching
 pub mod Backward
+pub mod Within

@@ -56,9 +56,11 @@ routines_few : (named : ℕ → Bool) (n : ℕ) (list : List (List Goal)) → ro
 routines_few named n [] = omega arith
 routines_few named n (gs ∷ rest) = omega (arith, routine_few (named n) gs, routines_few named (suc n) rest)
 
--- all of them
-pub segment_size : (o : Orders) → length (blanks (pieces_of o)) ≤ entry_size + (listed_sizes o.list + (15 * length o.labels + switch_sizes o.switches))
-segment_size o =
+-- the code of a segment is that of its entry, its orders, its landings and its switches
+pub parts_long : (o : Orders)
+    → length (blanks (pieces_of o)) ≡ length (blanks entry_pieces) + (length (blanks (templates (names_of o) entry_size 0 0 o.list))
+    + (length (blanks (landings (names_of o) (is_named_label o) (landings_place o) 0 o.labels)) + length (blanks (switches (names_of o) (is_named_switch o) (switches_place o) 0 o.switches))))
+parts_long o =
     let N = names_of o in
     let T = templates N entry_size 0 0 o.list in
     let L = landings N (is_named_label o) (landings_place o) 0 o.labels in
@@ -66,6 +68,12 @@ segment_size o =
     let first = ap length (blanks-append entry_pieces (T ++ (L ++ S))) ∙ length-append (blanks entry_pieces) (blanks (T ++ (L ++ S))) in
     let second = ap length (blanks-append T (L ++ S)) ∙ length-append (blanks T) (blanks (L ++ S)) in
     let third = ap length (blanks-append L S) ∙ length-append (blanks L) (blanks S) in
+    omega (arith, first, second, third)
+
+-- all of them
+pub segment_size : (o : Orders) → length (blanks (pieces_of o)) ≤ entry_size + (listed_sizes o.list + (15 * length o.labels + switch_sizes o.switches))
+segment_size o =
+    let N = names_of o in
     let landed = size_of_landings N (is_named_label o) (landings_place o) 0 o.labels in
     let routed = size_of_switches N (is_named_switch o) (switches_place o) 0 o.switches in
-    omega (arith, first, second, third, whole N entry_size 0 o.list, landed, landings_few (is_named_label o) 0 o.labels, routed, routines_few (is_named_switch o) 0 o.switches)
+    omega (arith, parts_long o, whole N entry_size 0 o.list, landed, landings_few (is_named_label o) 0 o.labels, routed, routines_few (is_named_switch o) 0 o.switches)

@@ -17,6 +17,8 @@ use Rattle.cw_tmpl.specs.declared.blocks.Simple.TheVariants as simple
 use Rattle.cw_tmpl.specs.declared.blocks.Form.{Form}
 use Rattle.cw_tmpl.specs.declared.blocks.Form.TheVariants as form
 use Rattle.cw_tmpl.specs.declared.blocks.Bounded.{Bounded}
+use Rattle.cw_tmpl.specs.declared.operands.Home.{Home}
+use Rattle.cw_tmpl.specs.declared.operands.Array.{Array}
 use Rattle.cw_tmpl.specs.declared.rows.Column.{Column}
 use Rattle.cw_tmpl.specs.declared.rows.Column.TheVariants as column
 use Rattle.cw_tmpl.specs.declared.rows.Item.{Item}
@@ -200,15 +202,37 @@ abbrev pub is_load : Option Order → Bool
 is_load (Some order.Load) = true
 is_load _ = false
 
+-- the word of a storage family whose address an order puts
+abbrev pub home_of : Option Order → Option Home
+home_of (Some (order.Home f n)) = Some (record { family = f; offset = n })
+home_of _ = None
+
+-- an item of one dimension, of which two orders make the address of an element
+abbrev pub array_from : Option Home → (forms : Option Order) → Option Array
+array_from (Some h) (Some (order.Element l s line)) = Some (record { family = h.family; first = h.offset; lower = l; span = s; line = line })
+array_from _ _ = None
+
+abbrev pub array_of : (puts forms : Option Order) → Option Array
+array_of puts forms = array_from (home_of puts) forms
+
+abbrev pub element_in : Option Test → (index : Place) → Array → Option Element
+element_in t x a = element_with t x a.family a.first a.lower a.span a.line
+
 -- an element whose index is saved, by the two orders behind the save that make its address; and by those and one before the save, which
 -- compares the index with bounds
+abbrev pub addressed_in : Place → Option Array → Option Element
+addressed_in x None = None
+addressed_in x (Some a) = element_in (address_test (zero_word a.lower a.span a.first)) x a
+
 abbrev pub element_addressed : Place → (puts forms : Option Order) → Option Element
-element_addressed x (Some (order.Home f n)) (Some (order.Element l s line)) = element_with (address_test (zero_word l s n)) x f n l s line
-element_addressed x _ _ = None
+element_addressed x puts forms = addressed_in x (array_of puts forms)
+
+abbrev pub bounded_in : Place → Option Bounds → Option Array → Option Element
+bounded_in x bounds None = None
+bounded_in x bounds (Some a) = element_in (tested_by bounds a.lower a.span) x a
 
 abbrev pub element_bounded : Place → (bounds puts forms : Option Order) → Option Element
-element_bounded x bounds (Some (order.Home f n)) (Some (order.Element l s line)) = element_with (tested_by (bounds_at bounds) l s) x f n l s line
-element_bounded x bounds _ _ = None
+element_bounded x bounds puts forms = bounded_in x (bounds_at bounds) (array_of puts forms)
 
 -- the orders behind the load of the index
 abbrev pub element_of : Place → (second third fourth fifth : Option Order) → Option Element
@@ -311,8 +335,7 @@ saved_from (Some x) os = assigned x (slice_get os (length (address_orders x))) (
 
 -- an element that is fetched, and behind a Save one that is assigned or used; another block where it is neither
 abbrev pub element_fetched : Element → Option Order → (other : Block) → Block
-element_fetched e (Some order.Load) other = block.FetchElement e
-element_fetched e _ other = other
+element_fetched e o other = if is_load o then block.FetchElement e else other
 
 abbrev pub element_used : Element → Option Use → (other : Block) → Block
 element_used e None other = other
@@ -354,10 +377,13 @@ abbrev pub bounded_as : Bounds → (family first : ℕ) → Option Form → Bloc
 bounded_as b f n None = block.Single
 bounded_as b f n (Some w) = bounded_if (record { bounds = b; family = f; first = n; form = w })
 
+abbrev pub bounded_by : Bounds → Option Home → Option Form → Block
+bounded_by b None w = block.Single
+bounded_by b (Some h) w = bounded_as b h.family h.offset w
+
 -- behind the comparison of an index with bounds
 abbrev pub behind_bounds : Bounds → (saves puts forms : Option Order) → Block
-behind_bounds b (Some order.Save) (Some (order.Home f n)) forms = bounded_as b f n (form_of b.lower forms)
-behind_bounds b _ _ forms = block.Single
+behind_bounds b saves puts forms = if is_save saves then bounded_by b (home_of puts) (form_of b.lower forms) else block.Single
 
 abbrev pub at_bounds : (bounds : Option Bounds) → (saves puts forms : Option Order) → Block
 at_bounds None saves puts forms = block.Single
@@ -389,10 +415,13 @@ abbrev pub same_bound : ℤ → ℤ → Bool
 same_bound a b = int_le a b && int_le b a
 
 -- an item of two dimensions, of which two orders make the address of an element
+abbrev pub item_from : Option Home → (forms : Option Order) → Option Item
+item_from (Some h) (Some (order.ElementInside l1 l2 width span)) =
+    Some (record { family = h.family; first = h.offset; lower = l1; second = l2; width = width; span = span })
+item_from _ _ = None
+
 abbrev pub item_of : (puts forms : Option Order) → Option Item
-item_of (Some (order.Home f n)) (Some (order.ElementInside l1 l2 width span)) =
-    Some (record { family = f; first = n; lower = l1; second = l2; width = width; span = span })
-item_of _ _ = None
+item_of puts forms = item_from (home_of puts) forms
 
 -- it begins at the lower bounds
 abbrev pub row_made : (rows : Bounds) → Column → (columns : Bounds) → Option Item → Option Row
@@ -443,14 +472,24 @@ abbrev pub block_alone : List Order → Block
 block_alone os = block_from (place_at os) os
 
 -- what stands behind such a word: a Save, a number and a comparison, or else
+abbrev pub number_of : Option Order → Option ℕ
+number_of (Some (order.Const w)) = Some w
+number_of _ = None
+
+abbrev pub number_compared : (offset : ℕ) → Option ℕ → (jumps : Option Order) → (other : Block) → Block
+number_compared n (Some w) (Some (order.JumpIf c m)) other = block.CompareWord n w c m
+number_compared n _ _ other = other
+
 abbrev pub compared_or : (offset : ℕ) → (saves puts jumps : Option Order) → (other : Block) → Block
-compared_or n (Some order.Save) (Some (order.Const w)) (Some (order.JumpIf c m)) other = block.CompareWord n w c m
-compared_or n _ _ _ other = other
+compared_or n saves puts jumps other = if is_save saves then number_compared n (number_of puts) jumps other else other
 
 -- or a Save alone, and behind it another word of the frame that is only fetched, or else
+abbrev pub both_fetched : (offset : ℕ) → (saved next : Block) → (other : Block) → Block
+both_fetched n block.Single (block.Fetch (cell.Frame m)) other = block.FetchBoth n m
+both_fetched n _ _ other = other
+
 abbrev pub both_or : (offset : ℕ) → (saves : Option Order) → (saved next : Block) → (other : Block) → Block
-both_or n (Some order.Save) block.Single (block.Fetch (cell.Frame m)) other = block.FetchBoth n m
-both_or n _ _ _ other = other
+both_or n saves saved next other = if is_save saves then both_fetched n saved next other else other
 
 abbrev pub fetched_behind : (offset : ℕ) → List Order → Block
 fetched_behind n os = both_or n (slice_get os 2) (block_alone (drop 2 os)) (block_alone (drop 3 os)) (block.Fetch (cell.Frame n))

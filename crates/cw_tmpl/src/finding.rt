@@ -1,16 +1,20 @@
 //! The block that begins with the first of these orders.
-ghost use Rattle.std.specs.Prelude.{◌≡◌, drop, slice_get};
+ghost use Rattle.std.specs.Prelude.{◌≡◌, ◌+◌, if◌then◌else◌, Some, length, drop, slice_get};
 ghost use Rattle.cw_tmpl.specs.Blocks.{is_part, bounds_at, element_at, with_use, fetched, assigned, is_plain_divisor};
 ghost use Rattle.cw_tmpl.specs.Blocks.{exponent_of, halving_places, halved, divided};
 ghost use Rattle.cw_tmpl.specs.Blocks.{counted, number_scaled, with_number, saved, place_at, fetched_from};
-ghost use Rattle.cw_tmpl.specs.Blocks.{saved_from, fetched_or, saved_or, bounded_if, behind_bounds};
-ghost use Rattle.cw_tmpl.specs.Blocks.{at_bounds, row_at, row_or, block_if_saved, block_alone, compared_or, both_or, fetched_behind, block_at};
+ghost use Rattle.cw_tmpl.specs.Blocks.{saved_from, element_orders, element_fetched, element_used, element_saved, fetched_or, saved_or};
+ghost use Rattle.cw_tmpl.specs.Blocks.{bounded_if, bounded_by, behind_bounds, at_bounds, row_at, row_or, block_if_saved, block_alone};
+ghost use Rattle.cw_tmpl.specs.Blocks.{number_of, number_compared, compared_or, both_fetched, both_or, fetched_behind, block_at};
 ghost use Rattle.cw_tmpl.specs.declared.blocks.Block.TheVariants as block;
 ghost use Rattle.cw_order.specs.declared.order.Place.TheVariants as cell;
 
-use crate::blocks::{Block, Bounded, Bounds, Simple, Use, orders_of_address, orders_of_element};
+use crate::blocks::{
+    Block, Bounded, Bounds, Element, Form, Simple, Use, orders_of_address, orders_of_element,
+};
 use crate::operands::{
-    bounds_at, element_at, element_behind, form_at, form_within, place_at, use_at,
+    Home, bounds_at, element_at, element_behind, form_at, form_within, home_at, is_load, is_save,
+    place_at, use_at,
 };
 use crate::rows::row_at;
 use cw_order::{Order, Place};
@@ -31,18 +35,38 @@ fn is_part(t: u8, b: u8) -> bool
     0 < t && u16::from(t) + u16::from(b) <= 16
 }
 
+fn part_fetched(place: Place, t: u8, b: u8, signed: bool) -> Block
+    ensures { result ≡ (if is_part t b then block.FetchPart place t b signed else block.Single) }
+{
+    if is_part(t, b) {
+        Block::FetchPart {
+            place,
+            t,
+            b,
+            signed,
+        }
+    } else {
+        Block::Single
+    }
+}
+
 fn fetched(place: Place, orders: &[Order], behind: usize) -> Block
     ensures { result ≡ fetched place (slice_get orders.now behind) }
 {
     match orders.get(behind) {
         Some(Order::Load) => Block::Fetch(place),
-        Some(Order::LoadPart { t, b, signed }) if is_part(*t, *b) => Block::FetchPart {
-            place,
-            t: *t,
-            b: *b,
-            signed: *signed,
-        },
+        Some(Order::LoadPart { t, b, signed }) => part_fetched(place, *t, *b, *signed),
         _ => Block::Single,
+    }
+}
+
+fn part_assigned(place: Place, t: u8, b: u8) -> Block
+    ensures { result ≡ (if is_part t b then block.AssignPart place t b else block.Single) }
+{
+    if is_part(t, b) {
+        Block::AssignPart { place, t, b }
+    } else {
+        Block::Single
     }
 }
 
@@ -53,11 +77,7 @@ fn assigned(place: Place, orders: &[Order], behind: usize, next: usize) -> Block
     match orders.get(behind) {
         Some(Order::Load) => with_use(Simple::Contents(place), use_at(orders, next)),
         Some(Order::Store) => Block::Assign(place),
-        Some(Order::StorePart { t, b }) if is_part(*t, *b) => Block::AssignPart {
-            place,
-            t: *t,
-            b: *b,
-        },
+        Some(Order::StorePart { t, b }) => part_assigned(place, *t, *b),
         _ => Block::Single,
     }
 }
@@ -195,34 +215,63 @@ fn saved_from(orders: &[Order]) -> Block
     }
 }
 
+/// An element that is fetched, and another block where it is not.
+fn element_fetched(element: Element, orders: &[Order], other: Block) -> Block
+    ensures { result ≡ element_fetched element (slice_get orders.now (length (element_orders element))) other }
+{
+    if is_load(orders, orders_of_element(element)) {
+        Block::FetchElement(element)
+    } else {
+        other
+    }
+}
+
 /// The element that these orders fetch, and another block where they fetch none; the first ones put the address of a place.
 fn element_or_fetched(orders: &[Order], place: Place) -> Block
     ensures { result ≡ fetched_or (element_at (Some place) orders.now) orders.now (fetched_from (Some place) orders.now) }
 {
     let behind = orders_of_address(place);
-    if let Some(element) = element_behind(place, orders, behind)
-        && let Some(Order::Load) = orders.get(orders_of_element(element))
-    {
-        return Block::FetchElement(element);
+    let other = fetched(place, orders, behind);
+    match element_behind(place, orders, behind) {
+        Some(element) => element_fetched(element, orders, other),
+        None => other,
     }
-    fetched(place, orders, behind)
+}
+
+/// An element that is used, and another block where it is not.
+fn element_used(element: Element, with: Option<Use>, other: Block) -> Block
+    ensures { result ≡ element_used element with other }
+{
+    match with {
+        Some(with) => Block::Operate {
+            operand: Simple::Element(element),
+            with,
+        },
+        None => other,
+    }
+}
+
+/// An element behind a `Save` that is assigned or used, and another block where it is neither.
+fn element_saved(element: Element, orders: &[Order], other: Block) -> Block
+    ensures { result ≡ element_saved element (slice_get orders.now (length (element_orders element)))
+        (slice_get orders.now (length (element_orders element) + 1)) other }
+{
+    let behind = orders_of_element(element);
+    match orders.get(behind) {
+        Some(Order::Load) => element_used(element, use_at(orders, behind + 1), other),
+        Some(Order::Store) => Block::AssignElement(element),
+        _ => other,
+    }
 }
 
 /// The element that these orders behind a `Save` assign or use, and another block where they do neither.
 fn element_or_saved(orders: &[Order]) -> Block
     ensures { result ≡ saved_or (element_at (place_at orders.now) orders.now) orders.now (saved_from (place_at orders.now) orders.now) }
 {
-    let Some(element) = element_at(orders) else {
-        return saved_from(orders);
-    };
-    let behind = orders_of_element(element);
-    match (orders.get(behind), use_at(orders, behind + 1)) {
-        (Some(Order::Store), _) => Block::AssignElement(element),
-        (Some(Order::Load), Some(with)) => Block::Operate {
-            operand: Simple::Element(element),
-            with,
-        },
-        _ => saved_from(orders),
+    let other = saved_from(orders);
+    match element_at(orders) {
+        Some(element) => element_saved(element, orders, other),
+        None => other,
     }
 }
 
@@ -236,24 +285,29 @@ fn bounded_if(bounded: Bounded) -> Block
     }
 }
 
+/// The block of an address that is formed of an index behind its bounds, where a word and what is formed are known.
+fn bounded_by(bounds: Bounds, home: Option<Home>, form: Option<Form>) -> Block
+    ensures { result ≡ bounded_by bounds home form }
+{
+    match (home, form) {
+        (Some(home), Some(form)) => bounded_if(Bounded {
+            bounds,
+            family: home.family,
+            first: home.offset,
+            form,
+        }),
+        _ => Block::Single,
+    }
+}
+
 /// The block behind the comparison of an index with bounds, which is the first order.
 fn behind_bounds(bounds: Bounds, orders: &[Order]) -> Block
     ensures { result ≡ behind_bounds bounds (slice_get orders.now 1) (slice_get orders.now 2) (slice_get orders.now 3) }
 {
-    match (
-        orders.get(1),
-        orders.get(2),
-        form_at(orders, 3, bounds.lower),
-    ) {
-        (Some(Order::Save), Some(Order::Home { family, offset }), Some(form)) => {
-            bounded_if(Bounded {
-                bounds,
-                family: *family,
-                first: *offset,
-                form,
-            })
-        }
-        _ => Block::Single,
+    if is_save(orders, 1) {
+        bounded_by(bounds, home_at(orders, 2), form_at(orders, 3, bounds.lower))
+    } else {
+        Block::Single
     }
 }
 
@@ -297,18 +351,22 @@ fn block_alone(orders: &[Order]) -> Block
     }
 }
 
+/// The block of a word of the frame that is fetched, by the blocks that stand behind it: one of a `Save`, and one that fetches another such word.
+fn both_fetched(first: u16, saved: Block, next: Block) -> Block
+    ensures { result ≡ both_fetched first saved next (block.Fetch (cell.Frame first)) }
+{
+    match (saved, next) {
+        (Block::Single, Block::Fetch(Place::Frame(second))) => Block::FetchBoth { first, second },
+        _ => Block::Fetch(Place::Frame(first)),
+    }
+}
+
 /// The block of a word of the frame that is fetched: another one may be behind a `Save` with which these orders begin.
 fn fetched_with(offset: u16, saved: &[Order]) -> Block
     ensures { result ≡ both_or offset (slice_get saved.now 0) (block_alone saved.now) (block_alone (drop 1 saved.now)) (block.Fetch (cell.Frame offset)) }
 {
     match saved {
-        [Order::Save, next @ ..] => match (block_alone(saved), block_alone(next)) {
-            (Block::Single, Block::Fetch(Place::Frame(second))) => Block::FetchBoth {
-                first: offset,
-                second,
-            },
-            _ => Block::Fetch(Place::Frame(offset)),
-        },
+        [Order::Save, next @ ..] => both_fetched(offset, block_alone(saved), block_alone(next)),
         _ => Block::Fetch(Place::Frame(offset)),
     }
 }
@@ -323,19 +381,39 @@ fn fetched_behind(offset: u16, orders: &[Order]) -> Block
     }
 }
 
+/// The number that the order at a place puts.
+fn number_at(orders: &[Order], place: usize) -> Option<u16>
+    ensures { result ≡ number_of (slice_get orders.now place) }
+{
+    match orders.get(place) {
+        Some(Order::Const(word)) => Some(*word),
+        _ => None,
+    }
+}
+
+/// The block of a word of the frame that these orders compare with a number, if there is one, and another block where they do not.
+fn number_compared(offset: u16, number: Option<u16>, orders: &[Order], other: Block) -> Block
+    ensures { result ≡ number_compared offset number (slice_get orders.now 4) other }
+{
+    match (number, orders.get(4)) {
+        (Some(with), Some(Order::JumpIf { comparator, mark })) => Block::CompareWord {
+            offset,
+            with,
+            comparator: *comparator,
+            mark: *mark,
+        },
+        _ => other,
+    }
+}
+
 /// The block of a word of the frame that these orders fetch and compare with a number, and another block where they do not.
 fn compared_or(offset: u16, orders: &[Order], other: Block) -> Block
     ensures { result ≡ compared_or offset (slice_get orders.now 2) (slice_get orders.now 3) (slice_get orders.now 4) other }
 {
-    match (orders.get(2), orders.get(3), orders.get(4)) {
-        (Some(Order::Save), Some(Order::Const(word)), Some(Order::JumpIf { comparator, mark })) =>
-            Block::CompareWord {
-                offset,
-                with: *word,
-                comparator: *comparator,
-                mark: *mark,
-            },
-        _ => other,
+    if is_save(orders, 2) {
+        number_compared(offset, number_at(orders, 3), orders, other)
+    } else {
+        other
     }
 }
 

@@ -84,18 +84,13 @@ impl<'a> Names<'a> {
     pub fn procedure(&self, procedure: u16) -> u32
         ensures { result ≡ procedure_start self.now procedure }
     {
-        self.mark(
-            self.procedures
-                .get(procedure as usize)
-                .copied()
-                .unwrap_or(0),
-        )
+        self.mark(entry(self.procedures, procedure as usize))
     }
 
     /// Where the routine of a switch starts.
     pub fn switch(&self, switch: u32) -> u32
         ensures { result ≡ switch_start self.now switch }
     {
-        self.switches.get(switch as usize).copied().unwrap_or(0)
+        entry(self.switches, switch as usize)
     }
 }

@@ -1,11 +1,30 @@
 //! What orders of a block name: a place, a use, bounds, an element, or what is formed of an index behind its bounds.
-ghost use Rattle.std.specs.Prelude.{◌≡◌, ◌<◌, ◌-ℤ◌, slice_get};
+ghost use Rattle.std.specs.Prelude.{◌≡◌, ◌<◌, ◌-ℤ◌, if◌then◌else◌, ◌&&◌, Some, None, int_le, slice_get};
 ghost use Rattle.cw_tmpl.specs.Blocks.{use_of, zero_word, address_test, bounds_at, bounds_test, tested_by};
-ghost use Rattle.cw_tmpl.specs.Blocks.{is_save, is_load, element_addressed, element_bounded};
+ghost use Rattle.cw_tmpl.specs.Blocks.{is_save, is_load, home_of, array_of, element_in, element_addressed, element_bounded};
+ghost use Rattle.cw_tmpl.specs.declared.blocks.Form.TheVariants as form;
 ghost use Rattle.cw_tmpl.specs.Blocks.{element_behind, element_at, place_at, is_within, form_of, entries_within, form_within};
 
 use crate::blocks::{Bounds, Element, Form, Test, Use, orders_of_address};
 use cw_order::{Order, Place};
+
+/// A word of a storage family.
+#[derive(Clone, Copy)]
+pub struct Home {
+    pub family: u16,
+    pub offset: u16,
+}
+
+/// An item of one dimension, which begins with a word of a storage family: its elements count from `lower`, and so many words from the
+/// first one on are in the data area (`span`). An address that is that of no word stops at its line.
+#[derive(Clone, Copy)]
+pub struct Array {
+    pub family: u16,
+    pub first: u16,
+    pub lower: i16,
+    pub span: u16,
+    pub line: u16,
+}
 
 pub(crate) fn place_at(orders: &[Order]) -> Option<Place>
     ensures { result ≡ place_at orders.now }
@@ -26,7 +45,13 @@ pub(crate) fn use_at(orders: &[Order], place: usize) -> Option<Use>
     match orders.get(place) {
         Some(Order::Add(line)) => Some(Use::Add(*line)),
         Some(Order::Sub(line)) => Some(Use::Subtract(*line)),
-        Some(Order::Mul { power: 0, line }) => Some(Use::Multiply(*line)),
+        Some(Order::Mul { power, line }) => {
+            if *power == 0 {
+                Some(Use::Multiply(*line))
+            } else {
+                None
+            }
+        }
         Some(Order::And) => Some(Use::Mask),
         Some(Order::Or) => Some(Use::Union),
         Some(Order::Xor) => Some(Use::Differ),
@@ -80,8 +105,7 @@ fn bounds_test(bounds: Bounds, begins: i16, span: u16) -> Option<Test>
     ensures { result ≡ bounds_test bounds begins span }
 {
     let Bounds { lower, upper, line } = bounds;
-    let last = i32::from(upper) - i32::from(lower);
-    if lower == begins && 0 <= last && last < i32::from(span) {
+    if lower == begins && is_within(lower, upper, span) {
         Some(Test::Bounds { upper, line })
     } else {
         None
@@ -102,31 +126,67 @@ pub(crate) fn is_save(orders: &[Order], place: usize) -> bool
     matches!(orders.get(place), Some(Order::Save))
 }
 
-fn is_load(orders: &[Order], place: usize) -> bool
+pub(crate) fn is_load(orders: &[Order], place: usize) -> bool
     ensures { result ≡ is_load (slice_get orders.now place) }
 {
     matches!(orders.get(place), Some(Order::Load))
+}
+
+/// The word of a storage family whose address the order at a place puts.
+pub(crate) fn home_at(orders: &[Order], place: usize) -> Option<Home>
+    ensures { result ≡ home_of (slice_get orders.now place) }
+{
+    match orders.get(place) {
+        Some(Order::Home { family, offset }) => Some(Home {
+            family: *family,
+            offset: *offset,
+        }),
+        _ => None,
+    }
+}
+
+/// The item of which the orders at two places make the address of an element.
+fn array_at(orders: &[Order], puts: usize, forms: usize) -> Option<Array>
+    ensures { result ≡ array_of (slice_get orders.now puts) (slice_get orders.now forms) }
+{
+    match (home_at(orders, puts), orders.get(forms)) {
+        (Some(home), Some(Order::Element { lower, span, line })) => Some(Array {
+            family: home.family,
+            first: home.offset,
+            lower: *lower,
+            span: *span,
+            line: *line,
+        }),
+        _ => None,
+    }
+}
+
+/// The element of an item whose index stands at a place, where its test is known.
+fn element_in(test: Option<Test>, index: Place, array: Array) -> Option<Element>
+    ensures { result ≡ element_in test index array }
+{
+    let test = test?;
+    Some(Element {
+        index,
+        family: array.family,
+        first: array.first,
+        lower: array.lower,
+        span: array.span,
+        line: array.line,
+        test,
+    })
 }
 
 /// The element whose index stands at a place, where the orders at two places make its address.
 fn element_addressed(index: Place, orders: &[Order], puts: usize, forms: usize) -> Option<Element>
     ensures { result ≡ element_addressed index (slice_get orders.now puts) (slice_get orders.now forms) }
 {
-    match (orders.get(puts), orders.get(forms)) {
-        (Some(Order::Home { family, offset }), Some(Order::Element { lower, span, line })) => {
-            let test = address_test(*lower, *span, *offset)?;
-            Some(Element {
-                index,
-                family: *family,
-                first: *offset,
-                lower: *lower,
-                span: *span,
-                line: *line,
-                test,
-            })
-        }
-        _ => None,
-    }
+    let array = array_at(orders, puts, forms)?;
+    element_in(
+        address_test(array.lower, array.span, array.first),
+        index,
+        array,
+    )
 }
 
 /// The same where an order before them compares the index with bounds.
@@ -139,21 +199,12 @@ fn element_bounded(
 ) -> Option<Element>
     ensures { result ≡ element_bounded index (slice_get orders.now bounds) (slice_get orders.now puts) (slice_get orders.now forms) }
 {
-    match (orders.get(puts), orders.get(forms)) {
-        (Some(Order::Home { family, offset }), Some(Order::Element { lower, span, line })) => {
-            let test = tested_by(orders, bounds, *lower, *span)?;
-            Some(Element {
-                index,
-                family: *family,
-                first: *offset,
-                lower: *lower,
-                span: *span,
-                line: *line,
-                test,
-            })
-        }
-        _ => None,
-    }
+    let array = array_at(orders, puts, forms)?;
+    element_in(
+        tested_by(orders, bounds, array.lower, array.span),
+        index,
+        array,
+    )
 }
 
 /// The element whose index stands at a place, where four orders behind its address make the address of one, or five with a test of its bounds.
@@ -191,10 +242,7 @@ pub(crate) fn form_at(orders: &[Order], place: usize, lower: i16) -> Option<Form
                 span,
                 line,
             },
-        ) if *begins == lower => Some(Form::Element {
-            span: *span,
-            line: *line,
-        }),
+        ) => element_form(lower, *begins, *span, *line),
         Some(
             Order::Entry {
                 width,
@@ -212,12 +260,22 @@ pub(crate) fn form_at(orders: &[Order], place: usize, lower: i16) -> Option<Form
     }
 }
 
+/// The form of an element that counts from the lower bound.
+fn element_form(lower: i16, begins: i16, span: u16, line: u16) -> Option<Form>
+    ensures { result ≡ (if int_le lower begins && int_le begins lower then Some (form.Element span line) else None) }
+{
+    if begins == lower {
+        Some(Form::Element { span, line })
+    } else {
+        None
+    }
+}
+
 /// Whether the word at the upper bound, counted from the lower one, is among so many.
 pub(crate) fn is_within(lower: i16, upper: i16, span: u16) -> bool
     ensures { result ≡ is_within (upper -ℤ lower) span }
 {
-    let last = i32::from(upper) - i32::from(lower);
-    0 <= last && last < i32::from(span)
+    lower <= upper && upper.abs_diff(lower) < span
 }
 
 /// Whether a word of each entry from 0 to the upper bound is among so many.

@@ -1,6 +1,7 @@
 //! Which jumps are short, and which checks jump back.
 ghost use Rattle.std.specs.Prelude.{◌≡◌, ◌<◌, slice_index};
 ghost use Rattle.cw_tmpl.specs.Backward.{call_for, call_after};
+ghost use Rattle.cw_tmpl.specs.declared.blocks.Block.TheVariants as block;
 ghost use Rattle.cw_tmpl.specs.Templates.{is_close, is_checked};
 ghost use Rattle.cw_tmpl.specs.ShortForms.{jump_of, check_of, has_call, is_short};
 
@@ -44,19 +45,26 @@ pub(crate) fn entry(table: &[u32], number: usize) -> u32
     table.get(number).copied().unwrap_or(0)
 }
 
+/// The mark of the jump of an order alone that can be short.
+fn jump_alone(order: &Order) -> Option<u32>
+    ensures { result ≡ jump_of block.Single order.now }
+{
+    match order {
+        Order::Jump(mark) | Order::JumpIf { mark, .. } => Some(*mark),
+        Order::LoopWay(marks) => match marks.as_slice() {
+            [mark] => Some(*mark),
+            _ => None,
+        },
+        _ => None,
+    }
+}
+
 /// The mark of a block's jump that can be short.
 fn jump_of(block: Block, order: &Order) -> Option<u32>
     ensures { result ≡ jump_of block order.now }
 {
     match block {
-        Block::Single => match order {
-            Order::Jump(mark) | Order::JumpIf { mark, .. } => Some(*mark),
-            Order::LoopWay(marks) => match marks.as_slice() {
-                [mark] => Some(*mark),
-                _ => None,
-            },
-            _ => None,
-        },
+        Block::Single => jump_alone(order),
         Block::Operate {
             with: Use::Compare { mark, .. },
             ..
@@ -73,18 +81,31 @@ pub fn is_checked(power: i8) -> bool
     power >= -15
 }
 
+/// The line of the check with which the code of an order alone ends.
+fn check_alone(order: &Order) -> Option<u16>
+    ensures { result ≡ check_of block.Single order.now }
+{
+    match order {
+        Order::Add(line) | Order::Sub(line) | Order::Neg(line) => Some(*line),
+        Order::Rescale { from, to, line } => { if from <= to { Some(*line) } else { None } }
+        Order::Mul { power, line } => {
+            if is_checked(*power) {
+                Some(*line)
+            } else {
+                None
+            }
+        }
+        Order::Div { line, .. } => Some(*line),
+        _ => None,
+    }
+}
+
 /// The line of the check with which a block ends that can jump back.
 pub fn check_of(block: Block, order: &Order) -> Option<u16>
     ensures { result ≡ check_of block order.now }
 {
     match block {
-        Block::Single => match order {
-            Order::Add(line) | Order::Sub(line) | Order::Neg(line) => Some(*line),
-            Order::Rescale { from, to, line } if from <= to => Some(*line),
-            Order::Mul { power, line } if is_checked(*power) => Some(*line),
-            Order::Div { line, .. } => Some(*line),
-            _ => None,
-        },
+        Block::Single => check_alone(order),
         Block::Operate {
             with: Use::Add(line) | Use::Subtract(line) | Use::Multiply(line),
             ..

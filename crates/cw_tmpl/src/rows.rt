@@ -4,7 +4,7 @@ ghost use Rattle.cw_tmpl.specs.Blocks.{column_orders, orders_to_row, is_within, 
 ghost use Rattle.cw_tmpl.specs.Blocks.{row_if, same_bound, item_of, row_made, row_formed, row_behind, row_saved, row_from, row_at};
 
 use crate::blocks::{Bounds, orders_of_address};
-use crate::operands::{bounds_at, is_save, is_within};
+use crate::operands::{bounds_at, home_at, is_save, is_within};
 use cw_order::{Order, Place};
 
 /// A second index that an instruction names.
@@ -80,7 +80,7 @@ fn last_of(bounds: Bounds, span: u16) -> u16
     requires { is_within (bounds.upper -ℤ bounds.lower) span ≡ true }
     ensures { pos result ≡ bounds.upper -ℤ bounds.lower }
 {
-    (i32::from(bounds.upper) - i32::from(bounds.lower)) as u16
+    bounds.upper.abs_diff(bounds.lower)
 }
 
 /// Whether the last word, so many rows and words behind the first one, is among so many.
@@ -133,9 +133,9 @@ fn begins_at(rows: Bounds, columns: Bounds, lower: i16, second: i16) -> bool
 fn item_at(orders: &[Order], puts: usize, forms: usize) -> Option<Item>
     ensures { result ≡ item_of (slice_get orders.now puts) (slice_get orders.now forms) }
 {
-    match (orders.get(puts), orders.get(forms)) {
+    match (home_at(orders, puts), orders.get(forms)) {
         (
-            Some(Order::Home { family, offset }),
+            Some(home),
             Some(
                 Order::ElementInside {
                     lower,
@@ -145,8 +145,8 @@ fn item_at(orders: &[Order], puts: usize, forms: usize) -> Option<Item>
                 },
             ),
         ) => Some(Item {
-            family: *family,
-            first: *offset,
+            family: home.family,
+            first: home.offset,
             lower: *lower,
             second: *second,
             width: *width,

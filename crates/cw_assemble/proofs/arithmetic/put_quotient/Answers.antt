@@ -1,19 +1,11 @@
-use Rattle.std.proofs.Common.{pos, ◌≤ℤ◌, ◌<ℤ◌, unsigned_abs, ap, ◌∙◌, arith, w8}
-use Rattle.std.proofs.lemmas.Int.{ints, to_z-of_z}
-use Rattle.std.proofs.lemmas.Result.{on_ok_weaker}
-use Rattle.cw_assemble.proofs.Factors.{quotient_up_added, quotient_down_added}
+use Rattle.std.proofs.Common.{w8}
+use Rattle.std.proofs.lemmas.Int.{to_z-of_z}
+use Rattle.cw_tmpl.specs.Templates.{quotient_before}
+use Rattle.cw_assemble.proofs.Composed.{by_same, check_added}
+use Rattle.cw_assemble.proofs.Ended.{quotient_checked}
 use Rattle.cw_assemble.proofs.arithmetic.put_quotient.Goals as goal
 
-pub returns-then-scale-ge0 : goal.returns-then-scale-ge0
-returns-then-scale-ge0 c =
-    let up : pos 0 ≤ℤ c.args.scale = grind (arith, ints, to_z-of_z w8 c.args.scale c.ranges.scale, c.if-scale-ge0.true) in
-    on_ok_weaker c.put_routine.result
-    (quotient_up_added c.args.code.now c.put_divisor_tested.new.code c.put_routine.new.code c.args.line _ c.args.scale up (c.unsigned_abs.ensures.value ∙ ap unsigned_abs (to_z-of_z w8 c.args.scale c.ranges.scale)) c.in_ok-put_divisor_tested.ensures)
-    c.put_routine.ensures
-
-pub returns-else-scale-ge0 : goal.returns-else-scale-ge0
-returns-else-scale-ge0 c =
-    let down : c.args.scale <ℤ pos 0 = grind (arith, ints, to_z-of_z w8 c.args.scale c.ranges.scale, c.if-scale-ge0.false) in
-    on_ok_weaker c.put_routine-else-scale-ge0.result
-    (quotient_down_added c.args.code.now c.put_divisor_tested.new.code c.put_routine-else-scale-ge0.new.code c.args.line _ c.args.scale down (c.unsigned_abs-else-scale-ge0.ensures.value ∙ ap unsigned_abs (to_z-of_z w8 c.args.scale c.ranges.scale)) c.in_ok-put_divisor_tested.ensures)
-    c.put_routine-else-scale-ge0.ensures
+pub returns : goal.returns
+returns c =
+    let before = by_same (quotient_before c.args.line) (to_z-of_z w8 c.args.scale c.ranges.scale) c.put_quotient_before.ensures in
+    quotient_checked c.args.short c.args.code.now c.put_check.new.code c.args.line c.args.call c.args.scale (check_added c.args.short c.args.line c.args.call before c.put_check.ensures)

@@ -1,6 +1,5 @@
-use Rattle.std.proofs.lemmas.Result.{on_ok_weaker}
-use Rattle.cw_assemble.proofs.Factors.{times_same}
+use Rattle.cw_assemble.proofs.Composed.{check_added}
 use Rattle.cw_assemble.proofs.arithmetic.put_rescale_up.Goals as goal
 
 pub returns : goal.returns
-returns c = on_ok_weaker c.put_times.result (times_same _ _ _ _ _ _ c.power.ensures) c.put_times.ensures
+returns c = check_added c.args.short c.args.line c.args.call c.put_rescale_before.ensures c.put_check.ensures

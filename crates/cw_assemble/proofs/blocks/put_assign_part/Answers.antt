@@ -1,18 +1,17 @@
 use Rattle.std.proofs.Common.{◌≡◌, ℕ, ◌++◌, ◌∷◌, [], List, ap, ◌∙◌, subst}
-use Rattle.std.proofs.lemmas.Result.{on_ok_weaker}
 use Rattle.cw_i86.specs.declared.instr.Instr.{Instr}
 use Rattle.cw_run86.specs.Views.{with_number}
 use Rattle.cw_word.specs.BitField.{field_mask}
-use Rattle.cw_tmpl.specs.declared.assembling.Assembly.{Assembly}
+use Rattle.cw_assemble.specs.declared.draft.Draft.{Draft}
 use Rattle.cw_order.specs.declared.order.Place.{Place}
 use Rattle.cw_tmpl.specs.declared.pieces.Coded.{Coded}
 use Rattle.cw_tmpl.specs.declared.pieces.Coded.TheVariants as coded
-use Rattle.cw_tmpl.specs.Assembling.{Adds}
+use Rattle.cw_assemble.specs.Growing.{Adds}
 use Rattle.cw_tmpl.specs.Templates.{shifted_up, address_pieces, operate_place, change_place}
-use Rattle.cw_tmpl.proofs.Growing.{adds_then}
+use Rattle.cw_assemble.proofs.Growing.{adds_then}
 use Rattle.cw_assemble.proofs.blocks.put_assign_part.Goals as goal
 
-part_assigned : (old one two new : Assembly) (x : Place) (b mask : ℕ) (p q : Coded) (i : Instr) → p ≡ operate_place 6 x → i ≡ with_number 4 mask → q ≡ change_place 6 x → Adds old (shifted_up b) one → Adds one (address_pieces x) two
+part_assigned : (old one two new : Draft) (x : Place) (b mask : ℕ) (p q : Coded) (i : Instr) → p ≡ operate_place 6 x → i ≡ with_number 4 mask → q ≡ change_place 6 x → Adds old (shifted_up b) one → Adds one (address_pieces x) two
     → Adds two (p ∷ coded.Whole i ∷ q ∷ []) new → Adds old (shifted_up b ++ (address_pieces x ++ operate_place 6 x ∷ coded.Whole (with_number 4 mask) ∷ change_place 6 x ∷ [])) new
 part_assigned old one two new x b mask p q i e1 e2 e3 f g h =
     let last : List Coded = operate_place 6 x ∷ coded.Whole (with_number 4 mask) ∷ change_place 6 x ∷ [] in
@@ -21,7 +20,5 @@ part_assigned old one two new x b mask p q i e1 e2 e3 f g h =
 
 pub returns : goal.returns
 returns c =
-    on_ok_weaker c.put_all.result
-    (part_assigned c.args.code.now c.put_shifted_up.new.code c.put_address.new.code c.put_all.new.self c.args.place c.args.b (field_mask c.args.t c.args.b) c.operate_place.result c.change_place.result c.with_number.result
-    c.operate_place.ensures.value (c.with_number.ensures ∙ ap (with_number 4) c.mask.ensures) c.change_place.ensures.value c.in_ok-put_shifted_up.ensures c.in_ok-put_address.ensures)
-    c.put_all.ensures
+    part_assigned c.args.code.now c.put_shifted_up.new.code c.put_address.new.code c.put_all.new.self c.args.place c.args.b (field_mask c.args.t c.args.b) c.operate_place.result c.change_place.result c.with_number.result
+    c.operate_place.ensures.value (c.with_number.ensures ∙ ap (with_number 4) c.mask.ensures) c.change_place.ensures.value c.put_shifted_up.ensures c.put_address.ensures c.put_all.ensures

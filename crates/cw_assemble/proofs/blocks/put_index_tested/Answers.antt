@@ -1,5 +1,4 @@
 use Rattle.std.proofs.Common.{rules, ◌≡◌, ◌-ℤ◌, to_z, of_z, ap₂, ◌∙◌, w16}
-use Rattle.std.proofs.lemmas.Result.{on_ok_weaker}
 use Rattle.cw_tmpl.specs.Templates.{from_lower, index_below, indexes_between}
 use Rattle.cw_assemble.proofs.Composed.{◌⨟◌, by_same}
 use Rattle.cw_assemble.proofs.blocks.put_index_tested.Goals as goal
@@ -10,8 +9,5 @@ returns c =
     let lower_is : to_z w16 (of_z w16 e.lower) ≡ e.lower = search rules in
     let upper_is : to_z w16 (of_z w16 c.args.upper) ≡ c.args.upper = search rules in
     let count = c.indexes_between-count.ensures ∙ ap₂ (λ x y. indexes_between (x -ℤ y)) upper_is lower_is in
-    on_ok_weaker c.put_index_below.result
-    (λ last.
-    let all = c.in_ok-put_index_loaded.ensures ⨟ by_same from_lower lower_is c.in_ok-put_from_lower.ensures ⨟ by_same (λ n. index_below n c.args.line e.family e.first) count last in
-    all)
-    c.put_index_below.ensures
+    let all = c.put_index_loaded.ensures ⨟ by_same from_lower lower_is c.put_from_lower.ensures ⨟ by_same (λ n. index_below n c.args.line e.family e.first) count c.put_index_below.ensures in
+    all

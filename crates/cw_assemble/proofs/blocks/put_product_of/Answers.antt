@@ -1,17 +1,16 @@
 use Rattle.std.proofs.Common.{◌≡◌, ◌++◌, ◌∷◌, [], subst}
-use Rattle.std.proofs.lemmas.Result.{on_ok_weaker}
 use Rattle.cw_i86.specs.declared.instr.Instr.{Instr}
-use Rattle.cw_tmpl.specs.declared.assembling.Assembly.{Assembly}
+use Rattle.cw_assemble.specs.declared.draft.Draft.{Draft}
 use Rattle.cw_tmpl.specs.declared.blocks.Element.{Element}
 use Rattle.cw_tmpl.specs.declared.blocks.Simple.TheVariants as simple
 use Rattle.cw_tmpl.specs.declared.pieces.Coded.TheVariants as coded
-use Rattle.cw_tmpl.specs.Assembling.{Adds}
+use Rattle.cw_assemble.specs.Growing.{Adds}
 use Rattle.cw_tmpl.specs.Mnemonics.{at_si, load, move, multiply}
 use Rattle.cw_tmpl.specs.Templates.{element_address, product_with}
-use Rattle.cw_tmpl.proofs.Growing.{adds_then}
+use Rattle.cw_assemble.proofs.Growing.{adds_then}
 use Rattle.cw_assemble.proofs.blocks.put_product_of.Goals as goal
 
-product_added : (old one two new : Assembly) (e : Element) (i1 i2 i3 : Instr) → i1 ≡ move 1 0 → i2 ≡ load 0 at_si → i3 ≡ multiply 1 → Adds old (coded.Whole i1 ∷ []) one → Adds one (element_address e) two
+product_added : (old one two new : Draft) (e : Element) (i1 i2 i3 : Instr) → i1 ≡ move 1 0 → i2 ≡ load 0 at_si → i3 ≡ multiply 1 → Adds old (coded.Whole i1 ∷ []) one → Adds one (element_address e) two
     → Adds two (coded.Whole i2 ∷ coded.Whole i3 ∷ []) new → Adds old (product_with (simple.Element e)) new
 product_added old one two new e i1 i2 i3 e1 e2 e3 a b d =
     let first : coded.Whole i1 ∷ [] ≡ coded.Whole (move 1 0) ∷ [] = cc in
@@ -21,7 +20,5 @@ product_added old one two new e i1 i2 i3 e1 e2 e3 a b d =
 
 pub returns : goal.returns
 returns c =
-    on_ok_weaker c.put_all-2.result
-    (product_added c.args.code.now c.put_all.new.self c.put_element_address.new.code c.put_all-2.new.self c.args.element c.copy.result c.load.result c.multiply.result c.copy.ensures c.load.ensures c.multiply.ensures
-    c.in_ok-put_all.ensures c.in_ok-put_element_address.ensures)
-    c.put_all-2.ensures
+    product_added c.args.code.now c.put_all.new.self c.put_element_address.new.code c.put_all-2.new.self c.args.element c.copy.result c.load.result c.multiply.result c.copy.ensures c.load.ensures c.multiply.ensures
+    c.put_all.ensures c.put_element_address.ensures c.put_all-2.ensures

@@ -1,6 +1,5 @@
 use Rattle.std.proofs.Common.{rules, ◌≡◌, ℕ, List, [], ◌∷◌, length, subst, refl}
-use Rattle.std.proofs.lemmas.Result.{on_ok_weaker}
-use Rattle.cw_tmpl.specs.Assembling.{Adds}
+use Rattle.cw_assemble.specs.Growing.{Adds}
 use Rattle.cw_tmpl.specs.Names.{Names}
 use Rattle.cw_tmpl.specs.Templates.{loop_way, loop_ways}
 use Rattle.cw_assemble.proofs.loops.put_loop_ways.Goals as goal
@@ -15,6 +14,4 @@ pub returns-in_default : goal.returns-in_default
 returns-in_default c =
     let old = c.args.code.now in
     let other : length c.args.marks.now ≡ 1 → ⊥ = λ e. elim c.in_default.branch [ in_default-via-then-marks-lt1 w ↦ search rules | in_default-via-else-marks-lt1+else-marks-lt2 w ↦ search rules ] in
-    on_ok_weaker c.put_loop_way.result
-    (λ added. subst (λ ps. Adds old ps c.put_loop_way.new.code) (by_table c.args.names.now (length old.bytes) c.args.marks.now other) added)
-    c.put_loop_way.ensures
+    subst (λ ps. Adds old ps c.put_loop_way.new.code) (by_table c.args.names.now (length old.assembly.bytes) c.args.marks.now other) c.put_loop_way.ensures

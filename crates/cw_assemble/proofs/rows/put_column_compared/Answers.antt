@@ -1,13 +1,10 @@
 use Rattle.std.proofs.Common.{rules, ◌≡◌, to_z, of_z, w16}
-use Rattle.std.proofs.lemmas.Result.{on_ok_weaker}
 use Rattle.cw_tmpl.specs.Templates.{from_lower, column_below}
-use Rattle.cw_assemble.proofs.Composed.{◌⨟◌, by_same}
+use Rattle.cw_assemble.proofs.Composed.{bounded}
 use Rattle.cw_assemble.proofs.rows.put_column_compared.Goals as goal
 
 pub returns : goal.returns
 returns c =
-    let bounds = c.args.row.columns in
-    let lower_is : to_z w16 (of_z w16 bounds.lower) ≡ bounds.lower = search rules in
-    let low = by_same from_lower lower_is c.in_ok-put_from_lower.ensures in
-    let tested = by_same (column_below bounds.line) c.columns_between-count.ensures c.in_ok-put_column_below.ensures in
-    on_ok_weaker c.put_row_summed.result (λ last. let all = low ⨟ tested ⨟ last in all) c.put_row_summed.ensures
+    let lower_is : to_z w16 (of_z w16 c.args.row.columns.lower) ≡ c.args.row.columns.lower = search rules in
+    let all = bounded from_lower (column_below c.args.row.columns.line) lower_is c.columns_between-count.ensures c.put_from_lower.ensures c.put_column_below.ensures c.put_row_summed.ensures in
+    all

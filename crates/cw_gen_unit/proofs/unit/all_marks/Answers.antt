@@ -6,9 +6,9 @@ pub returns : goal.returns
 returns c =
     let z = c.args.places.now in
     let e = c.args.entries.now in
-    let ds = definition_places z e c.args.unit.now.defined in
+    let ds = definition_places z e c.args.defined.now in
     let own = drop c.args.first c.args.made.now in
     c.of.ensures ∙ c.in_ok-extend-3.ensures
-    ∙ ap (λ a. a ++ own) (c.in_ok-extend-2.ensures ∙ ap (λ a. a ++ e) (c.in_ok-extend.ensures ∙ ap (λ a. a ++ z) (c.in_ok-marks.ensures ∙ ap (definition_places z e) c.as_slice-defined.ensures)))
+    ∙ ap (λ a. a ++ own) (c.in_ok-extend-2.ensures ∙ ap (λ a. a ++ e) (c.in_ok-extend.ensures ∙ ap (λ a. a ++ z) c.in_ok-marks.ensures))
     ∙ append_assoc (ds ++ z) e own
     ∙ append_assoc ds z (e ++ own)

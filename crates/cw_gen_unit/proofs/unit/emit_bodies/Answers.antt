@@ -30,8 +30,9 @@ returns-clause-marks c =
     let ee2 : e2 ≡ es = p.entries ∙ ap (λ l. l ++ es) c.new-entries.ensures.items in
     let ems : c.in_ok-marks.marks ≡ definition_places z2 e2 u.defined ++ (z2 ++ (e2 ++ drop c.args.first o2.marks.items)) =
     c.in_ok-marks.ensures
-    ∙ ap₂ (λ z e. definition_places z e u.defined ++ (z ++ (e ++ drop c.args.first c.as_slice-4.result.now))) c.as_slice-2.ensures.value c.as_slice-3.ensures.value
-    ∙ ap (λ l. definition_places z2 e2 u.defined ++ (z2 ++ (e2 ++ drop c.args.first l))) c.as_slice-4.ensures.value in
+    ∙ ap (λ ds. definition_places c.as_slice-3.result.now c.as_slice-4.result.now ds ++ (c.as_slice-3.result.now ++ (c.as_slice-4.result.now ++ drop c.args.first c.as_slice-5.result.now))) c.as_slice-2.ensures
+    ∙ ap₂ (λ z e. definition_places z e u.defined ++ (z ++ (e ++ drop c.args.first c.as_slice-5.result.now))) c.as_slice-3.ensures.value c.as_slice-4.ensures.value
+    ∙ ap (λ l. definition_places z2 e2 u.defined ++ (z2 ++ (e2 ++ drop c.args.first l))) c.as_slice-5.ensures.value in
     whole-marks u c.args.first o0.orders o1.orders o2.orders o0.marks.items o1.marks.items o2.marks.items
     c.requires.counted (ap (λ z. z.orders) c.requires.begun) (ap (λ z. z.marks) c.requires.begun) d.orders d.marks p.orders p.marks
     z0 z1 z2 e2 c.in_ok-marks.marks ez0 d.places ee2 p.places ems

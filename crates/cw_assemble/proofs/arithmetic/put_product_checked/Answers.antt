@@ -1,0 +1,10 @@
+use Rattle.std.proofs.Common.{w8}
+use Rattle.std.proofs.lemmas.Int.{to_z-of_z}
+use Rattle.cw_tmpl.specs.Templates.{product_before}
+use Rattle.cw_assemble.proofs.Composed.{by_same, check_added}
+use Rattle.cw_assemble.proofs.arithmetic.put_product_checked.Goals as goal
+
+pub returns : goal.returns
+returns c =
+    let before = by_same (product_before c.args.line) (to_z-of_z w8 c.args.scale c.ranges.scale) c.put_product_before.ensures in
+    check_added c.args.short c.args.line c.args.call before c.put_check.ensures
