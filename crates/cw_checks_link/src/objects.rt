@@ -137,66 +137,47 @@ fn last_segment(rt: HostRuntime) -> Result<(), Fail> {
     Ok(())
 }
 
-// Each fault, told with its fields.
+// Two objects, and the fault of linking them: its name, a number and the segments that it tells, each 0 where it tells none.
+const FAULTS: &[(&[u8], &[u8], Told)] = &[
+    (&CALLER, &SAME_NAME, ("SegmentTwice", 0, 0, 0)),
+    (&CALLER, &OTHER_SCALE, ("Differs", 0, 1, 2)),
+    (&SECOND, &OWNER, ("DefinedTwice", 0, 1, 2)),
+    (&CALLER, &ONE, ("Undefined", 0, 0, 0)),
+    (&ONE, &OUTSIDE, ("AbsoluteOutside", 100, 2, 0)),
+    (&ONE, &LARGE, ("DataTooBig", 4_294_967_396, 0, 0)),
+    (&ONE, &TWO, ("PresetClash", 0, 1, 2)),
+];
+
+type Told = (&'static str, u64, u8, u8);
+
+fn told(fault: LinkFault) -> Told {
+    match fault {
+        LinkFault::SegmentTwice { .. } => ("SegmentTwice", 0, 0, 0),
+        LinkFault::Differs { first, second, .. } => ("Differs", 0, first, second),
+        LinkFault::DefinedTwice { first, second, .. } => ("DefinedTwice", 0, first, second),
+        LinkFault::Undefined { .. } => ("Undefined", 0, 0, 0),
+        LinkFault::AbsoluteOutside { segment, address } => {
+            ("AbsoluteOutside", u64::from(address), segment, 0)
+        }
+        LinkFault::DataTooBig { need } => ("DataTooBig", need, 0, 0),
+        LinkFault::ControlTooBig { need } => ("ControlTooBig", need, 0, 0),
+        LinkFault::PresetClash {
+            address,
+            first,
+            second,
+        } => ("PresetClash", u64::from(address), first, second),
+        LinkFault::CodeTooBig { bytes } => ("CodeTooBig", bytes, 0, 0),
+        LinkFault::NoMemory => ("NoMemory", 0, 0, 0),
+    }
+}
+
 #[test]
 fn faults(rt: HostRuntime) -> Result<(), Fail> {
-    let alloc = rt.alloc();
-    assert!(rt;
-        matches!(
-            link_two(alloc, &CALLER, &SAME_NAME),
-            Err(LinkFault::SegmentTwice { .. })
-        )
-    );
-    assert!(rt;
-        matches!(
-            link_two(alloc, &CALLER, &OTHER_SCALE),
-            Err(LinkFault::Differs {
-                first: 1,
-                second: 2,
-                ..
-            })
-        )
-    );
-    assert!(rt;
-        matches!(
-            link_two(alloc, &SECOND, &OWNER),
-            Err(LinkFault::DefinedTwice {
-                first: 1,
-                second: 2,
-                ..
-            })
-        )
-    );
-    assert!(rt;
-        matches!(
-            link_two(alloc, &CALLER, &ONE),
-            Err(LinkFault::Undefined { .. })
-        )
-    );
-    assert!(rt;
-        matches!(
-            link_two(alloc, &ONE, &OUTSIDE),
-            Err(LinkFault::AbsoluteOutside {
-                segment: 2,
-                address: 100
-            })
-        )
-    );
-    assert!(rt;
-        matches!(
-            link_two(alloc, &ONE, &LARGE),
-            Err(LinkFault::DataTooBig { need: 4294967396 })
-        )
-    );
-    assert!(rt;
-        matches!(
-            link_two(alloc, &ONE, &TWO),
-            Err(LinkFault::PresetClash {
-                address: 0,
-                first: 1,
-                second: 2
-            })
-        )
-    );
+    for &(first, second, wanted) in FAULTS {
+        let Err(fault) = link_two(rt.alloc(), first, second) else {
+            panic!(&rt; "{wanted:?}");
+        };
+        assert_eq!(rt; told(fault), wanted);
+    }
     Ok(())
 }

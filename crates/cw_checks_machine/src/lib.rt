@@ -2,12 +2,4 @@
 #![tactic(auto)]
 
 #[cfg(test)]
-mod arithmetic;
-#[cfg(test)]
-mod assembly;
-#[cfg(test)]
-mod encodings;
-#[cfg(test)]
-mod ports;
-#[cfg(test)]
-mod steps;
+mod tests;

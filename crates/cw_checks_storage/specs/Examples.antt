@@ -1,454 +1,143 @@
 -- Storage of units, with their maps and the words that are filled at the start.
 use Rattle.std.specs.Prelude.{List, [], ◌∷◌, codes}
-use Rattle.cw_unit.specs.declared.unit.ItemKind.TheVariants as kind
-use Rattle.cw_unit.specs.declared.unit.Home.TheVariants as home
-use Rattle.cw_checks_storage.specs.Units.{Example, named, text, loop, at, of, preset, word, overlay, procedure, segment}
+use Rattle.cw_checks_storage.specs.Units.{Example, single, array, table, text, loop, over, absolute, common, of, local, preset, word, overlay, procedure, segment, alone, placed, filled}
 
 abbrev pub overlays : List Example
 overlays =
-    record { units = (segment (65 ∷ []) [] [] [] ∷ []); text = codes "12288 04096 FRAMES\n"; words = [] }
-    ∷ record {
-      units = (segment (65 ∷ []) [] (named kind.Single (88 ∷ []) 1 ∷ []) [] ∷ []);
-      text = codes "00000 00001 A.X WORD\n12288 04096 FRAMES\n";
-      words = [];
-    }
-    ∷ record {
-      units = (segment (65 ∷ []) [] (named kind.Single (88 ∷ []) 1 ∷ named kind.Single (89 ∷ []) 1 ∷ []) []
-          ∷ []);
-      text = codes "00000 00001 A.X WORD\n00001 00001 A.Y WORD\n12288 04096 FRAMES\n";
-      words = [];
-    }
-    ∷ record {
-      units = (segment (65 ∷ []) [] (named kind.Array (66 ∷ []) 5 ∷ named kind.Single (88 ∷ []) 1 ∷ []) []
-          ∷ []);
-      text = codes "00000 00005 A.B ARRAY\n00005 00001 A.X WORD\n12288 04096 FRAMES\n";
-      words = [];
-    }
-    ∷ record {
-      units = (segment (65 ∷ []) []
-          (named kind.Array (66 ∷ []) 4 ∷ at (home.Over 0 2) (named kind.Single (88 ∷ []) 1)
-          ∷ named kind.Single (89 ∷ []) 1 ∷ []) [] ∷ []);
-      text = codes "00000 00004 A.B ARRAY\n00002 00001 A.X WORD\n00004 00001 A.Y WORD\n12288 04096 FRAMES\n";
-      words = [];
-    }
-    ∷ record {
-      units = (segment (65 ∷ []) []
-          (named kind.Array (66 ∷ []) 4 ∷ at (home.Over 0 0) (named kind.Single (88 ∷ []) 1)
-          ∷ at (home.Over 0 3) (named kind.Single (89 ∷ []) 1) ∷ named kind.Single (90 ∷ []) 1 ∷ []) []
-          ∷ []);
-      text = codes "00000 00004 A.B ARRAY\n00000 00001 A.X WORD\n00003 00001 A.Y WORD\n00004 00001 A.Z WORD\n12288 04096 FRAMES\n";
-      words = [];
-    }
-    ∷ record {
-      units = (segment (65 ∷ []) []
-          (named kind.Array (66 ∷ []) 4 ∷ at (home.Over 0 2) (named kind.Array (67 ∷ []) 6)
-          ∷ named kind.Single (89 ∷ []) 1 ∷ []) [] ∷ []);
-      text = codes "00000 00004 A.B ARRAY\n00002 00006 A.C ARRAY\n00008 00001 A.Y WORD\n12288 04096 FRAMES\n";
-      words = [];
-    }
-    ∷ record {
-      units = (segment (65 ∷ []) []
-          (named kind.Single (88 ∷ []) 1 ∷ at (home.Over 0 0) (named kind.Single (89 ∷ []) 1)
-          ∷ at (home.Over 1 0) (named kind.Single (90 ∷ []) 1) ∷ named kind.Single (86 ∷ []) 1 ∷ []) []
-          ∷ []);
-      text = codes "00000 00001 A.X WORD\n00000 00001 A.Y WORD\n00000 00001 A.Z WORD\n00001 00001 A.V WORD\n12288 04096 FRAMES\n";
-      words = [];
-    }
-    ∷ record {
-      units = (segment (65 ∷ []) []
-          (named kind.Array (66 ∷ []) 10 ∷ at (home.Over 0 2) (named kind.Array (67 ∷ []) 5)
-          ∷ at (home.Over 1 3) (named kind.Single (68 ∷ []) 1) ∷ named kind.Single (69 ∷ []) 1 ∷ []) []
-          ∷ []);
-      text = codes "00000 00010 A.B ARRAY\n00002 00005 A.C ARRAY\n00005 00001 A.D WORD\n00010 00001 A.E WORD\n12288 04096 FRAMES\n";
-      words = [];
-    }
-    ∷ record {
-      units = (segment (65 ∷ []) []
-          (named kind.Array (66 ∷ []) 3 ∷ named kind.Array (67 ∷ []) 2
-          ∷ at (home.Over 0 1) (named kind.Single (88 ∷ []) 1)
-          ∷ at (home.Over 1 1) (named kind.Single (89 ∷ []) 1) ∷ named kind.Single (90 ∷ []) 1 ∷ []) []
-          ∷ []);
-      text = codes "00000 00003 A.B ARRAY\n00001 00001 A.X WORD\n00003 00002 A.C ARRAY\n00004 00001 A.Y WORD\n00005 00001 A.Z WORD\n12288 04096 FRAMES\n";
-      words = [];
-    }
+    placed (alone []) (codes "")
+    ∷ placed (alone (single (codes "X") ∷ [])) (codes "00000 00001 A.X WORD\n")
+    ∷ placed (alone (single (codes "X") ∷ single (codes "Y") ∷ [])) (codes "00000 00001 A.X WORD\n00001 00001 A.Y WORD\n")
+    ∷ placed (alone (array (codes "B") 5 ∷ single (codes "X") ∷ [])) (codes "00000 00005 A.B ARRAY\n00005 00001 A.X WORD\n")
+    ∷ placed (alone (array (codes "B") 4 ∷ over 0 2 (single (codes "X")) ∷ single (codes "Y") ∷ []))
+    (codes "00000 00004 A.B ARRAY\n00002 00001 A.X WORD\n00004 00001 A.Y WORD\n")
+    ∷ placed (alone (array (codes "B") 4 ∷ over 0 0 (single (codes "X")) ∷ over 0 3 (single (codes "Y")) ∷ single (codes "Z") ∷ []))
+    (codes "00000 00004 A.B ARRAY\n00000 00001 A.X WORD\n00003 00001 A.Y WORD\n00004 00001 A.Z WORD\n")
+    ∷ placed (alone (array (codes "B") 4 ∷ over 0 2 (array (codes "C") 6) ∷ single (codes "Y") ∷ []))
+    (codes "00000 00004 A.B ARRAY\n00002 00006 A.C ARRAY\n00008 00001 A.Y WORD\n")
+    ∷ placed (alone (single (codes "X") ∷ over 0 0 (single (codes "Y")) ∷ over 1 0 (single (codes "Z")) ∷ single (codes "V") ∷ []))
+    (codes "00000 00001 A.X WORD\n00000 00001 A.Y WORD\n00000 00001 A.Z WORD\n00001 00001 A.V WORD\n")
+    ∷ placed (alone (array (codes "B") 10 ∷ over 0 2 (array (codes "C") 5) ∷ over 1 3 (single (codes "D")) ∷ single (codes "E") ∷ []))
+    (codes "00000 00010 A.B ARRAY\n00002 00005 A.C ARRAY\n00005 00001 A.D WORD\n00010 00001 A.E WORD\n")
+    ∷ placed (alone (array (codes "B") 3 ∷ array (codes "C") 2 ∷ over 0 1 (single (codes "X")) ∷ over 1 1 (single (codes "Y")) ∷ single (codes "Z") ∷ []))
+    (codes "00000 00003 A.B ARRAY\n00001 00001 A.X WORD\n00003 00002 A.C ARRAY\n00004 00001 A.Y WORD\n00005 00001 A.Z WORD\n")
     ∷ []
 
 abbrev pub tables_and_strings : List Example
 tables_and_strings =
-    record {
-      units = (segment (65 ∷ []) [] (named kind.Table (84 ∷ []) 4 ∷ []) [] ∷ []);
-      text = codes "00000 00004 A.T TABLE\n12288 04096 FRAMES\n";
-      words = [];
-    }
-    ∷ record {
-      units = (segment (65 ∷ []) []
-          (named kind.Array (65 ∷ []) 4 ∷ at (home.Over 0 2) (named kind.Table (84 ∷ []) 2) ∷ []) [] ∷ []);
-      text = codes "00000 00004 A.A ARRAY\n00002 00002 A.T TABLE\n12288 04096 FRAMES\n";
-      words = [];
-    }
-    ∷ record {
-      units = (segment (65 ∷ []) []
-          (named kind.Table (84 ∷ []) 6 ∷ at (home.Over 0 4) (named kind.Single (88 ∷ []) 1) ∷ []) [] ∷ []);
-      text = codes "00000 00006 A.T TABLE\n00004 00001 A.X WORD\n12288 04096 FRAMES\n";
-      words = [];
-    }
-    ∷ record {
-      units = (segment (65 ∷ []) [] (text 3 (codes "AB") ∷ []) [] ∷ []);
-      text = codes "00000 00003 A.STRING@3 STRING\n12288 04096 FRAMES\n";
-      words = ((0, 2) ∷ (1, 65) ∷ (2, 66) ∷ []);
-    }
-    ∷ record {
-      units = (segment (65 ∷ []) [] (named kind.Single (88 ∷ []) 1 ∷ text 1 (codes "H") ∷ []) [] ∷ []);
-      text = codes "00000 00001 A.X WORD\n00001 00002 A.STRING@1 STRING\n12288 04096 FRAMES\n";
-      words = ((1, 1) ∷ (2, 72) ∷ []);
-    }
-    ∷ record {
-      units = (segment (65 ∷ []) [] (text 4 (codes "A") ∷ text 4 (codes "B") ∷ []) [] ∷ []);
-      text = codes "00000 00002 A.STRING@4 STRING\n00002 00002 A.STRING@4 STRING\n12288 04096 FRAMES\n";
-      words = ((0, 1) ∷ (1, 65) ∷ (2, 1) ∷ (3, 66) ∷ []);
-    }
-    ∷ record {
-      units = (segment (65 ∷ []) [] (text 10 (codes "") ∷ []) [] ∷ []);
-      text = codes "00000 00001 A.STRING@10 STRING\n12288 04096 FRAMES\n";
-      words = ((0, 0) ∷ []);
-    }
-    ∷ record {
-      units = (segment (65 ∷ []) [] (loop 7 ∷ named kind.Single (88 ∷ []) 1 ∷ []) [] ∷ []);
-      text = codes "00000 00004 A.FOR@7 LOOP\n00004 00001 A.X WORD\n12288 04096 FRAMES\n";
-      words = [];
-    }
-    ∷ record {
-      units = (segment (65 ∷ []) [] (of 0 (loop 65535) ∷ of 0 (text 9 (codes "C")) ∷ [])
-          (procedure (80 ∷ []) ∷ []) ∷ []);
-      text = codes
-          "00000 00004 A.P.FOR@65535 LOOP\n00004 00002 A.P.STRING@9 STRING\n12288 04096 FRAMES\n";
-      words = ((4, 1) ∷ (5, 67) ∷ []);
-    }
-    ∷ record {
-      units = (segment (65 ∷ []) []
-          (named kind.Single (88 ∷ []) 1 ∷ of 0 (named kind.Single (88 ∷ []) 1) ∷ [])
-          (procedure (76 ∷ 79 ∷ 78 ∷ 71 ∷ 49 ∷ []) ∷ []) ∷ []);
-      text = codes "00000 00001 A.X WORD\n00001 00001 A.LONG1.X WORD\n12288 04096 FRAMES\n";
-      words = [];
-    }
+    placed (alone (table (codes "T") 4 ∷ [])) (codes "00000 00004 A.T TABLE\n")
+    ∷ placed (alone (array (codes "A") 4 ∷ over 0 2 (table (codes "T") 2) ∷ [])) (codes "00000 00004 A.A ARRAY\n00002 00002 A.T TABLE\n")
+    ∷ placed (alone (table (codes "T") 6 ∷ over 0 4 (single (codes "X")) ∷ [])) (codes "00000 00006 A.T TABLE\n00004 00001 A.X WORD\n")
+    ∷ filled (alone (text 3 (codes "AB") ∷ [])) (codes "00000 00003 A.STRING@3 STRING\n") ((0, 2) ∷ (1, 65) ∷ (2, 66) ∷ [])
+    ∷ filled (alone (single (codes "X") ∷ text 1 (codes "H") ∷ []))
+    (codes "00000 00001 A.X WORD\n00001 00002 A.STRING@1 STRING\n") ((1, 1) ∷ (2, 72) ∷ [])
+    ∷ filled (alone (text 4 (codes "A") ∷ text 4 (codes "B") ∷ []))
+    (codes "00000 00002 A.STRING@4 STRING\n00002 00002 A.STRING@4 STRING\n") ((0, 1) ∷ (1, 65) ∷ (2, 1) ∷ (3, 66) ∷ [])
+    ∷ filled (alone (text 10 (codes "") ∷ [])) (codes "00000 00001 A.STRING@10 STRING\n") ((0, 0) ∷ [])
+    ∷ placed (alone (loop 7 ∷ single (codes "X") ∷ [])) (codes "00000 00004 A.FOR@7 LOOP\n00004 00001 A.X WORD\n")
+    ∷ filled (segment (codes "A") [] (of 0 (loop 65535) ∷ of 0 (text 9 (codes "C")) ∷ []) (procedure (codes "P") ∷ []) ∷ [])
+    (codes "00000 00004 A.P.FOR@65535 LOOP\n00004 00002 A.P.STRING@9 STRING\n") ((4, 1) ∷ (5, 67) ∷ [])
+    ∷ placed (segment (codes "A") [] (single (codes "X") ∷ of 0 (single (codes "X")) ∷ []) (procedure (codes "LONG1") ∷ []) ∷ [])
+    (codes "00000 00001 A.X WORD\n00001 00001 A.LONG1.X WORD\n")
     ∷ []
 
 abbrev pub presets : List Example
 presets =
-    record {
-      units = (segment (65 ∷ []) [] (preset ((0, 5) ∷ []) (named kind.Single (88 ∷ []) 1) ∷ []) [] ∷ []);
-      text = codes "00000 00001 A.X WORD\n12288 04096 FRAMES\n";
-      words = ((0, 5) ∷ []);
-    }
-    ∷ record {
-      units = (segment (65 ∷ []) []
-          (preset ((0, 1) ∷ (2, 3) ∷ (3, 4) ∷ []) (named kind.Array (65 ∷ []) 5) ∷ []) [] ∷ []);
-      text = codes "00000 00005 A.A ARRAY\n12288 04096 FRAMES\n";
-      words = ((0, 1) ∷ (2, 3) ∷ (3, 4) ∷ []);
-    }
-    ∷ record {
-      units = (segment (65 ∷ []) []
-          (named kind.Array (66 ∷ []) 4 ∷ preset ((0, 9) ∷ [])
-          (at (home.Over 0 2) (named kind.Single (88 ∷ []) 1)) ∷ []) [] ∷ []);
-      text = codes "00000 00004 A.B ARRAY\n00002 00001 A.X WORD\n12288 04096 FRAMES\n";
-      words = ((2, 9) ∷ []);
-    }
-    ∷ record {
-      units = (segment (65 ∷ []) []
-          (preset ((0, 1) ∷ []) (named kind.Single (88 ∷ []) 1)
-          ∷ preset ((0, 2) ∷ []) (at (home.Over 0 0) (named kind.Single (89 ∷ []) 1)) ∷ []) [] ∷ []);
-      text = codes "00000 00001 A.X WORD\n00000 00001 A.Y WORD\n12288 04096 FRAMES\n";
-      words = ((0, 1) ∷ (0, 2) ∷ []);
-    }
-    ∷ record {
-      units = (segment (65 ∷ []) []
-          (named kind.Single (88 ∷ []) 1 ∷ preset ((0, 1) ∷ (1, 2) ∷ (3, 4) ∷ [])
-          (named kind.Table (84 ∷ []) 4) ∷ []) [] ∷ []);
-      text = codes "00000 00001 A.X WORD\n00001 00004 A.T TABLE\n12288 04096 FRAMES\n";
-      words = ((1, 1) ∷ (2, 2) ∷ (4, 4) ∷ []);
-    }
-    ∷ record {
-      units = (segment (65 ∷ []) []
-          (named kind.Array (66 ∷ []) 6 ∷ at (home.Over 0 2) (named kind.Array (67 ∷ []) 3)
-          ∷ preset ((1, 8) ∷ []) (at (home.Over 1 1) (named kind.Array (68 ∷ []) 2)) ∷ []) [] ∷ []);
-      text = codes "00000 00006 A.B ARRAY\n00002 00003 A.C ARRAY\n00003 00002 A.D ARRAY\n12288 04096 FRAMES\n";
-      words = ((4, 8) ∷ []);
-    }
-    ∷ record {
-      units = (segment (65 ∷ []) []
-          (named kind.Single (88 ∷ []) 1 ∷ preset ((0, 7) ∷ []) (of 0 (named kind.Single (76 ∷ []) 1)) ∷ [])
-          (procedure (80 ∷ []) ∷ []) ∷ []);
-      text = codes
-          "00000 00001 A.X WORD\n00001 00001 A.P.L WORD\n12288 04096 FRAMES\n";
-      words = ((1, 7) ∷ []);
-    }
-    ∷ record {
-      units = (segment (65 ∷ []) [] (preset ((0, 1) ∷ []) (named kind.Single (88 ∷ []) 1) ∷ []) []
-          ∷ segment (66 ∷ []) [] (preset ((0, 2) ∷ []) (named kind.Single (89 ∷ []) 1) ∷ []) [] ∷ []);
-      text = codes "00000 00001 A.X WORD\n00001 00001 B.Y WORD\n12288 04096 FRAMES\n";
-      words = ((0, 1) ∷ (1, 2) ∷ []);
-    }
-    ∷ record {
-      units = (segment (65 ∷ []) (word (84 ∷ []) ∷ [])
-          (preset ((0, 1) ∷ []) (at (home.Common 0) (named kind.Single (84 ∷ []) 1)) ∷ []) []
-          ∷ segment (66 ∷ []) (word (84 ∷ []) ∷ [])
-          (preset ((0, 3) ∷ []) (named kind.Single (89 ∷ []) 1)
-          ∷ preset ((0, 7) ∷ []) (at (home.Common 0) (named kind.Single (84 ∷ []) 1)) ∷ []) [] ∷ []);
-      text = codes "00000 00001 COMMON.T WORD\n00001 00001 B.Y WORD\n12288 04096 FRAMES\n";
-      words = ((0, 1) ∷ (1, 3) ∷ (0, 7) ∷ []);
-    }
-    ∷ record {
-      units = (segment (65 ∷ []) []
-          (preset ((0, 65535) ∷ []) (named kind.Single (88 ∷ []) 1) ∷ text 2 (codes "Z") ∷ []) [] ∷ []);
-      text = codes "00000 00001 A.X WORD\n00001 00002 A.STRING@2 STRING\n12288 04096 FRAMES\n";
-      words = ((0, 65535) ∷ (1, 1) ∷ (2, 90) ∷ []);
-    }
+    filled (alone (preset ((0, 5) ∷ []) (single (codes "X")) ∷ [])) (codes "00000 00001 A.X WORD\n") ((0, 5) ∷ [])
+    ∷ filled (alone (preset ((0, 1) ∷ (2, 3) ∷ (3, 4) ∷ []) (array (codes "A") 5) ∷ []))
+    (codes "00000 00005 A.A ARRAY\n") ((0, 1) ∷ (2, 3) ∷ (3, 4) ∷ [])
+    ∷ filled (alone (array (codes "B") 4 ∷ preset ((0, 9) ∷ []) (over 0 2 (single (codes "X"))) ∷ []))
+    (codes "00000 00004 A.B ARRAY\n00002 00001 A.X WORD\n") ((2, 9) ∷ [])
+    ∷ filled (alone (preset ((0, 1) ∷ []) (single (codes "X")) ∷ preset ((0, 2) ∷ []) (over 0 0 (single (codes "Y"))) ∷ []))
+    (codes "00000 00001 A.X WORD\n00000 00001 A.Y WORD\n") ((0, 1) ∷ (0, 2) ∷ [])
+    ∷ filled (alone (single (codes "X") ∷ preset ((0, 1) ∷ (1, 2) ∷ (3, 4) ∷ []) (table (codes "T") 4) ∷ []))
+    (codes "00000 00001 A.X WORD\n00001 00004 A.T TABLE\n") ((1, 1) ∷ (2, 2) ∷ (4, 4) ∷ [])
+    ∷ filled (alone (array (codes "B") 6 ∷ over 0 2 (array (codes "C") 3) ∷ preset ((1, 8) ∷ []) (over 1 1 (array (codes "D") 2)) ∷ []))
+    (codes "00000 00006 A.B ARRAY\n00002 00003 A.C ARRAY\n00003 00002 A.D ARRAY\n") ((4, 8) ∷ [])
+    ∷ filled (segment (codes "A") [] (single (codes "X") ∷ preset ((0, 7) ∷ []) (of 0 (single (codes "L"))) ∷ []) (procedure (codes "P") ∷ []) ∷ [])
+    (codes "00000 00001 A.X WORD\n00001 00001 A.P.L WORD\n") ((1, 7) ∷ [])
+    ∷ filled (segment (codes "A") [] (preset ((0, 1) ∷ []) (single (codes "X")) ∷ []) []
+    ∷ segment (codes "B") [] (preset ((0, 2) ∷ []) (single (codes "Y")) ∷ []) [] ∷ [])
+    (codes "00000 00001 A.X WORD\n00001 00001 B.Y WORD\n") ((0, 1) ∷ (1, 2) ∷ [])
+    ∷ filled (segment (codes "A") (word (codes "T") ∷ []) (preset ((0, 1) ∷ []) (common 0 (single (codes "T"))) ∷ []) []
+    ∷ segment (codes "B") (word (codes "T") ∷ []) (preset ((0, 3) ∷ []) (single (codes "Y")) ∷ preset ((0, 7) ∷ []) (common 0 (single (codes "T"))) ∷ []) [] ∷ [])
+    (codes "00000 00001 COMMON.T WORD\n00001 00001 B.Y WORD\n") ((0, 1) ∷ (1, 3) ∷ (0, 7) ∷ [])
+    ∷ filled (alone (preset ((0, 65535) ∷ []) (single (codes "X")) ∷ text 2 (codes "Z") ∷ []))
+    (codes "00000 00001 A.X WORD\n00001 00002 A.STRING@2 STRING\n") ((0, 65535) ∷ (1, 1) ∷ (2, 90) ∷ [])
     ∷ []
 
 abbrev pub frames : List Example
 frames =
-    record {
-      units = (segment (65 ∷ []) [] (at home.Frame (of 0 (named kind.Single (78 ∷ []) 1)) ∷ [])
-          (procedure (80 ∷ []) ∷ []) ∷ []);
-      text = codes "+00000 00001 A.P.N WORD\n12288 04096 FRAMES\n";
-      words = [];
-    }
-    ∷ record {
-      units = (segment (65 ∷ []) []
-          (at home.Frame (of 0 (named kind.Single (78 ∷ []) 1))
-          ∷ at home.Frame (of 0 (named kind.Array (65 ∷ []) 100)) ∷ []) (procedure (71 ∷ []) ∷ []) ∷ []);
-      text = codes "+00000 00001 A.G.N WORD\n+00001 00100 A.G.A ARRAY\n12288 04096 FRAMES\n";
-      words = [];
-    }
-    ∷ record {
-      units = (segment (65 ∷ []) []
-          (at home.Frame (of 0 (named kind.Single (78 ∷ []) 1)) ∷ named kind.Single (88 ∷ []) 1 ∷ [])
-          (procedure (80 ∷ []) ∷ []) ∷ []);
-      text = codes
-          "00000 00001 A.X WORD\n+00000 00001 A.P.N WORD\n12288 04096 FRAMES\n";
-      words = [];
-    }
-    ∷ record {
-      units = (segment (65 ∷ []) []
-          (at home.Frame (of 0 (named kind.Single (78 ∷ []) 1))
-          ∷ at home.Frame (of 1 (named kind.Single (77 ∷ []) 1)) ∷ [])
-          (procedure (80 ∷ []) ∷ procedure (81 ∷ []) ∷ []) ∷ []);
-      text = codes "+00000 00001 A.P.N WORD\n+00000 00001 A.Q.M WORD\n12288 04096 FRAMES\n";
-      words = [];
-    }
-    ∷ record {
-      units = (segment (65 ∷ []) []
-          (at home.Frame (of 0 (named kind.Single (78 ∷ []) 1))
-          ∷ of 0 (at (home.Over 0 0) (named kind.Single (77 ∷ []) 1))
-          ∷ at home.Frame (of 0 (named kind.Single (75 ∷ []) 1)) ∷ []) (procedure (80 ∷ []) ∷ []) ∷ []);
-      text = codes "+00000 00001 A.P.N WORD\n+00000 00001 A.P.M WORD\n+00001 00001 A.P.K WORD\n12288 04096 FRAMES\n";
-      words = [];
-    }
-    ∷ record {
-      units = (segment (65 ∷ []) []
-          (at home.Frame (of 0 (named kind.Array (65 ∷ []) 4))
-          ∷ of 0 (at (home.Over 0 2) (named kind.Array (66 ∷ []) 5))
-          ∷ at home.Frame (of 0 (named kind.Single (75 ∷ []) 1)) ∷ []) (procedure (80 ∷ []) ∷ []) ∷ []);
-      text = codes "+00000 00004 A.P.A ARRAY\n+00002 00005 A.P.B ARRAY\n+00007 00001 A.P.K WORD\n12288 04096 FRAMES\n";
-      words = [];
-    }
-    ∷ record {
-      units = (segment (65 ∷ []) []
-          (named kind.Single (88 ∷ []) 1 ∷ at home.Frame (of 0 (named kind.Single (78 ∷ []) 1))
-          ∷ of 0 (at (home.Over 0 0) (named kind.Single (76 ∷ []) 1)) ∷ []) (procedure (80 ∷ []) ∷ [])
-          ∷ []);
-      text = codes
-          "00000 00001 A.X WORD\n00000 00001 A.P.L WORD\n+00000 00001 A.P.N WORD\n12288 04096 FRAMES\n";
-      words = [];
-    }
-    ∷ record {
-      units = (segment (65 ∷ []) []
-          (at home.Frame (of 0 (named kind.Single (78 ∷ []) 1)) ∷ at home.Frame (of 0 (loop 5))
-          ∷ at home.Frame (of 0 (named kind.Single (75 ∷ []) 1)) ∷ []) (procedure (80 ∷ []) ∷ []) ∷ []);
-      text = codes "+00000 00001 A.P.N WORD\n+00001 00004 A.P.FOR@5 LOOP\n+00005 00001 A.P.K WORD\n12288 04096 FRAMES\n";
-      words = [];
-    }
-    ∷ record {
-      units = (segment (65 ∷ []) []
-          (at home.Frame (of 0 (named kind.Single (78 ∷ []) 1))
-          ∷ at home.Frame (of 1 (named kind.Array (66 ∷ []) 3))
-          ∷ at home.Frame (of 0 (named kind.Single (75 ∷ []) 1))
-          ∷ at home.Frame (of 1 (named kind.Single (77 ∷ []) 1)) ∷ [])
-          (procedure (80 ∷ []) ∷ procedure (81 ∷ []) ∷ []) ∷ []);
-      text = codes "+00000 00001 A.P.N WORD\n+00000 00003 A.Q.B ARRAY\n+00001 00001 A.P.K WORD\n+00003 00001 A.Q.M WORD\n12288 04096 FRAMES\n";
-      words = [];
-    }
-    ∷ record {
-      units = (segment (65 ∷ []) []
-          (at home.Frame (of 0 (named kind.Single (78 ∷ []) 1))
-          ∷ at home.Frame (of 0 (named kind.Single (77 ∷ []) 1)) ∷ []) (procedure (80 ∷ []) ∷ [])
-          ∷ segment (66 ∷ []) [] (named kind.Single (88 ∷ []) 1
-          ∷ at home.Frame (of 0 (named kind.Single (75 ∷ []) 1)) ∷ []) (procedure (81 ∷ []) ∷ []) ∷ []);
-      text = codes "00000 00001 B.X WORD\n+00000 00001 A.P.N WORD\n+00001 00001 A.P.M WORD\n+00000 00001 B.Q.K WORD\n12288 04096 FRAMES\n";
-      words = [];
-    }
+    placed (segment (codes "A") [] (local 0 (single (codes "N")) ∷ []) (procedure (codes "P") ∷ []) ∷ []) (codes "+00000 00001 A.P.N WORD\n")
+    ∷ placed (segment (codes "A") [] (local 0 (single (codes "N")) ∷ local 0 (array (codes "A") 100) ∷ []) (procedure (codes "G") ∷ []) ∷ [])
+    (codes "+00000 00001 A.G.N WORD\n+00001 00100 A.G.A ARRAY\n")
+    ∷ placed (segment (codes "A") [] (local 0 (single (codes "N")) ∷ single (codes "X") ∷ []) (procedure (codes "P") ∷ []) ∷ [])
+    (codes "00000 00001 A.X WORD\n+00000 00001 A.P.N WORD\n")
+    ∷ placed (segment (codes "A") [] (local 0 (single (codes "N")) ∷ local 1 (single (codes "M")) ∷ []) (procedure (codes "P") ∷ procedure (codes "Q") ∷ []) ∷ [])
+    (codes "+00000 00001 A.P.N WORD\n+00000 00001 A.Q.M WORD\n")
+    ∷ placed (segment (codes "A") [] (local 0 (single (codes "N")) ∷ of 0 (over 0 0 (single (codes "M"))) ∷ local 0 (single (codes "K")) ∷ []) (procedure (codes "P") ∷ []) ∷ [])
+    (codes "+00000 00001 A.P.N WORD\n+00000 00001 A.P.M WORD\n+00001 00001 A.P.K WORD\n")
+    ∷ placed (segment (codes "A") [] (local 0 (array (codes "A") 4) ∷ of 0 (over 0 2 (array (codes "B") 5)) ∷ local 0 (single (codes "K")) ∷ []) (procedure (codes "P") ∷ []) ∷ [])
+    (codes "+00000 00004 A.P.A ARRAY\n+00002 00005 A.P.B ARRAY\n+00007 00001 A.P.K WORD\n")
+    ∷ placed (segment (codes "A") [] (single (codes "X") ∷ local 0 (single (codes "N")) ∷ of 0 (over 0 0 (single (codes "L"))) ∷ []) (procedure (codes "P") ∷ []) ∷ [])
+    (codes "00000 00001 A.X WORD\n00000 00001 A.P.L WORD\n+00000 00001 A.P.N WORD\n")
+    ∷ placed (segment (codes "A") [] (local 0 (single (codes "N")) ∷ local 0 (loop 5) ∷ local 0 (single (codes "K")) ∷ []) (procedure (codes "P") ∷ []) ∷ [])
+    (codes "+00000 00001 A.P.N WORD\n+00001 00004 A.P.FOR@5 LOOP\n+00005 00001 A.P.K WORD\n")
+    ∷ placed (segment (codes "A") [] (local 0 (single (codes "N")) ∷ local 1 (array (codes "B") 3) ∷ local 0 (single (codes "K")) ∷ local 1 (single (codes "M")) ∷ []) (procedure (codes "P") ∷ procedure (codes "Q") ∷ []) ∷ [])
+    (codes "+00000 00001 A.P.N WORD\n+00000 00003 A.Q.B ARRAY\n+00001 00001 A.P.K WORD\n+00003 00001 A.Q.M WORD\n")
+    ∷ placed (segment (codes "A") [] (local 0 (single (codes "N")) ∷ local 0 (single (codes "M")) ∷ []) (procedure (codes "P") ∷ [])
+    ∷ segment (codes "B") [] (single (codes "X") ∷ local 0 (single (codes "K")) ∷ []) (procedure (codes "Q") ∷ []) ∷ [])
+    (codes "00000 00001 B.X WORD\n+00000 00001 A.P.N WORD\n+00001 00001 A.P.M WORD\n+00000 00001 B.Q.K WORD\n")
     ∷ []
 
 abbrev pub absolutes : List Example
 absolutes =
-    record {
-      units = (segment (65 ∷ []) [] (at (home.Absolute 3) (named kind.Single (90 ∷ []) 1)
-          ∷ named kind.Array (66 ∷ []) 5 ∷ []) [] ∷ []);
-      text = codes "00003 00001 A.Z WORD\n00004 00005 A.B ARRAY\n12288 04096 FRAMES\n";
-      words = [];
-    }
-    ∷ record {
-      units = (segment (65 ∷ []) []
-          (at (home.Absolute 0) (named kind.Single (90 ∷ []) 1) ∷ named kind.Single (88 ∷ []) 1 ∷ []) [] ∷ []);
-      text = codes "00000 00001 A.Z WORD\n00001 00001 A.X WORD\n12288 04096 FRAMES\n";
-      words = [];
-    }
-    ∷ record {
-      units = (segment (65 ∷ []) []
-          (at (home.Absolute 2) (named kind.Single (90 ∷ []) 1) ∷ named kind.Single (88 ∷ []) 1
-          ∷ named kind.Array (89 ∷ []) 2 ∷ []) [] ∷ []);
-      text = codes "00000 00001 A.X WORD\n00002 00001 A.Z WORD\n00003 00002 A.Y ARRAY\n12288 04096 FRAMES\n";
-      words = [];
-    }
-    ∷ record {
-      units = (segment (65 ∷ []) []
-          (at (home.Absolute 6) (named kind.Array (90 ∷ []) 3)
-          ∷ at (home.Absolute 5) (named kind.Array (86 ∷ []) 3) ∷ named kind.Array (88 ∷ []) 5
-          ∷ named kind.Single (89 ∷ []) 1 ∷ []) [] ∷ []);
-      text = codes "00000 00005 A.X ARRAY\n00005 00003 A.V ARRAY\n00006 00003 A.Z ARRAY\n00009 00001 A.Y WORD\n12288 04096 FRAMES\n";
-      words = [];
-    }
-    ∷ record {
-      units = (segment (65 ∷ []) []
-          (at (home.Absolute 4) (named kind.Single (90 ∷ []) 1) ∷ named kind.Array (65 ∷ []) 4
-          ∷ named kind.Single (66 ∷ []) 1 ∷ []) [] ∷ []);
-      text = codes "00000 00004 A.A ARRAY\n00004 00001 A.Z WORD\n00005 00001 A.B WORD\n12288 04096 FRAMES\n";
-      words = [];
-    }
-    ∷ record {
-      units = (segment (65 ∷ []) []
-          (at (home.Absolute 1) (named kind.Single (90 ∷ []) 1) ∷ named kind.Array (65 ∷ []) 2
-          ∷ named kind.Single (88 ∷ []) 1 ∷ []) [] ∷ []);
-      text = codes "00001 00001 A.Z WORD\n00002 00002 A.A ARRAY\n00004 00001 A.X WORD\n12288 04096 FRAMES\n";
-      words = [];
-    }
-    ∷ record {
-      units = (segment (65 ∷ []) []
-          (at (home.Absolute 10) (named kind.Array (90 ∷ []) 4)
-          ∷ at (home.Over 0 1) (named kind.Single (89 ∷ []) 1) ∷ named kind.Single (88 ∷ []) 1 ∷ []) []
-          ∷ []);
-      text = codes
-          "00000 00001 A.X WORD\n00010 00004 A.Z ARRAY\n00011 00001 A.Y WORD\n12288 04096 FRAMES\n";
-      words = [];
-    }
-    ∷ record {
-      units = (segment (65 ∷ []) [] (named kind.Array (88 ∷ []) 5 ∷ []) []
-          ∷ segment (66 ∷ []) [] (at (home.Absolute 2) (named kind.Single (90 ∷ []) 1) ∷ []) [] ∷ []);
-      text = codes "00002 00001 B.Z WORD\n00003 00005 A.X ARRAY\n12288 04096 FRAMES\n";
-      words = [];
-    }
-    ∷ record {
-      units = (segment (65 ∷ []) []
-          (at (home.Absolute 7) (named kind.Single (89 ∷ []) 1) ∷ named kind.Single (88 ∷ []) 1 ∷ []) []
-          ∷ segment (66 ∷ []) [] (at (home.Absolute 7) (named kind.Single (90 ∷ []) 1) ∷ []) [] ∷ []);
-      text = codes "00000 00001 A.X WORD\n00007 00001 A.Y WORD\n00007 00001 B.Z WORD\n12288 04096 FRAMES\n";
-      words = [];
-    }
-    ∷ record {
-      units = (segment (65 ∷ []) []
-          (at (home.Absolute 1) (named kind.Single (90 ∷ []) 1)
-          ∷ at (home.Absolute 3) (named kind.Single (86 ∷ []) 1) ∷ named kind.Single (88 ∷ []) 1
-          ∷ named kind.Single (89 ∷ []) 1 ∷ named kind.Array (66 ∷ []) 2 ∷ []) [] ∷ []);
-      text = codes "00000 00001 A.X WORD\n00001 00001 A.Z WORD\n00002 00001 A.Y WORD\n00003 00001 A.V WORD\n00004 00002 A.B ARRAY\n12288 04096 FRAMES\n";
-      words = [];
-    }
+    placed (alone (absolute 3 (single (codes "Z")) ∷ array (codes "B") 5 ∷ [])) (codes "00003 00001 A.Z WORD\n00004 00005 A.B ARRAY\n")
+    ∷ placed (alone (absolute 0 (single (codes "Z")) ∷ single (codes "X") ∷ [])) (codes "00000 00001 A.Z WORD\n00001 00001 A.X WORD\n")
+    ∷ placed (alone (absolute 2 (single (codes "Z")) ∷ single (codes "X") ∷ array (codes "Y") 2 ∷ []))
+    (codes "00000 00001 A.X WORD\n00002 00001 A.Z WORD\n00003 00002 A.Y ARRAY\n")
+    ∷ placed (alone (absolute 6 (array (codes "Z") 3) ∷ absolute 5 (array (codes "V") 3) ∷ array (codes "X") 5 ∷ single (codes "Y") ∷ []))
+    (codes "00000 00005 A.X ARRAY\n00005 00003 A.V ARRAY\n00006 00003 A.Z ARRAY\n00009 00001 A.Y WORD\n")
+    ∷ placed (alone (absolute 4 (single (codes "Z")) ∷ array (codes "A") 4 ∷ single (codes "B") ∷ []))
+    (codes "00000 00004 A.A ARRAY\n00004 00001 A.Z WORD\n00005 00001 A.B WORD\n")
+    ∷ placed (alone (absolute 1 (single (codes "Z")) ∷ array (codes "A") 2 ∷ single (codes "X") ∷ []))
+    (codes "00001 00001 A.Z WORD\n00002 00002 A.A ARRAY\n00004 00001 A.X WORD\n")
+    ∷ placed (alone (absolute 10 (array (codes "Z") 4) ∷ over 0 1 (single (codes "Y")) ∷ single (codes "X") ∷ []))
+    (codes "00000 00001 A.X WORD\n00010 00004 A.Z ARRAY\n00011 00001 A.Y WORD\n")
+    ∷ placed (segment (codes "A") [] (array (codes "X") 5 ∷ []) [] ∷ segment (codes "B") [] (absolute 2 (single (codes "Z")) ∷ []) [] ∷ [])
+    (codes "00002 00001 B.Z WORD\n00003 00005 A.X ARRAY\n")
+    ∷ placed (segment (codes "A") [] (absolute 7 (single (codes "Y")) ∷ single (codes "X") ∷ []) []
+    ∷ segment (codes "B") [] (absolute 7 (single (codes "Z")) ∷ []) [] ∷ [])
+    (codes "00000 00001 A.X WORD\n00007 00001 A.Y WORD\n00007 00001 B.Z WORD\n")
+    ∷ placed (alone (absolute 1 (single (codes "Z")) ∷ absolute 3 (single (codes "V")) ∷ single (codes "X") ∷ single (codes "Y") ∷ array (codes "B") 2 ∷ []))
+    (codes "00000 00001 A.X WORD\n00001 00001 A.Z WORD\n00002 00001 A.Y WORD\n00003 00001 A.V WORD\n00004 00002 A.B ARRAY\n")
     ∷ []
 
 abbrev pub commons : List Example
 commons =
-    record {
-      units = (segment (65 ∷ []) (word (84 ∷ []) ∷ [])
-          (at (home.Common 0) (named kind.Single (84 ∷ []) 1) ∷ []) [] ∷ []);
-      text = codes "00000 00001 COMMON.T WORD\n12288 04096 FRAMES\n";
-      words = [];
-    }
-    ∷ record {
-      units = (segment (65 ∷ []) (word (84 ∷ []) ∷ [])
-          (at (home.Common 0) (named kind.Single (84 ∷ []) 1) ∷ []) []
-          ∷ segment (66 ∷ []) (word (84 ∷ []) ∷ [])
-          (at (home.Common 0) (named kind.Single (84 ∷ []) 1) ∷ named kind.Single (88 ∷ []) 1 ∷ []) [] ∷ []);
-      text = codes "00000 00001 COMMON.T WORD\n00001 00001 B.X WORD\n12288 04096 FRAMES\n";
-      words = [];
-    }
-    ∷ record {
-      units = (segment (65 ∷ []) [] (named kind.Single (88 ∷ []) 1 ∷ []) []
-          ∷ segment (66 ∷ []) (word (84 ∷ []) ∷ []) (at (home.Common 0) (named kind.Single (84 ∷ []) 1) ∷ [])
-          [] ∷ []);
-      text = codes "00000 00001 A.X WORD\n00001 00001 COMMON.T WORD\n12288 04096 FRAMES\n";
-      words = [];
-    }
-    ∷ record {
-      units = (segment (65 ∷ []) (word (84 ∷ []) ∷ [])
-          (at (home.Common 0) (named kind.Array (84 ∷ []) 2) ∷ named kind.Single (88 ∷ []) 1 ∷ []) []
-          ∷ segment (66 ∷ []) (word (84 ∷ []) ∷ [])
-          (at (home.Common 0) (named kind.Array (84 ∷ []) 2)
-          ∷ at (home.Over 0 1) (named kind.Array (89 ∷ []) 4) ∷ []) [] ∷ []);
-      text = codes "00000 00002 COMMON.T ARRAY\n00001 00004 B.Y ARRAY\n00005 00001 A.X WORD\n12288 04096 FRAMES\n";
-      words = [];
-    }
-    ∷ record {
-      units = (segment (65 ∷ []) (word (84 ∷ []) ∷ overlay (86 ∷ []) 0 2 ∷ [])
-          (at (home.Common 0) (named kind.Array (84 ∷ []) 4)
-          ∷ at (home.Common 1) (named kind.Single (86 ∷ []) 1) ∷ named kind.Single (88 ∷ []) 1 ∷ []) []
-          ∷ []);
-      text = codes "00000 00004 COMMON.T ARRAY\n00002 00001 COMMON.V WORD\n00004 00001 A.X WORD\n12288 04096 FRAMES\n";
-      words = [];
-    }
-    ∷ record {
-      units = (segment (65 ∷ []) (word (84 ∷ []) ∷ word (86 ∷ []) ∷ [])
-          (at (home.Common 0) (named kind.Single (84 ∷ []) 1)
-          ∷ at (home.Common 1) (named kind.Single (86 ∷ []) 1) ∷ []) []
-          ∷ segment (66 ∷ []) (word (86 ∷ []) ∷ word (84 ∷ []) ∷ [])
-          (at (home.Common 0) (named kind.Single (86 ∷ []) 1)
-          ∷ at (home.Common 1) (named kind.Single (84 ∷ []) 1) ∷ named kind.Single (88 ∷ []) 1 ∷ []) []
-          ∷ []);
-      text = codes "00000 00001 COMMON.T WORD\n00001 00001 COMMON.V WORD\n00002 00001 B.X WORD\n12288 04096 FRAMES\n";
-      words = [];
-    }
-    ∷ record {
-      units = (segment (65 ∷ []) (word (84 ∷ []) ∷ [])
-          (at (home.Common 0) (named kind.Single (84 ∷ []) 1)
-          ∷ at (home.Absolute 0) (named kind.Single (90 ∷ []) 1) ∷ []) [] ∷ []);
-      text = codes "00000 00001 A.Z WORD\n00001 00001 COMMON.T WORD\n12288 04096 FRAMES\n";
-      words = [];
-    }
-    ∷ record {
-      units = (segment (65 ∷ []) (word (84 ∷ []) ∷ [])
-          (at (home.Common 0) (named kind.Single (84 ∷ []) 1) ∷ named kind.Single (88 ∷ []) 1 ∷ []) []
-          ∷ segment (66 ∷ []) [] (named kind.Single (89 ∷ []) 1 ∷ []) []
-          ∷ segment (67 ∷ []) (word (84 ∷ []) ∷ [])
-          (at (home.Common 0) (named kind.Single (84 ∷ []) 1) ∷ named kind.Single (90 ∷ []) 1 ∷ []) [] ∷ []);
-      text = codes "00000 00001 COMMON.T WORD\n00001 00001 A.X WORD\n00002 00001 B.Y WORD\n00003 00001 C.Z WORD\n12288 04096 FRAMES\n";
-      words = [];
-    }
-    ∷ record {
-      units = (segment (65 ∷ []) (word (84 ∷ []) ∷ [])
-          (at (home.Common 0) (named kind.Single (84 ∷ []) 1)
-          ∷ at (home.Over 0 0) (named kind.Single (88 ∷ []) 1) ∷ named kind.Single (89 ∷ []) 1 ∷ []) []
-          ∷ []);
-      text = codes
-          "00000 00001 COMMON.T WORD\n00000 00001 A.X WORD\n00001 00001 A.Y WORD\n12288 04096 FRAMES\n";
-      words = [];
-    }
-    ∷ record {
-      units = (segment (70 ∷ 73 ∷ 76 ∷ 84 ∷ 69 ∷ 82 ∷ []) (word (76 ∷ 69 ∷ 86 ∷ 69 ∷ 76 ∷ []) ∷ [])
-          (at (home.Common 0) (named kind.Single (76 ∷ 69 ∷ 86 ∷ 69 ∷ 76 ∷ []) 1)
-          ∷ of 0 (named kind.Single (88 ∷ []) 1) ∷ []) (procedure (65 ∷ 76 ∷ 65 ∷ 82 ∷ 77 ∷ []) ∷ [])
-          ∷ segment (67 ∷ 79 ∷ 78 ∷ 84 ∷ 82 ∷ 79 ∷ 76 ∷ []) (word (76 ∷ 69 ∷ 86 ∷ 69 ∷ 76 ∷ []) ∷ [])
-          (at (home.Common 0) (named kind.Single (76 ∷ 69 ∷ 86 ∷ 69 ∷ 76 ∷ []) 1)
-          ∷ named kind.Single (67 ∷ []) 1 ∷ named kind.Single (83 ∷ 84 ∷ 65 ∷ 84 ∷ 69 ∷ []) 1
-          ∷ named kind.Single (78 ∷ []) 1 ∷ named kind.Table (76 ∷ 79 ∷ 71 ∷ []) 4 ∷ []) [] ∷ []);
-      text = codes "00000 00001 COMMON.LEVEL WORD\n00001 00001 FILTER.ALARM.X WORD\n00002 00001 CONTROL.C WORD\n00003 00001 CONTROL.STATE WORD\n00004 00001 CONTROL.N WORD\n00005 00004 CONTROL.LOG TABLE\n12288 04096 FRAMES\n";
-      words = [];
-    }
+    placed (segment (codes "A") (word (codes "T") ∷ []) (common 0 (single (codes "T")) ∷ []) [] ∷ []) (codes "00000 00001 COMMON.T WORD\n")
+    ∷ placed (segment (codes "A") (word (codes "T") ∷ []) (common 0 (single (codes "T")) ∷ []) []
+    ∷ segment (codes "B") (word (codes "T") ∷ []) (common 0 (single (codes "T")) ∷ single (codes "X") ∷ []) [] ∷ [])
+    (codes "00000 00001 COMMON.T WORD\n00001 00001 B.X WORD\n")
+    ∷ placed (segment (codes "A") [] (single (codes "X") ∷ []) []
+    ∷ segment (codes "B") (word (codes "T") ∷ []) (common 0 (single (codes "T")) ∷ []) [] ∷ [])
+    (codes "00000 00001 A.X WORD\n00001 00001 COMMON.T WORD\n")
+    ∷ placed (segment (codes "A") (word (codes "T") ∷ []) (common 0 (array (codes "T") 2) ∷ single (codes "X") ∷ []) []
+    ∷ segment (codes "B") (word (codes "T") ∷ []) (common 0 (array (codes "T") 2) ∷ over 0 1 (array (codes "Y") 4) ∷ []) [] ∷ [])
+    (codes "00000 00002 COMMON.T ARRAY\n00001 00004 B.Y ARRAY\n00005 00001 A.X WORD\n")
+    ∷ placed (segment (codes "A") (word (codes "T") ∷ overlay (codes "V") 0 2 ∷ []) (common 0 (array (codes "T") 4) ∷ common 1 (single (codes "V")) ∷ single (codes "X") ∷ []) [] ∷ [])
+    (codes "00000 00004 COMMON.T ARRAY\n00002 00001 COMMON.V WORD\n00004 00001 A.X WORD\n")
+    ∷ placed (segment (codes "A") (word (codes "T") ∷ word (codes "V") ∷ []) (common 0 (single (codes "T")) ∷ common 1 (single (codes "V")) ∷ []) []
+    ∷ segment (codes "B") (word (codes "V") ∷ word (codes "T") ∷ []) (common 0 (single (codes "V")) ∷ common 1 (single (codes "T")) ∷ single (codes "X") ∷ []) [] ∷ [])
+    (codes "00000 00001 COMMON.T WORD\n00001 00001 COMMON.V WORD\n00002 00001 B.X WORD\n")
+    ∷ placed (segment (codes "A") (word (codes "T") ∷ []) (common 0 (single (codes "T")) ∷ absolute 0 (single (codes "Z")) ∷ []) [] ∷ [])
+    (codes "00000 00001 A.Z WORD\n00001 00001 COMMON.T WORD\n")
+    ∷ placed (segment (codes "A") (word (codes "T") ∷ []) (common 0 (single (codes "T")) ∷ single (codes "X") ∷ []) []
+    ∷ segment (codes "B") [] (single (codes "Y") ∷ []) []
+    ∷ segment (codes "C") (word (codes "T") ∷ []) (common 0 (single (codes "T")) ∷ single (codes "Z") ∷ []) [] ∷ [])
+    (codes "00000 00001 COMMON.T WORD\n00001 00001 A.X WORD\n00002 00001 B.Y WORD\n00003 00001 C.Z WORD\n")
+    ∷ placed (segment (codes "A") (word (codes "T") ∷ []) (common 0 (single (codes "T")) ∷ over 0 0 (single (codes "X")) ∷ single (codes "Y") ∷ []) [] ∷ [])
+    (codes "00000 00001 COMMON.T WORD\n00000 00001 A.X WORD\n00001 00001 A.Y WORD\n")
+    ∷ placed (segment (codes "FILTER") (word (codes "LEVEL") ∷ []) (common 0 (single (codes "LEVEL")) ∷ of 0 (single (codes "X")) ∷ []) (procedure (codes "ALARM") ∷ [])
+    ∷ segment (codes "CONTROL") (word (codes "LEVEL") ∷ []) (common 0 (single (codes "LEVEL")) ∷ single (codes "C") ∷ single (codes "STATE") ∷ single (codes "N") ∷ table (codes "LOG") 4 ∷ []) [] ∷ [])
+    (codes "00000 00001 COMMON.LEVEL WORD\n00001 00001 FILTER.ALARM.X WORD\n00002 00001 CONTROL.C WORD\n00003 00001 CONTROL.STATE WORD\n00004 00001 CONTROL.N WORD\n00005 00004 CONTROL.LOG TABLE\n")
     ∷ []

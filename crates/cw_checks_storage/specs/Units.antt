@@ -1,5 +1,5 @@
 -- Short words for units of which only the storage matters.
-use Rattle.std.specs.Prelude.{ℕ, ◌+◌, List, [], ◌∷◌, length, false, true, Option, Some, None}
+use Rattle.std.specs.Prelude.{ℕ, ◌+◌, List, [], ◌∷◌, ◌++◌, length, codes, false, true, Option, Some, None}
 use Rattle.cw_unit.specs.declared.unit.Unit.{Unit as SourceUnit}
 use Rattle.cw_unit.specs.declared.unit.Item.{Item}
 use Rattle.cw_unit.specs.declared.unit.ItemKind.{ItemKind}
@@ -29,6 +29,15 @@ item name line k n presets = record { name = name; owner = None; line = line; ki
 abbrev pub named : ItemKind → (name : List ℕ) → (words : ℕ) → Item
 named k name n = item (Some name) 0 k n []
 
+abbrev pub single : (name : List ℕ) → Item
+single name = named kind.Single name 1
+
+abbrev pub array : (name : List ℕ) → (words : ℕ) → Item
+array name n = named kind.Array name n
+
+abbrev pub table : (name : List ℕ) → (words : ℕ) → Item
+table name n = named kind.Table name n
+
 abbrev pub characters : (place : ℕ) → List ℕ → List (ℕ × ℕ)
 characters n [] = []
 characters n (c ∷ cs) = (n, c) ∷ characters (n + 1) cs
@@ -43,8 +52,21 @@ loop line = item None line kind.Loop 4 []
 abbrev pub at : Home → Item → Item
 at h i = record i { home = h }
 
+abbrev pub over : (base offset : ℕ) → Item → Item
+over base offset i = at (home.Over base offset) i
+
+abbrev pub absolute : (address : ℕ) → Item → Item
+absolute address i = at (home.Absolute address) i
+
+abbrev pub common : (descriptor : ℕ) → Item → Item
+common descriptor i = at (home.Common descriptor) i
+
 abbrev pub of : (procedure : ℕ) → Item → Item
 of q i = record i { owner = Some q }
+
+-- a local of a procedure, in its frame
+abbrev pub local : (procedure : ℕ) → Item → Item
+local q i = at home.Frame (of q i)
 
 abbrev pub preset : List (ℕ × ℕ) → Item → Item
 preset ps i = record i { presets = ps }
@@ -75,6 +97,10 @@ segment name descs items procs =
       body = roll-Stmt (statement.Seq []);
     }
 
+-- one segment of items alone
+abbrev pub alone : List Item → List SourceUnit
+alone items = segment (codes "A") [] items [] ∷ []
+
 -- ---- examples
 
 -- units, the text of their map, and the words that are filled
@@ -82,6 +108,14 @@ pub record Example : Type 0 where
   pub units : List SourceUnit
   pub text : List ℕ
   pub words : List (ℕ × ℕ)
+
+-- the text of a map, with the frames behind what is told of it
+abbrev pub filled : List SourceUnit → (told : List ℕ) → (words : List (ℕ × ℕ)) → Example
+filled units told words = record { units = units; text = told ++ codes "12288 04096 FRAMES\n"; words = words }
+
+-- one in which no words are filled
+abbrev pub placed : List SourceUnit → (told : List ℕ) → Example
+placed units told = filled units told []
 
 abbrev pub usual : Limits
 usual = record { area = 16384; frames = 4096; depth = 256 }

@@ -10,7 +10,7 @@ use Rattle.cw_comm.specs.Clashes.{Names, Defines, IsSecondDefinition, NoneBefore
 use Rattle.cw_comm.specs.Tables.{defined_in, TellsDefiners, TellsOwn, IsFirstTold}
 use Rattle.cw_comm.proofs.Entries.{no_face, Standing}
 use Rattle.cw_comm.proofs.Naming.{read_name}
-use Rattle.cw_comm.proofs.Firsts.{TellsNames, name_is, one_more, first_here}
+use Rattle.cw_comm.proofs.Firsts.{name_is, one_more, first_here}
 
 -- ---- the first segment that defines a name
 
@@ -120,9 +120,6 @@ module _ (faces : List Face) (names : List Name) (g : ℕ) (old new : List (Opti
   next_past k i lk e = past-if (DefinesIt (name_at names k) face) g i (get_or old k None) (past k i lk) (sym (told k face lk there) ∙ e)
 
 -- ---- a descriptor
-
-pub defined_names : (faces : List Face) → TellsNames faces (IsSecondDefinition faces)
-defined_names faces j d i n p = p.names
 
 module _ {faces : List Face} {names : List Name} {definers here : List (Option ℕ)} (td : TellsDefiners names faces definers) (g : ℕ) (th : TellsOwn names faces g here) (d k : ℕ) (it : Standing faces names g d k) where
   first-is : get_or definers k None ≡ definer_from 0 it.name faces

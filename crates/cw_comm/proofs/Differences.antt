@@ -9,7 +9,7 @@ use Rattle.cw_unit.specs.declared.descriptor.Desc.{Desc}
 use Rattle.cw_comm.specs.declared.face.Face.{Face}
 use Rattle.cw_comm.specs.Agreement.{Name, listing_of, Listing, as_listed}
 use Rattle.cw_comm.specs.Clashes.{Names, Lists, IsDifference, IsFirst, NoneBefore, IsFirstLister}
-use Rattle.cw_comm.proofs.Firsts.{TellsNames, name_is, told_is, one_more, first_here}
+use Rattle.cw_comm.proofs.Firsts.{name_is, told_is, one_more, first_here}
 
 some : {A : Type 0} (x y : A) → Some x ≡ Some y → x ≡ y
 some x y e = cc
@@ -73,8 +73,5 @@ found faces j d first name here told at l lt own ne none =
     first_here (IsDifference faces) j d first name
     (record { names = at; before = lt; here = here; there = told; lists_here = own; lists_there = l.lists; differ = ne })
     (λ i n p. l.least i p.there (subst (λ m. Lists faces i m p.there) (name_is faces j d n name p.names at) p.lists_there)) none
-
-pub named : (faces : List Face) → TellsNames faces (IsDifference faces)
-named faces j d i n p = p.names
 
 pub ruleset differences = (next_new, next_seen, next_same, found)

@@ -47,6 +47,17 @@ no_desc = record { name = []; library = false; over = None; body = bodies.Label 
 slice_get_behind : (xs : List ℕ) (i : ℕ) → slice_get xs i ≡ None → length xs ≤ i
 slice_get_behind xs i none = elim (cases_lt i (length xs)) [ inl lt ↦ absurd (none-some (get_or xs i 0) (sym none ∙ slice_get-get_or xs i 0 lt)) | inr le ↦ le ]
 
+-- ---- what is read of a segment
+
+module _ (faces : List Face) (g : ℕ) (ds : List ℕ) (face : Face) (e : ds ≡ (get_or faces g face).defined) (f : Face) (is : slice_get faces g ≡ Some f) where
+  pub read_defined : ds ≡ f.defined
+  read_defined = e ∙ ap (λ (x : Face). x.defined) (get_or_from_slice_get faces g f face is)
+
+  pub read_definition : (n : ℕ) → n < length ds → (n < length f.defined) × (get_or f.defined n 0 ≡ get_or ds n 0)
+  read_definition n lt = (omega (arith, lt, ap length read_defined), ap (λ (xs : List ℕ). get_or xs n 0) (sym read_defined))
+
+-- ---- names by their numbers
+
 -- a number stands for a name
 pub record IsNumbered (names : List Name) (k : ℕ) (name : Name) : Type 0 where
   pub within : k < length names
@@ -62,13 +73,18 @@ module _ (faces : List Face) (names : List Name) (numbers : List (List ℕ)) (nu
   pub once : IsOnce names
   once = subst IsOnce (sym num.names_are) (listed_once faces)
 
+  numbers_count : length numbers ≡ length faces
+  numbers_count = ap length num.numbers_are ∙ length-map faces (λ x. places_in names x.descs)
+
+  pub read_row : (g : ℕ) (ns : List ℕ) → g < length faces → ns ≡ get_or numbers g [] → ns ≡ get_or numbers g ns
+  read_row g ns lt e = let within : g < length numbers = omega (arith, lt, numbers_count) in e ∙ get_or_default numbers g [] ns within
+
   pub place_there : (g n : ℕ) (f : Face) (d : Desc) → slice_get faces g ≡ Some f → slice_get f.descs n ≡ Some d → HasPlace names d.name
   place_there g n f d is at = subst (λ ns. HasPlace ns d.name) (sym num.names_are) (listed faces g n f d is at)
 
   pub read_numbers : (g : ℕ) (f : Face) (ns : List ℕ) → slice_get faces g ≡ Some f → ns ≡ get_or numbers g ns → ns ≡ places_in names f.descs
   read_numbers g f ns is e =
-      let len : length numbers ≡ length faces = ap length num.numbers_are ∙ length-map faces (λ x. places_in names x.descs) in
-      get_or_read numbers g ns (omega (arith, len, slice_get_within faces g f is)) e [] ∙ ap (λ (xs : List (List ℕ)). get_or xs g []) num.numbers_are ∙ numbers_at names faces g f is
+      get_or_read numbers g ns (omega (arith, numbers_count, slice_get_within faces g f is)) e [] ∙ ap (λ (xs : List (List ℕ)). get_or xs g []) num.numbers_are ∙ numbers_at names faces g f is
 
   pub count_is : (g : ℕ) (f : Face) (ns : List ℕ) → slice_get faces g ≡ Some f → ns ≡ get_or numbers g ns → length ns ≡ length f.descs
   count_is g f ns is e = ap length (read_numbers g f ns is e) ∙ length-map f.descs (λ d. place_of names d.name)
@@ -79,8 +95,7 @@ module _ (faces : List Face) (names : List Name) (numbers : List (List ℕ)) (nu
 
   numbered : (g n : ℕ) (f : Face) (d : Desc) (k : ℕ) → slice_get faces g ≡ Some f → slice_get f.descs n ≡ Some d → k ≡ get_or (get_or numbers g []) n 0 → IsNumbered names k d.name
   numbered g n f d k is at number =
-      let len : length numbers ≡ length faces = ap length num.numbers_are ∙ length-map faces (λ x. places_in names x.descs) in
-      let lt : g < length numbers = omega (arith, len, slice_get_within faces g f is) in
+      let lt : g < length numbers = omega (arith, numbers_count, slice_get_within faces g f is) in
       let has : HasPlace names d.name = place_there g n f d is at in
       let e = number ∙ number_is g n f d (get_or numbers g []) is at (get_or_default numbers g [] (get_or numbers g []) lt) in
       record { within = omega (arith, e, has.within); there = ap (name_at names) e ∙ has.there }

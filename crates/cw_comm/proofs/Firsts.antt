@@ -88,10 +88,10 @@ pub segment_past : (faces : List Face) (P : Kind) → TellsNames faces P → (g 
 segment_past faces P names g d face ds within e all none = next_segment faces P names g (get_or faces g face) (slice_get-get_or faces g face within) (subst (NoneBefore P g) (all ∙ ap length e) none)
 
 -- the segments of a clash, of few
-pub both_few : (faces : List Face) (P : Kind) → TellsNames faces P → ((j d i : ℕ) (n : Name) → P j d i n → i < j) → length faces ≤ 200 → (name : Name) (i j : ℕ) → IsFirstIn P name i j → (i < 255) × (j < 255)
+pub both_few : (faces : List Face) (P : Kind) → TellsNames faces P → ((j d i : ℕ) (n : Name) → P j d i n → i ≤ j) → length faces ≤ 200 → (name : Name) (i j : ℕ) → IsFirstIn P name i j → (i < 255) × (j < 255)
 both_few faces P names before few name i j found =
     let p = found.1.holds in
     let n = names j found.0 i name p in
     let within : j < length faces = slice_get_within faces j n.face n.segment_is in
-    let lt : i < j = before j found.0 i name p in
-    (omega (arith, within, lt, few), omega (arith, within, few))
+    let le : i ≤ j = before j found.0 i name p in
+    (omega (arith, within, le, few), omega (arith, within, few))

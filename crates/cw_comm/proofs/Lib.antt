@@ -7,4 +7,5 @@ pub mod Keyed
 pub mod Naming
 pub mod Listed
 pub mod Listings
+pub mod Searching
 pub mod Wanting

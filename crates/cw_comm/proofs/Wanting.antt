@@ -8,7 +8,7 @@ use Rattle.cw_comm.specs.Clashes.{Names, Lists, Defines, IsDifference, IsUndefin
 use Rattle.cw_comm.specs.Tables.{first_listing, TellsListings, TellsDefiners, TellsWanted, IsFirstTold}
 use Rattle.cw_comm.proofs.Definers.{first_definer, none_defines}
 use Rattle.cw_comm.proofs.Entries.{Standing}
-use Rattle.cw_comm.proofs.Firsts.{TellsNames, name_is, told_is, one_more, first_here}
+use Rattle.cw_comm.proofs.Firsts.{name_is, told_is, one_more, first_here}
 use Rattle.cw_comm.proofs.Listed.{placed, first_place, first_lister, none_listed}
 
 same-bool : (a b : Bool) → (a ≢ b → ⊥) → a ≡ b
@@ -19,9 +19,6 @@ same-bool false false h = refl
 
 abbrev wanted : Listing → Bool
 wanted l = wants_definition l.body
-
-pub undefined_names : (faces : List Face) → TellsNames faces (IsUndefined faces)
-undefined_names faces j d i n p = p.names
 
 module _ {faces : List Face} {names : List Name} {firsts : List (Option (ℕ × ℕ))} {definers : List (Option ℕ)} (tf : TellsListings names faces firsts) (td : TellsDefiners names faces definers) (alike : HasNone (IsDifference faces)) (g d k : ℕ) (it : Standing faces names g d k) where
   first-is : get_or firsts k None ≡ first_listing 0 it.name faces

@@ -1,4 +1,5 @@
 pub mod Agreement
 pub mod Clashes
 pub mod Numbered
+pub mod Searching
 pub mod Tables

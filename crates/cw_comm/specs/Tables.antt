@@ -1,11 +1,14 @@
 -- Tables by numbers of names: where names are listed, and which segments define them. Segments and descriptors count from 0.
-use Rattle.std.specs.Prelude.{◌≡◌, ◌↔◌, ◌<◌, ℕ, ◌+◌, Bool, if◌then◌else◌, List, [], ◌∷◌, length, slice_get, slice_index_or, Option, Some, None}
+use Rattle.std.specs.Prelude.{◌≡◌, ◌↔◌, ◌<◌, ◌≤◌, ℕ, ◌+◌, Bool, if◌then◌else◌, List, [], ◌∷◌, length, drop, replicate, slice_get, slice_index_or, Option, Some, None}
 use Rattle.std.specs.Str.{bytes_eq}
 use Rattle.cw_unit.specs.Allocation.{name_at}
 use Rattle.cw_unit.specs.declared.descriptor.Desc.{Desc}
 use Rattle.cw_comm.specs.declared.face.Face.{Face}
-use Rattle.cw_comm.specs.Agreement.{Name, definer_from, as_listed, wants_definition}
+use Rattle.cw_comm.specs.declared.tables.Numbering.{Numbering}
+use Rattle.cw_comm.specs.declared.tables.Tables.{Tables}
+use Rattle.cw_comm.specs.Agreement.{Name, defines, definer_from, as_listed, wants_definition}
 use Rattle.cw_comm.specs.Clashes.{Kind, Names, Defines, IsFirst}
+use Rattle.cw_comm.specs.Numbered.{AreNumbered}
 
 -- the first of these descriptors that has the name, counted from n on
 abbrev pub place_from : (n : ℕ) → Name → List Desc → Option ℕ
@@ -65,3 +68,45 @@ pub record IsFirstTold (P : Kind) (faces : List Face) (segment descriptor earlie
 -- the first clash of a kind is in this segment, with an earlier one
 abbrev pub IsFirstIn : Kind → Name → (earlier segment : ℕ) → Type 0
 IsFirstIn P name i j = (d : ℕ) × IsFirst P j d i name
+
+-- ---- the tables of the names of segments
+
+-- the names are those of the segments, of which there are few
+pub record IsNumbering (n : Numbering) : Type 0 where
+  pub numbered : AreNumbered n.segments.now n.names.now n.numbers.now
+  pub few : length n.segments.now ≤ 200
+
+-- no name has an entry
+pub record HaveNone (count : ℕ) (t : Tables) : Type 0 where
+  pub listings : t.listings.items ≡ replicate count None
+  pub definers : t.definers.items ≡ replicate count None
+
+-- each name has an entry
+pub record HaveEach (count : ℕ) (t : Tables) : Type 0 where
+  pub listings : length t.listings.items ≡ count
+  pub definers : length t.definers.items ≡ count
+
+-- a segment is entered: the entries of the names that it lists or defines are its own, and the others stay
+pub record Enter (n : Numbering) (segment : ℕ) (old new : Tables) : Type 0 where
+  pub listings : length new.listings.items ≡ length old.listings.items
+  pub definers : length new.definers.items ≡ length old.definers.items
+  pub listed : (k : ℕ) (f : Face) → k < length n.names.now → slice_get n.segments.now segment ≡ Some f
+      → slice_index_or new.listings.items k None ≡ listed_in segment (place_from 0 (name_at n.names.now k) f.descs) (slice_index_or old.listings.items k None)
+  pub defined : (k : ℕ) (f : Face) → k < length n.names.now → slice_get n.segments.now segment ≡ Some f
+      → slice_index_or new.definers.items k None ≡ defined_in segment (defines (name_at n.names.now k) f.descs f.defined) (slice_index_or old.definers.items k None)
+
+-- the entries tell the first of the segments from one on
+pub record TellFrom (n : Numbering) (segment : ℕ) (t : Tables) : Type 0 where
+  pub each : HaveEach (length n.names.now) t
+  pub listed : (k : ℕ) → k < length n.names.now → slice_index_or t.listings.items k None ≡ first_listing segment (name_at n.names.now k) (drop segment n.segments.now)
+  pub defined : (k : ℕ) → k < length n.names.now → slice_index_or t.definers.items k None ≡ definer_from segment (name_at n.names.now k) (drop segment n.segments.now)
+
+-- the entries are those of the segments before one
+pub record TellBefore (n : Numbering) (segment : ℕ) (t : Tables) : Type 0 where
+  pub each : HaveEach (length n.names.now) t
+  pub past : (k g : ℕ) → k < length n.names.now → slice_index_or t.definers.items k None ≡ Some g → g < segment
+
+-- the entries of the names that a segment lists or defines are its own
+pub record TellOwn (n : Numbering) (segment : ℕ) (t : Tables) : Type 0 where
+  pub here : TellsHere n.names.now n.segments.now segment t.listings.items
+  pub own : TellsOwn n.names.now n.segments.now segment t.definers.items

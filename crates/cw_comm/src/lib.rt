@@ -3,16 +3,15 @@
 
 mod agreeing;
 mod agreement;
+mod checking;
 mod clash;
-mod defining;
-mod differing;
 mod entry;
 mod face;
 pub mod laws;
 mod listing;
 mod tables;
-mod undefined;
 
 pub use agreeing::agree;
 pub use clash::Clash;
+pub use entry::wants_definition;
 pub use face::{Agreed, Face};

@@ -54,15 +54,15 @@ pub(crate) fn sizes(operands: &[Operand]) -> usize {
 /// operands; the words of the control stack below those; whether Enter has begun it; and its frame.
 #[derive(Clone, Copy)]
 pub(crate) struct Activation {
-    pub(crate) segment: usize,
-    pub(crate) place: usize,
-    pub(crate) line: u16,
-    pub(crate) arguments: usize,
-    pub(crate) floor: usize,
-    pub(crate) below: usize,
-    pub(crate) is_entered: bool,
-    pub(crate) base: u32,
-    pub(crate) top: u32,
+    pub segment: usize,
+    pub place: usize,
+    pub line: u16,
+    pub arguments: usize,
+    pub floor: usize,
+    pub below: usize,
+    pub is_entered: bool,
+    pub base: u32,
+    pub top: u32,
 }
 
 /// How a run ends: at the end of the last segment, at a stop of this kind, segment (from 1) and line, where an order cannot be carried

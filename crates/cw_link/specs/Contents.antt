@@ -1,22 +1,15 @@
 -- What a linker takes from an object: of each kind the values of those payloads that are of the form.
-use Rattle.std.specs.Prelude.{ℕ, List, [], ◌∷◌, drop, Option, Some, None}
+use Rattle.std.specs.Prelude.{ℕ, List, [], ◌∷◌, drop}
 use Rattle.cw_unit.specs.declared.descriptor.Desc.{Desc}
 use Rattle.cw_unit.specs.declared.layout.Family.{Family}
 use Rattle.cw_unit.specs.declared.layout.Preset.{Preset}
 use Rattle.cw_unit.specs.declared.layout.Reloc.{Reloc}
 use Rattle.cw_unit.specs.declared.layout.Body.{Body}
 use Rattle.cw_view.specs.declared.view.View.{View}
-use Rattle.cw_fields.specs.Fields.{Reader, whole}
+use Rattle.cw_fields.specs.Fields.{Reader}
 use Rattle.cw_view.specs.Reading.{descriptor_in, family_in, preset_in, relocation_in, definition_in, body_facts_in}
 use Rattle.cw_view.specs.Splitting.{payloads_in}
-
-abbrev pub kept : {A : Type 0} → Option A → List A → List A
-kept None xs = xs
-kept (Some x) xs = x ∷ xs
-
-abbrev pub values_in : {A : Type 0} → Reader A → List (List ℕ) → List A
-values_in read [] = []
-values_in read (p ∷ ps) = kept (whole read p) (values_in read ps)
+pub use Rattle.cw_view.specs.Values.{kept, values_in}
 
 abbrev pub records_of : {A : Type 0} → Reader A → (kind : ℕ) → View → List A
 records_of read kind view = values_in read (payloads_in kind (drop 6 view.bytes.now))

@@ -1,5 +1,5 @@
 //! The linked code.
-ghost use Rattle.std.specs.Prelude.{◌≡◌, ◌≤◌, ◌<◌, ◌+◌, ◌++◌, ℕ, [], length, map, drop, slice_get, slice_index_or, Some, OnOk, IfOk};
+ghost use Rattle.std.specs.Prelude.{◌≡◌, ◌≤◌, ◌<◌, ◌+◌, ◌++◌, ℕ, length, map, drop, slice_get, Some, OnOk, IfOk};
 ghost use Rattle.cw_tmpl.specs.Library.{library_bytes};
 ghost use Rattle.cw_place.specs.Placement.{told_words};
 ghost use Rattle.cw_link.specs.Contents.{Contents as ObjectContents, contents_of};
@@ -7,6 +7,7 @@ ghost use Rattle.cw_link.specs.LinkedImage.{code_end, joined_code, linked_size, 
 ghost use Rattle.cw_link.specs.Definitions.{TellsDefinitions};
 
 use crate::contents::body_of;
+use crate::lists::list_at;
 use crate::relocation::{Links, entry_or_zero, relocate, word};
 use cw_tmpl::base_code;
 use cw_unit::layout::Limits;
@@ -53,15 +54,6 @@ fn next_entry(views: &[View], segment: usize, start: u32) -> u16
     }
 }
 
-fn homes_of(homes: &[List<u16>], segment: usize) -> &[u16]
-    ensures { result.now ≡ slice_index_or homes.now segment [] }
-{
-    match homes.get(segment) {
-        Some(homes) => homes.as_slice(),
-        None => &[],
-    }
-}
-
 /// The linked code of objects, where their families and the definitions of their descriptors have these addresses.
 pub(crate) fn linked_code(
     alloc: Global,
@@ -82,8 +74,8 @@ pub(crate) fn linked_code(
         let view = &views[segment];
         let end = start + view.code().len() as u32;
         let links = Links {
-            homes: homes_of(homes, segment),
-            definitions: homes_of(definitions, segment),
+            homes: list_at(homes, segment),
+            definitions: list_at(definitions, segment),
             start,
             number: segment as u16 + 1,
             next: next_entry(views, segment + 1, end),

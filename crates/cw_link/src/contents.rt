@@ -1,30 +1,15 @@
 //! What the linker takes from objects.
 ghost use Rattle.std.specs.Prelude.{◌≡◌, map, IfOk};
-ghost use Rattle.cw_view.specs.Reading.{family_in, descriptor_in, definition_in, body_facts_in};
+ghost use Rattle.cw_view.specs.Reading.{family_in, definition_in, body_facts_in};
 ghost use Rattle.cw_link.specs.Contents.{records_of, contents_of, first_body};
 ghost use Rattle.cw_link.specs.LinkedImage.{face_of, faces_of, space_of, spaces_of};
 
 use cw_comm::Face;
 use cw_place::Space;
-use cw_unit::descriptor::Desc;
 use cw_unit::layout::{Body, Family};
-use cw_view::{DescFault, View, read_body, read_definition, read_desc, read_family};
+use cw_view::{View, descriptors_of, read_body, read_definition, read_family};
 use cw_word::{List, Name, NoMemory};
 use std::alloc::Global;
-
-fn descriptors_of(alloc: Global, view: &View) -> Result<List<Desc>, NoMemory>
-    ensures { IfOk result (λ descs. descs ≡ records_of descriptor_in 2 view.now) }
-{
-    let mut descs = List::new(alloc);
-    for payload in view.records(2) {
-        match read_desc(alloc, payload) {
-            Ok(desc) => descs.push(desc)?,
-            Err(DescFault::NotDesc) => {}
-            Err(DescFault::NoMemory) => return Err(NoMemory),
-        }
-    }
-    Ok(descs)
-}
 
 /// The families of an object.
 pub fn families_of(alloc: Global, view: &View) -> Result<List<Family>, NoMemory>

@@ -1,5 +1,5 @@
 //! The addresses of definitions.
-ghost use Rattle.std.specs.Prelude.{◌≡◌, ◌≤◌, ◌<◌, ℕ, ◌+◌, ◌^◌, nat_eq, if◌then◌else◌, Some, None, []};
+ghost use Rattle.std.specs.Prelude.{◌≡◌, ◌≤◌, ◌<◌, ℕ, ◌+◌, ◌^◌, nat_eq, if◌then◌else◌, Some, None};
 ghost use Rattle.std.specs.Prelude.{length, map, option_map, slice_get, slice_index_or, IfOk};
 ghost use Rattle.cw_view.specs.Reading.{definition_in};
 ghost use Rattle.cw_tmpl.specs.Library.{library_bytes};
@@ -9,6 +9,7 @@ ghost use Rattle.cw_link.specs.Relocation.{word, entry_or_zero};
 ghost use Rattle.cw_link.specs.LinkedImage.{code_end};
 ghost use Rattle.cw_link.specs.Definitions.{numbered_in, numbered_from, definitions_by};
 
+use crate::lists::list_at;
 use crate::relocation::word;
 use cw_view::{View, read_definition};
 use cw_word::{List, NoMemory};
@@ -62,15 +63,6 @@ fn enter_definitions(table: &mut Vec<Option<u16>>, view: &View, numbers: &[usize
     }
 }
 
-fn numbers_of(numbers: &[List<usize>], segment: usize) -> &[usize]
-    ensures { result.now ≡ slice_index_or numbers.now segment [] }
-{
-    match numbers.get(segment) {
-        Some(numbers) => numbers.as_slice(),
-        None => &[],
-    }
-}
-
 /// For each of so many names the address of its definition, where the code of the first segment begins there.
 pub(crate) fn addresses(
     alloc: Global,
@@ -88,7 +80,7 @@ pub(crate) fn addresses(
     let mut place = start;
     for segment in 0..views.len() {
         let view = &views[segment];
-        enter_definitions(&mut table, view, numbers_of(numbers, segment), place);
+        enter_definitions(&mut table, view, list_at(numbers, segment), place);
         place += view.code().len() as u32;
     }
     Ok(table)

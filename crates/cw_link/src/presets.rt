@@ -1,5 +1,5 @@
 //! The presets of objects.
-ghost use Rattle.std.specs.Prelude.{◌≡◌, ◌≤◌, ◌<◌, ◌+◌, ◌++◌, ◌∷◌, ◌^◌, List, length, map, drop, slice_index, slice_index_or, [], IfOk};
+ghost use Rattle.std.specs.Prelude.{◌≡◌, ◌≤◌, ◌<◌, ◌+◌, ◌++◌, ◌∷◌, ◌^◌, List, length, map, drop, slice_index, [], IfOk};
 ghost use Rattle.cw_view.specs.Reading.{preset_in};
 ghost use Rattle.cw_link.specs.Contents.{records_of, contents_of};
 ghost use Rattle.cw_link.specs.Presets.{FilledWord};
@@ -7,6 +7,7 @@ ghost use Rattle.cw_link.specs.Filled.{HasFilled};
 ghost use Rattle.cw_link.specs.LinkedImage.{filled_word, presets_from};
 
 use crate::filled::{Filled, fill_word, no_words};
+use crate::lists::list_at;
 use cw_unit::layout::Preset;
 use cw_view::{View, read_preset};
 use cw_word::{List as Items, NoMemory};
@@ -48,15 +49,6 @@ fn fill_presets(filled: &mut Filled, view: &View, homes: &[u16], segment: u8)
     }
 }
 
-fn homes_of(homes: &[Items<u16>], segment: usize) -> &[u16]
-    ensures { result.now ≡ slice_index_or homes.now segment [] }
-{
-    match homes.get(segment) {
-        Some(homes) => homes.as_slice(),
-        None => &[],
-    }
-}
-
 /// The words that all presets fill.
 pub(crate) fn fill_all(
     alloc: Global,
@@ -69,7 +61,7 @@ pub(crate) fn fill_all(
 {
     let mut filled = no_words(alloc, REACH)?;
     for segment in 0..views.len() {
-        let homes = homes_of(homes, segment);
+        let homes = list_at(homes, segment);
         fill_presets(&mut filled, &views[segment], homes, segment as u8 + 1);
     }
     Ok(filled)

@@ -54,7 +54,8 @@ fn limit_word(limits: &Limits, number: u16, index: u16) -> u16
     }
 }
 
-fn number_at(numbers: &[u16], index: u16) -> u16
+/// The number at this index, and 0 where there is none.
+pub fn number_at(numbers: &[u16], index: u16) -> u16
     ensures { result ≡ slice_index numbers.now index }
 {
     match numbers.get(index as usize) {

@@ -88,18 +88,12 @@ fn from_place<'a>(place: u64, remarks: &'a [Remark]) -> &'a [Remark]
 
 // ---- a line
 
-fn add_spaced_hex(text: &mut Vec<u8>, byte: u8) -> Result<(), NoMemory>
-    ensures { OnOk result (text.new.items ≡ text.old.items ++ spaced_hex byte) }
-{
-    add(text, b" ")?;
-    add_two_hex(text, byte)
-}
-
 fn add_hex_bytes(text: &mut Vec<u8>, bytes: &[u8]) -> Result<(), NoMemory>
     ensures { OnOk result (text.new.items ≡ text.old.items ++ flat_map spaced_hex bytes.now) }
 {
     for k in 0..bytes.len() {
-        add_spaced_hex(text, bytes[k])?;
+        add(text, b" ")?;
+        add_two_hex(text, bytes[k])?;
     }
     Ok(())
 }

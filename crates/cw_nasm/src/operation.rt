@@ -36,18 +36,20 @@ pub(crate) fn mnemonic(instr: &Instr) -> &'static [u8]
     ensures { result.now ≡ mnemonic_of instr.now }
 {
     match *instr {
-        Instr::AluRm { op, .. } => sum(op),
-        Instr::AluAcc { op, .. } => sum(op),
+        Instr::AluRm { op, .. }
+        | Instr::AluAcc { op, .. }
+        | Instr::AluImm { op, .. }
+        | Instr::AluShort { op, .. } => sum(op),
         Instr::Inc(_) => b"inc",
         Instr::Dec(_) => b"dec",
-        Instr::Push(_) => b"push",
+        Instr::Push(_) | Instr::PushRm(_) => b"push",
         Instr::Pop(_) => b"pop",
         Instr::JumpIf { cond, .. } => condition(cond),
-        Instr::AluImm { op, .. } => sum(op),
-        Instr::AluShort { op, .. } => sum(op),
-        Instr::TestRm { .. } => b"test",
+        Instr::TestRm { .. } | Instr::TestAcc(_) | Instr::TestImm { .. } => b"test",
         Instr::XchgRm { .. } => b"xchg",
-        Instr::Mov { .. } => b"mov",
+        Instr::Mov { .. } | Instr::MovAcc { .. } | Instr::MovImm { .. } | Instr::MovRm { .. } => {
+            b"mov"
+        }
         Instr::Lea { .. } => b"lea",
         Instr::XchgAx(reg) => if reg == 0 { b"nop" } else { b"xchg" },
         Instr::Cbw => b"cbw",
@@ -56,29 +58,21 @@ pub(crate) fn mnemonic(instr: &Instr) -> &'static [u8]
         Instr::PopF => b"popf",
         Instr::Sahf => b"sahf",
         Instr::Lahf => b"lahf",
-        Instr::MovAcc { .. } => b"mov",
-        Instr::TestAcc(_) => b"test",
-        Instr::MovImm { .. } => b"mov",
-        Instr::RetAdd(_) => b"ret",
-        Instr::Ret => b"ret",
-        Instr::MovRm { .. } => b"mov",
+        Instr::RetAdd(_) | Instr::Ret => b"ret",
         Instr::Shift { op, .. } => shift(op),
         Instr::Loop { kind, .. } => loop_name(kind),
         Instr::In(_) => b"in",
         Instr::Out(_) => b"out",
-        Instr::Call(_) => b"call",
+        Instr::Call(_) | Instr::CallRm(_) => b"call",
         Instr::Jump(_) => b"jmp near",
         Instr::JumpShort(_) => b"jmp short",
+        Instr::JumpRm(_) => b"jmp",
         Instr::Hlt => b"hlt",
         Instr::Cmc => b"cmc",
         Instr::Clc => b"clc",
         Instr::Stc => b"stc",
-        Instr::TestImm { .. } => b"test",
         Instr::Unary { op, .. } => unary(op),
         Instr::IncDec { down, .. } => if down { b"dec" } else { b"inc" },
-        Instr::CallRm(_) => b"call",
-        Instr::JumpRm(_) => b"jmp",
-        Instr::PushRm(_) => b"push",
     }
 }
 

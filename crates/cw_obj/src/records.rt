@@ -53,53 +53,14 @@ fn sort_operand(sort: Sort) -> u16
     }
 }
 
-fn put_family_payload(out: &mut Vec<u8>, family: &Family) -> Result<(), NoMemory>
-    ensures { OnOk result (out.new.items ≡ out.old.items ++ family_bytes family.now) }
-{
-    put_byte(out, sort_number(family.sort))?;
-    put_word(out, sort_operand(family.sort))?;
-    put_long(out, family.extent)
-}
-
 /// The record of a family.
 pub(crate) fn put_family(out: &mut Vec<u8>, family: &Family) -> Result<(), NoMemory>
     ensures { OnOk result (out.new.items ≡ out.old.items ++ framed 3 (family_bytes family.now)) }
 {
     put_head(out, 3, 7)?;
-    put_family_payload(out, family)
-}
-
-fn put_preset_payload(out: &mut Vec<u8>, preset: &Preset) -> Result<(), NoMemory>
-    ensures { OnOk result (out.new.items ≡ out.old.items ++ preset_bytes preset.now) }
-{
-    put_word(out, preset.family)?;
-    put_word(out, preset.offset)?;
-    put_word(out, preset.word)
-}
-
-/// The record of a preset.
-pub(crate) fn put_preset(out: &mut Vec<u8>, preset: &Preset) -> Result<(), NoMemory>
-    ensures { OnOk result (out.new.items ≡ out.old.items ++ framed 5 (preset_bytes preset.now)) }
-{
-    put_head(out, 5, 6)?;
-    put_preset_payload(out, preset)
-}
-
-fn put_relocation_payload(out: &mut Vec<u8>, relocation: &Reloc) -> Result<(), NoMemory>
-    ensures { OnOk result (out.new.items ≡ out.old.items ++ relocation_bytes relocation.now) }
-{
-    put_long(out, relocation.place)?;
-    put_byte(out, relocation.sort)?;
-    put_word(out, relocation.index)?;
-    put_word(out, relocation.add)
-}
-
-/// The record of a relocation.
-pub(crate) fn put_relocation(out: &mut Vec<u8>, relocation: &Reloc) -> Result<(), NoMemory>
-    ensures { OnOk result (out.new.items ≡ out.old.items ++ framed 7 (relocation_bytes relocation.now)) }
-{
-    put_head(out, 7, 9)?;
-    put_relocation_payload(out, relocation)
+    put_byte(out, sort_number(family.sort))?;
+    put_word(out, sort_operand(family.sort))?;
+    put_long(out, family.extent)
 }
 
 /// The records of families, in order.
@@ -110,4 +71,25 @@ pub(crate) fn put_families(out: &mut Vec<u8>, families: &[Family]) -> Result<(),
         put_family(out, family)?;
     }
     Ok(())
+}
+
+/// The record of a preset.
+pub(crate) fn put_preset(out: &mut Vec<u8>, preset: &Preset) -> Result<(), NoMemory>
+    ensures { OnOk result (out.new.items ≡ out.old.items ++ framed 5 (preset_bytes preset.now)) }
+{
+    put_head(out, 5, 6)?;
+    put_word(out, preset.family)?;
+    put_word(out, preset.offset)?;
+    put_word(out, preset.word)
+}
+
+/// The record of a relocation.
+pub(crate) fn put_relocation(out: &mut Vec<u8>, relocation: &Reloc) -> Result<(), NoMemory>
+    ensures { OnOk result (out.new.items ≡ out.old.items ++ framed 7 (relocation_bytes relocation.now)) }
+{
+    put_head(out, 7, 9)?;
+    put_long(out, relocation.place)?;
+    put_byte(out, relocation.sort)?;
+    put_word(out, relocation.index)?;
+    put_word(out, relocation.add)
 }

@@ -1,21 +1,12 @@
 -- The members of libraries that objects need: the least set with the rule that a member is in it which defines a label, switch or procedure that a
 -- given object, or a member in it, lists and that no given object defines. A name is taken for what its lister lists.
-use Rattle.std.specs.Prelude.{◌≡◌, ◌⊎◌, ℕ, true, List, [], ◌∷◌, drop, map, slice_get, Option, Some, None, Contains}
+use Rattle.std.specs.Prelude.{◌≡◌, ◌⊎◌, ℕ, true, List, drop, map, slice_get, Some, Contains}
 use Rattle.std.specs.List.Sorted.{IsStrictlyIncreasing}
 use Rattle.cw_unit.specs.declared.descriptor.Desc.{Desc}
-use Rattle.cw_fields.specs.Fields.{Reader, whole}
 use Rattle.cw_view.specs.Reading.{descriptor_in, definition_in}
 use Rattle.cw_view.specs.Splitting.{Bytes, payloads_in}
+pub use Rattle.cw_view.specs.Values.{kept, values_in}
 use Rattle.cw_comm.specs.Agreement.{Name, wants_definition, defines}
-
-abbrev pub kept : {A : Type 0} → Option A → List A → List A
-kept None xs = xs
-kept (Some x) xs = x ∷ xs
-
--- the values of those payloads that are of the form
-abbrev pub values_in : {A : Type 0} → Reader A → List Bytes → List A
-values_in read [] = []
-values_in read (p ∷ ps) = kept (whole read p) (values_in read ps)
 
 -- the descriptors of an object's COMMON and LIBRARY lists, and which of them it defines
 abbrev pub descriptors_of : Bytes → List Desc

@@ -7,7 +7,7 @@ ghost use Rattle.cw_pick.specs.Picking.{is_in, is_picked_for, IsLeast, numbers_b
 ghost use Rattle.cw_pick.specs.Selection.{IsSelection};
 ghost use Rattle.cw_pick.specs.Working.{definers, is_picked, HasLists, Keeps};
 
-use crate::following::{follow, start};
+use crate::following::{State, follow, start};
 use crate::index::{Index, indexed};
 use crate::marking::Work;
 use crate::offer::Offer;
@@ -51,10 +51,12 @@ fn picked(alloc: Global, given: &[Offer], members: &[Offer]) -> Result<Vec<bool>
     ensures least { IfOk result (λ picked. IsLeast given.now members.now (λ k. slice_index_or picked.items k false)) }
 {
     let index = index_of(alloc, given, members)?;
-    let mut asked = none_asked(alloc, &index)?;
-    let mut work = none_picked(alloc, members.len())?;
-    start(&index, &mut asked, &mut work, given)?;
-    follow(&index, &mut asked, &mut work, members)?;
+    let asked = none_asked(alloc, &index)?;
+    let work = none_picked(alloc, members.len())?;
+    let mut state = State { asked, work };
+    start(&index, &mut state, given)?;
+    follow(&index, &mut state, members)?;
+    let State { asked: _, work } = state;
     let Work { picked, todo: _ } = work;
     Ok(picked)
 }

@@ -9,65 +9,62 @@ use crate::marking::{Work, mark_all};
 use crate::offer::Offer;
 use cw_word::{Name, NoMemory};
 
+/// Which names were asked for, by their numbers, and which members are picked.
+#[derive(Drop)]
+pub(crate) struct State {
+    pub asked: Vec<bool>,
+    pub work: Work,
+}
+
 // Picks the members that define the name of a number, unless it was asked for before.
-fn ask(index: &Index, asked: &mut Vec<bool>, work: &mut Work, number: usize) -> Result<(), NoMemory>
+fn ask(index: &Index, state: &mut State, number: usize) -> Result<(), NoMemory>
     requires lists { HasLists index.now }
     requires number { number < length index.now.names.keys }
-    requires keeps { Keeps index.now asked.old.items work.old }
-    ensures keeps { OnOk result (Keeps index.now asked.new.items work.new) }
-    ensures marks { OnOk result (Marks (is_in (slice_index_or index.now.definers.items number [])) work.old work.new) }
+    requires keeps { Keeps index.now state.old.asked.items state.old.work }
+    ensures keeps { OnOk result (Keeps index.now state.new.asked.items state.new.work) }
+    ensures marks { OnOk result (Marks (is_in (slice_index_or index.now.definers.items number [])) state.old.work state.new.work) }
 {
-    if asked[number] {
+    if state.asked[number] {
         return Ok(());
     }
-    asked[number] = true;
-    mark_all(work, index.definers[number].as_slice())
+    state.asked[number] = true;
+    mark_all(&mut state.work, index.definers[number].as_slice())
 }
 
 // Picks the members that define a name.
-fn want(index: &Index, asked: &mut Vec<bool>, work: &mut Work, name: Name) -> Result<(), NoMemory>
+fn want(index: &Index, state: &mut State, name: Name) -> Result<(), NoMemory>
     requires lists { HasLists index.now }
-    requires keeps { Keeps index.now asked.old.items work.old }
-    ensures keeps { OnOk result (Keeps index.now asked.new.items work.new) }
-    ensures marks { OnOk result (Marks (is_in (definers index.now name)) work.old work.new) }
+    requires keeps { Keeps index.now state.old.asked.items state.old.work }
+    ensures keeps { OnOk result (Keeps index.now state.new.asked.items state.new.work) }
+    ensures marks { OnOk result (Marks (is_in (definers index.now name)) state.old.work state.new.work) }
 {
     match index.names.get_index_of(&name) {
-        Some(number) => ask(index, asked, work, number),
+        Some(number) => ask(index, state, number),
         None => Ok(()),
     }
 }
 
-fn want_all(
-    index: &Index,
-    asked: &mut Vec<bool>,
-    work: &mut Work,
-    names: &[Name],
-) -> Result<(), NoMemory>
+fn want_all(index: &Index, state: &mut State, names: &[Name]) -> Result<(), NoMemory>
     requires lists { HasLists index.now }
-    requires keeps { Keeps index.now asked.old.items work.old }
-    ensures keeps { OnOk result (Keeps index.now asked.new.items work.new) }
-    ensures marks { OnOk result (Marks (is_asked index.now names.now) work.old work.new) }
+    requires keeps { Keeps index.now state.old.asked.items state.old.work }
+    ensures keeps { OnOk result (Keeps index.now state.new.asked.items state.new.work) }
+    ensures marks { OnOk result (Marks (is_asked index.now names.now) state.old.work state.new.work) }
 {
     for name in names {
-        want(index, asked, work, *name)?;
+        want(index, state, *name)?;
     }
     Ok(())
 }
 
 /// Picks what the given objects list.
-pub(crate) fn start(
-    index: &Index,
-    asked: &mut Vec<bool>,
-    work: &mut Work,
-    given: &[Offer],
-) -> Result<(), NoMemory>
+pub(crate) fn start(index: &Index, state: &mut State, given: &[Offer]) -> Result<(), NoMemory>
     requires lists { HasLists index.now }
-    requires keeps { Keeps index.now asked.old.items work.old }
-    ensures keeps { OnOk result (Keeps index.now asked.new.items work.new) }
-    ensures marks { OnOk result (Marks (λ k. list_any (λ o. is_asked index.now o.lists k) given.now) work.old work.new) }
+    requires keeps { Keeps index.now state.old.asked.items state.old.work }
+    ensures keeps { OnOk result (Keeps index.now state.new.asked.items state.new.work) }
+    ensures marks { OnOk result (Marks (λ k. list_any (λ o. is_asked index.now o.lists k) given.now) state.old.work state.new.work) }
 {
     for offer in given {
-        want_all(index, asked, work, offer.lists.as_slice())?;
+        want_all(index, state, offer.lists.as_slice())?;
     }
     Ok(())
 }
@@ -75,36 +72,30 @@ pub(crate) fn start(
 // Picks what a member lists.
 fn want_of(
     index: &Index,
-    asked: &mut Vec<bool>,
-    work: &mut Work,
+    state: &mut State,
     members: &[Offer],
     member: usize,
 ) -> Result<(), NoMemory>
     requires lists { HasLists index.now }
-    requires keeps { Keeps index.now asked.old.items work.old }
-    ensures keeps { OnOk result (Keeps index.now asked.new.items work.new) }
-    ensures marks { OnOk result (Marks (is_asked index.now (lists_at members.now member)) work.old work.new) }
+    requires keeps { Keeps index.now state.old.asked.items state.old.work }
+    ensures keeps { OnOk result (Keeps index.now state.new.asked.items state.new.work) }
+    ensures marks { OnOk result (Marks (is_asked index.now (lists_at members.now member)) state.old.work state.new.work) }
 {
     match members.get(member) {
-        Some(offer) => want_all(index, asked, work, offer.lists.as_slice()),
+        Some(offer) => want_all(index, state, offer.lists.as_slice()),
         None => Ok(()),
     }
 }
 
 /// Picks what picked members list, until nothing more is wanted.
-pub(crate) fn follow(
-    index: &Index,
-    asked: &mut Vec<bool>,
-    work: &mut Work,
-    members: &[Offer],
-) -> Result<(), NoMemory>
+pub(crate) fn follow(index: &Index, state: &mut State, members: &[Offer]) -> Result<(), NoMemory>
     requires lists { HasLists index.now }
-    requires keeps { Keeps index.now asked.old.items work.old }
-    requires fresh { IsFresh work.old }
-    ensures { OnOk result (Closes (λ j k. is_asked index.now (lists_at members.now j) k) work.old work.new) }
+    requires keeps { Keeps index.now state.old.asked.items state.old.work }
+    requires fresh { IsFresh state.old.work }
+    ensures { OnOk result (Closes (λ j k. is_asked index.now (lists_at members.now j) k) state.old.work state.new.work) }
 {
-    while let Some(member) = work.todo.pop() {
-        want_of(index, asked, work, members, member)?;
+    while let Some(member) = state.work.todo.pop() {
+        want_of(index, state, members, member)?;
     }
     Ok(())
 }

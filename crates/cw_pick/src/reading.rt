@@ -1,31 +1,18 @@
 //! The offers of objects, read from their bytes.
 ghost use Rattle.std.specs.Prelude.{◌≡◌, map, drop, slice_get, All, IfOk};
 ghost use Rattle.cw_view.specs.ObjectFormat.{IsObject};
-ghost use Rattle.cw_view.specs.Reading.{descriptor_in, definition_in};
+ghost use Rattle.cw_view.specs.Reading.{definition_in};
 ghost use Rattle.cw_view.specs.Splitting.{payloads_in};
-ghost use Rattle.cw_comm.specs.Agreement.{wants_definition};
 ghost use Rattle.cw_pick.specs.Selection.{values_in};
 ghost use Rattle.cw_pick.specs.Offers.{wanting, name_of, defined, offer_of};
 
 use crate::offer::Offer;
-use cw_unit::descriptor::{Desc, DescBody};
+use cw_comm::wants_definition;
+use cw_unit::descriptor::Desc;
 use cw_view::laws::object_format;
-use cw_view::{DescFault, View, read_definition, read_desc};
+use cw_view::{View, descriptors_of, read_definition};
 use cw_word::{List, Name, NoMemory};
 use std::alloc::Global;
-
-fn wants(body: &DescBody) -> bool
-    ensures { result ≡ wants_definition body.now }
-{
-    match body {
-        DescBody::Word(_) => false,
-        DescBody::Array { .. } => false,
-        DescBody::Table { .. } => false,
-        DescBody::Label => true,
-        DescBody::Switch => true,
-        DescBody::Proc(_) => true,
-    }
-}
 
 fn view_of(object: &[u8]) -> View
     requires { IsObject object.now }
@@ -36,20 +23,6 @@ fn view_of(object: &[u8]) -> View
         Ok(view) => view,
         Err(_) => unreachable!(),
     }
-}
-
-fn descriptors_of(alloc: Global, view: &View) -> Result<List<Desc>, NoMemory>
-    ensures { IfOk result (λ descs. descs ≡ values_in descriptor_in (payloads_in 2 (drop 6 view.now.bytes.now))) }
-{
-    let mut descs = List::new(alloc);
-    for payload in view.records(2) {
-        match read_desc(alloc, payload) {
-            Ok(desc) => descs.push(desc)?,
-            Err(DescFault::NotDesc) => {}
-            Err(DescFault::NoMemory) => return Err(NoMemory),
-        }
-    }
-    Ok(descs)
 }
 
 // The numbers of the descriptors that an object defines.
@@ -71,7 +44,7 @@ fn wanting(alloc: Global, descriptors: &[Desc]) -> Result<List<Name>, NoMemory>
 {
     let mut names = List::new(alloc);
     for descriptor in descriptors {
-        if wants(&descriptor.body) {
+        if wants_definition(&descriptor.body) {
             names.push(descriptor.name)?;
         }
     }

@@ -13,7 +13,7 @@ ghost use Rattle.cw_place.specs.Segments.{AreOf, segment_storage};
 ghost use Rattle.cw_place.specs.Placement.{IsLimits, AnswersPlace};
 
 use crate::extents::name_extents;
-use crate::placing::place_all;
+use crate::placing::{Room, place_all};
 use crate::space::{control_words, first_outside};
 pub use crate::space::{PlaceFault, Space};
 use crate::spans::spans;
@@ -43,7 +43,12 @@ pub fn place(
     }
     let spans = spans(alloc, spaces)?;
     let extents = name_extents(alloc, agreed, spaces)?;
-    let (homes, end) = place_all(alloc, agreed, spaces, spans.as_slice(), extents.as_slice())?;
+    let (absolute, shared) = (spans.as_slice(), extents.as_slice());
+    let room = Room {
+        spans: absolute,
+        extents: shared,
+    };
+    let (homes, end) = place_all(alloc, agreed, spaces, &room)?;
     let need = end.saturating_add(u64::from(limits.frames));
     if need > u64::from(limits.area) {
         return Err(PlaceFault::DataTooBig { need });

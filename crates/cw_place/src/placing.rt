@@ -24,6 +24,13 @@ pub(crate) struct Placing {
     sweep: Sweep,
 }
 
+/// The spans of absolute families, which stay free, and for each name how many words its shared family takes.
+#[derive(Clone, Copy)]
+pub(crate) struct Room<'a> {
+    pub spans: &'a [Span],
+    pub extents: &'a [u32],
+}
+
 /// An address behind each absolute family.
 const FAR: u64 = 1 << 33;
 
@@ -68,18 +75,17 @@ fn place_family(
     placing: &mut Placing,
     agreed: &Agreed,
     spaces: &[Space],
-    spans: &[Span],
-    extents: &[u32],
+    room: &Room,
     segment: usize,
     number: usize,
 ) -> u16
     requires of { AreOf agreed.now spaces.now }
-    requires spans { AreSweptFor (segment_storage agreed.now spaces.now) spans.now }
-    requires extents { TellsExtents agreed.now (segment_storage agreed.now spaces.now) extents.now }
+    requires spans { AreSweptFor (segment_storage agreed.now spaces.now) room.now.spans.now }
+    requires extents { TellsExtents agreed.now (segment_storage agreed.now spaces.now) room.now.extents.now }
     requires segment { segment < length spaces.now }
     requires number { (s : SegmentSpace) → slice_get spaces.now segment ≡ Some s → number < length s.families }
-    requires placed { HasPlaced agreed.now spans.now (placed_before agreed.now spaces.now segment number) placing.old }
-    ensures placed { HasPlaced agreed.now spans.now (placed_before agreed.now spaces.now segment (number + 1)) placing.new }
+    requires placed { HasPlaced agreed.now room.now.spans.now (placed_before agreed.now spaces.now segment number) placing.old }
+    ensures placed { HasPlaced agreed.now room.now.spans.now (placed_before agreed.now spaces.now segment (number + 1)) placing.new }
     ensures address { (s : SegmentSpace) (f : SegmentFamily) → slice_get spaces.now segment ≡ Some s
         → slice_get s.families number ≡ Some f → result
         ≡ family_address (told (placed_before agreed.now spaces.now segment (number + 1))) segment
@@ -89,13 +95,13 @@ fn place_family(
     match family.sort {
         Sort::Absolute(address) => address,
         Sort::Frame(offset) => offset,
-        Sort::Own => place_next(&mut placing.sweep, spans, family.extent),
+        Sort::Own => place_next(&mut placing.sweep, room.spans, family.extent),
         Sort::Common(descriptor) => {
             let name = agreed.of.as_slice()[segment].as_slice()[descriptor as usize];
             match placing.starts[name] {
                 Some(start) => start,
                 None => {
-                    let start = place_next(&mut placing.sweep, spans, extents[name]);
+                    let start = place_next(&mut placing.sweep, room.spans, room.extents[name]);
                     placing.starts[name] = Some(start);
                     start
                 }
@@ -110,16 +116,15 @@ fn place_segment(
     placing: &mut Placing,
     agreed: &Agreed,
     spaces: &[Space],
-    spans: &[Span],
-    extents: &[u32],
+    room: &Room,
     segment: usize,
 ) -> Result<List<u16>, NoMemory>
     requires of { AreOf agreed.now spaces.now }
-    requires spans { AreSweptFor (segment_storage agreed.now spaces.now) spans.now }
-    requires extents { TellsExtents agreed.now (segment_storage agreed.now spaces.now) extents.now }
+    requires spans { AreSweptFor (segment_storage agreed.now spaces.now) room.now.spans.now }
+    requires extents { TellsExtents agreed.now (segment_storage agreed.now spaces.now) room.now.extents.now }
     requires segment { segment < length spaces.now }
-    requires placed { HasPlaced agreed.now spans.now (placed_before agreed.now spaces.now segment 0) placing.old }
-    ensures placed { OnOk result (HasPlaced agreed.now spans.now (placed_before agreed.now spaces.now (segment + 1) 0) placing.new) }
+    requires placed { HasPlaced agreed.now room.now.spans.now (placed_before agreed.now spaces.now segment 0) placing.old }
+    ensures placed { OnOk result (HasPlaced agreed.now room.now.spans.now (placed_before agreed.now spaces.now (segment + 1) 0) placing.new) }
     ensures homes { IfOk result (λ homes. (s : SegmentSpace) → slice_get spaces.now segment ≡ Some s
         → homes ≡ addresses_from (told (placed_before agreed.now spaces.now (segment + 1) 0)) segment
         (names_of agreed.now segment) 0 s.families) }
@@ -127,7 +132,7 @@ fn place_segment(
     let mut homes = List::new(alloc);
     let count = spaces[segment].families.as_slice().len();
     for number in 0..count {
-        homes.push(place_family(placing, agreed, spaces, spans, extents, segment, number))?;
+        homes.push(place_family(placing, agreed, spaces, room, segment, number))?;
     }
     Ok(homes)
 }
@@ -137,12 +142,11 @@ pub(crate) fn place_all(
     alloc: Global,
     agreed: &Agreed,
     spaces: &[Space],
-    spans: &[Span],
-    extents: &[u32],
+    room: &Room,
 ) -> Result<(List<List<u16>>, u64), NoMemory>
     requires of { AreOf agreed.now spaces.now }
-    requires spans { AreSweptFor (segment_storage agreed.now spaces.now) spans.now }
-    requires extents { TellsExtents agreed.now (segment_storage agreed.now spaces.now) extents.now }
+    requires spans { AreSweptFor (segment_storage agreed.now spaces.now) room.now.spans.now }
+    requires extents { TellsExtents agreed.now (segment_storage agreed.now spaces.now) room.now.extents.now }
     ensures homes { IfOk result (λ made. made.0
         ≡ homes_from (told (placed_families (segment_storage agreed.now spaces.now))) 0
         (segment_storage agreed.now spaces.now)) }
@@ -156,15 +160,7 @@ pub(crate) fn place_all(
     let mut placing = Placing { starts, sweep };
     let mut homes = List::new(alloc);
     for segment in 0..spaces.len() {
-        let addresses = place_segment(
-            alloc,
-            &mut placing,
-            agreed,
-            spaces,
-            spans,
-            extents,
-            segment,
-        )?;
+        let addresses = place_segment(alloc, &mut placing, agreed, spaces, room, segment)?;
         homes.push(addresses)?;
     }
     Ok((homes, placing.sweep.address))

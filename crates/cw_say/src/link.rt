@@ -33,20 +33,10 @@ fn write_segments<S: Sink>(
     let mut second_buffer = itoa::Buffer::new();
     let first_digits = first_buffer.format(first).as_bytes();
     let second_digits = second_buffer.format(second).as_bytes();
-    write_three(say, text, what, first_digits, second_digits)
-}
-
-fn write_three<S: Sink>(
-    say: &mut S,
-    text: &[u8],
-    first: &[u8],
-    second: &[u8],
-    third: &[u8],
-) -> Result<(), Failed>
-    ensures { Writes (S.held say.old) (S.held say.new) (S.faults say.old) (S.faults say.new)
-        (text.now ++ (first.now ++ (codes " " ++ (second.now ++ (codes " " ++ (third.now ++ codes "\n")))))) result }
-{
-    write_line(say, &[text, first, b" ", second, b" ", third, b"\n"])
+    write_line(
+        say,
+        &[text, what, b" ", first_digits, b" ", second_digits, b"\n"],
+    )
 }
 
 pub(crate) fn write_unlinked<S: Sink>(say: &mut S, fault: &LinkFault) -> Result<(), Failed>

@@ -82,34 +82,31 @@ reads_family =
     family_onto family_back
 
 -- numbers that are the fields of a record
-reads_fields : {A B : Type 0} (s : A → List ℕ) (F : A → Type 0) (read : Reader A) (FitsRecord : B → Type 0) (made : A → B) (fields : B → A) → Reads s F read
+reads_fields : {A B : Type 0} {s : A → List ℕ} {F : A → Type 0} {read : Reader A} → Reads s F read → (FitsRecord : B → Type 0) (made : A → B) (fields : B → A)
     → ((x : A) → x ≡ fields (made x)) → ((y : B) → made (fields y) ≡ y) → ((x : A) → F x → FitsRecord (made x)) → ((y : B) → FitsRecord y → F (fields y))
     → Reads (λ (y : B). s (fields y)) FitsRecord (meaning (λ x. Some (made x)) read)
-reads_fields s F read FitsRecord made fields reads same again fits fit =
+reads_fields {A} {B} {s} {F} {read} reads FitsRecord made fields same again fits fit =
     reads_meaning s F read FitsRecord (λ x. some (made x)) fields reads
     (λ x y h e. let is = some_is (made x) y e in (same x ∙ ap fields is, subst FitsRecord is (fits x h)))
     (λ y h. (fit y h, ap some (again y)))
 
 pub reads_preset : Reads preset_bytes FitsPreset preset_in
-reads_preset =
-    reads_fields (λ (p : ℕ × (ℕ × ℕ)). word_bytes p.0 ++ (word_bytes p.1.0 ++ word_bytes p.1.1)) (λ (p : ℕ × (ℕ × ℕ)). IsWord p.0 × (IsWord p.1.0 × IsWord p.1.1)) (both word_in (both word_in word_in))
-    FitsPreset (λ p. record { family = p.0; offset = p.1.0; word = p.1.1 }) (λ p. (p.family, (p.offset, p.word)))
-    (reads_both _ _ _ _ _ _ reads_word (reads_both _ _ _ _ _ _ reads_word reads_word)) (λ _. refl) (λ _. refl) (λ _ h. record { family = h.0; offset = h.1.0; word = h.1.1 }) (λ _ h. (h.family, (h.offset, h.word)))
+reads_preset = reads_fields (reads_both _ _ _ _ _ _ reads_word (reads_both _ _ _ _ _ _ reads_word reads_word)) FitsPreset
+    (λ p. record { family = p.0; offset = p.1.0; word = p.1.1 }) (λ p. (p.family, (p.offset, p.word))) (λ _. refl) (λ _. refl)
+    (λ _ h. record { family = h.0; offset = h.1.0; word = h.1.1 }) (λ _ h. (h.family, (h.offset, h.word)))
 
 pub reads_relocation : Reads relocation_bytes FitsRelocation relocation_in
-reads_relocation =
-    reads_fields (λ (p : ℕ × (ℕ × (ℕ × ℕ))). long_bytes p.0 ++ ((p.1.0 ∷ []) ++ (word_bytes p.1.1.0 ++ word_bytes p.1.1.1))) (λ (p : ℕ × (ℕ × (ℕ × ℕ))). IsLong p.0 × (IsByte p.1.0 × (IsWord p.1.1.0 × IsWord p.1.1.1))) (both long_in (both byte_in (both word_in word_in)))
-    FitsRelocation (λ p. record { place = p.0; sort = p.1.0; index = p.1.1.0; add = p.1.1.1 }) (λ r. (r.place, (r.sort, (r.index, r.add))))
-    (reads_both _ _ _ _ _ _ reads_long (reads_both _ _ _ _ _ _ reads_byte (reads_both _ _ _ _ _ _ reads_word reads_word))) (λ _. refl) (λ _. refl) (λ _ h. record { place = h.0; sort = h.1.0; index = h.1.1.0; add = h.1.1.1 }) (λ _ h. (h.place, (h.sort, (h.index, h.add))))
+reads_relocation = reads_fields (reads_both _ _ _ _ _ _ reads_long (reads_both _ _ _ _ _ _ reads_byte (reads_both _ _ _ _ _ _ reads_word reads_word))) FitsRelocation
+    (λ p. record { place = p.0; sort = p.1.0; index = p.1.1.0; add = p.1.1.1 }) (λ r. (r.place, (r.sort, (r.index, r.add)))) (λ _. refl) (λ _. refl)
+    (λ _ h. record { place = h.0; sort = h.1.0; index = h.1.1.0; add = h.1.1.1 }) (λ _ h. (h.place, (h.sort, (h.index, h.add))))
 
 pub reads_definition : Reads definition_bytes FitsDefinition definition_in
 reads_definition = reads_both _ _ _ _ _ _ reads_word reads_long
 
 pub reads_body_facts : Reads body_facts_bytes FitsBodyFacts body_facts_in
-reads_body_facts =
-    reads_fields (λ (p : ℕ × (ℕ × ℕ)). long_bytes p.0 ++ (word_bytes p.1.0 ++ long_bytes p.1.1)) (λ (p : ℕ × (ℕ × ℕ)). IsLong p.0 × (IsWord p.1.0 × IsLong p.1.1)) (both long_in (both word_in long_in))
-    FitsBodyFacts (λ p. record { entry = p.0; need = p.1.0; tokens = p.1.1 }) (λ b. (b.entry, (b.need, b.tokens)))
-    (reads_both _ _ _ _ _ _ reads_long (reads_both _ _ _ _ _ _ reads_word reads_long)) (λ _. refl) (λ _. refl) (λ _ h. record { entry = h.0; need = h.1.0; tokens = h.1.1 }) (λ _ h. (h.entry, (h.need, h.tokens)))
+reads_body_facts = reads_fields (reads_both _ _ _ _ _ _ reads_long (reads_both _ _ _ _ _ _ reads_word reads_long)) FitsBodyFacts
+    (λ p. record { entry = p.0; need = p.1.0; tokens = p.1.1 }) (λ b. (b.entry, (b.need, b.tokens))) (λ _. refl) (λ _. refl)
+    (λ _ h. record { entry = h.0; need = h.1.0; tokens = h.1.1 }) (λ _ h. (h.entry, (h.need, h.tokens)))
 
 pub reads_statement : Reads statement_bytes FitsStatement statement_in
 reads_statement =

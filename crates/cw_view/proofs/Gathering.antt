@@ -1,8 +1,8 @@
 -- So many fields, gathered one after another.
 use Rattle.std.proofs.Common.{◌≡◌, ℕ, suc, ◌-◌, ◌+◌, ◌≤◌, ◌<◌, List, [], ◌∷◌, ◌++◌, Option, Some, None, refl, sym, ap, ◌∙◌, append_assoc, arith}
 use Rattle.std.proofs.lemmas.List.{append-nil}
-use Rattle.cw_view.specs.declared.fault.DescFault.{DescFault}
-use Rattle.cw_view.specs.declared.fault.DescFault.TheVariants.{NotDesc, NoMemory}
+use Rattle.cw_view.specs.declared.building.DescFault.{DescFault}
+use Rattle.cw_view.specs.declared.building.DescFault.TheVariants.{NotDesc, NoMemory}
 use Rattle.cw_fields.specs.Fields.{Reader, ◌>>=◌, counted, text_in}
 use Rattle.cw_view.specs.Views.{BuiltOr}
 use Rattle.cw_fields.specs.Names.{is_name, named, name_in}

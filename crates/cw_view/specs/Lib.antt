@@ -4,4 +4,5 @@ pub mod Views
 pub mod ObjectFormat
 pub mod Fronts
 pub mod Splitting
+pub mod Values
 pub mod Uniqueness

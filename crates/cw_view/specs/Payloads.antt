@@ -166,11 +166,7 @@ pub record ItemEntry : Type 0 where
   pub words : ℕ
 
 abbrev pub item_kind_number : ItemKind → ℕ
-item_kind_number Single = 0
-item_kind_number Array = 1
-item_kind_number Table = 2
-item_kind_number Text = 3
-item_kind_number Loop = 4
+item_kind_number kind = elim kind [ Single ↦ 0 | Array ↦ 1 | Table ↦ 2 | Text ↦ 3 | Loop ↦ 4 ]
 
 abbrev pub item_bytes : ItemEntry → List ℕ
 item_bytes i =

@@ -1,8 +1,8 @@
 -- What the code's values stand for.
 use Rattle.cw_unit.specs.declared.layout.ItemView.{ItemView}
 use Rattle.std.specs.Prelude.{◌≡◌, ℕ, Option, Some, None, Result, Ok, Err}
-use Rattle.cw_view.specs.declared.fault.DescFault.{DescFault}
-use Rattle.cw_view.specs.declared.fault.DescFault.TheVariants.{NotDesc, NoMemory}
+use Rattle.cw_view.specs.declared.building.DescFault.{DescFault}
+use Rattle.cw_view.specs.declared.building.DescFault.TheVariants.{NotDesc, NoMemory}
 use Rattle.cw_unit.specs.declared.descriptor.Desc.{Desc}
 use Rattle.cw_unit.specs.declared.descriptor.Spec.{Spec}
 use Rattle.cw_unit.specs.declared.descriptor.SpecParam.{SpecParam, roll-SpecParam}

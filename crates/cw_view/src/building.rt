@@ -1,17 +1,36 @@
 //! Descriptors as they are read.
-ghost use Rattle.std.specs.Prelude.{◌≡◌};
+ghost use Rattle.std.specs.Prelude.{◌≡◌, drop, IfOk};
 ghost use Rattle.cw_fields.specs.Fields.{Gives, counted, optional_in, whole};
 ghost use Rattle.cw_fields.specs.Names.{name_in};
 ghost use Rattle.cw_view.specs.Reading.{scale_in, plain_parameter_in, parameter_in, spec_in, bounds_in};
 ghost use Rattle.cw_view.specs.Reading.{dimensions_in, element_in, body_in, listed_in, descriptor_in};
+ghost use Rattle.cw_view.specs.Splitting.{payloads_in};
+ghost use Rattle.cw_view.specs.Values.{values_in};
 ghost use Rattle.cw_view.specs.Views.{proc_of, Builds};
+ghost use Rattle.cw_view.specs.declared.building.DescFault.TheVariants as faults;
 
 use crate::descriptor::overlay_in;
-use crate::fault::DescFault;
+use crate::view::View;
 use cw_fields::{byte_in, flag_in, name_in, named, signed_in, word_in};
 use cw_unit::descriptor::{Desc, DescBody, ElemDesc, Scale, Spec, SpecParam};
-use cw_word::List;
+use cw_word::{List, NoMemory};
 use std::alloc::Global;
+
+/// Why a payload gave no descriptor.
+#[derive(Clone, Copy, Debug, PartialEq, Eq)]
+pub enum DescFault {
+    /// It is not of the form.
+    NotDesc,
+    NoMemory,
+}
+
+impl From<NoMemory> for DescFault {
+    ghost from_gives = { λ _ fault. fault ≡ faults.NoMemory };
+
+    fn from(_: NoMemory) -> DescFault {
+        DescFault::NoMemory
+    }
+}
 
 #[tactic(auto, unfolding(crate::specs::Reading::scale_in))]
 pub(crate) fn scale_in(bytes: &[u8]) -> Option<(Scale, &[u8])>
@@ -129,7 +148,7 @@ fn spec_in(alloc: Global, bytes: &[u8]) -> Result<(Spec, &[u8]), DescFault>
     Ok((Spec { answer, params }, rest))
 }
 
-fn bounds_in(bytes: &[u8]) -> Option<((i16, i16), &[u8])>
+pub(crate) fn bounds_in(bytes: &[u8]) -> Option<((i16, i16), &[u8])>
     ensures { Gives (λ x. (x.0, x.1.now)) result (bounds_in bytes.now) }
 {
     let (lower, rest) = signed_in(bytes)?;
@@ -173,7 +192,7 @@ fn array_in(alloc: Global, bytes: &[u8]) -> Result<(DescBody, &[u8]), DescFault>
     Ok((DescBody::Array { scale, dims }, rest))
 }
 
-fn element_in(bytes: &[u8]) -> Option<(ElemDesc, &[u8])>
+pub(crate) fn element_in(bytes: &[u8]) -> Option<(ElemDesc, &[u8])>
     ensures { Gives (λ x. (x.0, x.1.now)) result (element_in bytes.now) }
 {
     let (text, rest) = name_in(bytes)?;
@@ -309,4 +328,19 @@ pub fn read_desc(alloc: Global, payload: &[u8]) -> Result<Desc, DescFault>
         }),
         None => unreachable!(),
     }
+}
+
+/// The descriptors that an object lists.
+pub fn descriptors_of(alloc: Global, view: &View) -> Result<List<Desc>, NoMemory>
+    ensures { IfOk result (λ descs. descs ≡ values_in descriptor_in (payloads_in 2 (drop 6 view.now.bytes.now))) }
+{
+    let mut descs = List::new(alloc);
+    for payload in view.records(2) {
+        match read_desc(alloc, payload) {
+            Ok(desc) => descs.push(desc)?,
+            Err(DescFault::NotDesc) => {}
+            Err(DescFault::NoMemory) => return Err(NoMemory),
+        }
+    }
+    Ok(descs)
 }

@@ -5,14 +5,13 @@ ghost use Rattle.cw_view.specs.Reading.{scale_in, plain_parameter_of, plain_para
 ghost use Rattle.cw_view.specs.Reading.{bounds_in, dimensions_in, element_in, elements_in, body_in, overlay_in, descriptor_in};
 ghost use Rattle.cw_view.specs.Views.{base_of};
 
-use cw_fields::{byte_in, flag_in, name_in, signed_in, word_in};
+use crate::building::{bounds_in, element_in, scale_in};
+use cw_fields::{byte_in, flag_in, name_in, word_in};
 
-#[tactic(auto, unfolding(crate::specs::Reading::scale_in))]
 fn after_scale(bytes: &[u8]) -> Option<&[u8]>
     ensures { GivesRest (λ r. r.now) result (scale_in bytes.now) }
 {
-    let (_, rest) = byte_in(bytes)?;
-    let (_, rest) = byte_in(rest)?;
+    let (_, rest) = scale_in(bytes)?;
     Some(rest)
 }
 
@@ -98,8 +97,7 @@ fn after_spec(bytes: &[u8]) -> Option<&[u8]>
 fn after_bounds(bytes: &[u8]) -> Option<&[u8]>
     ensures { GivesRest (λ r. r.now) result (bounds_in bytes.now) }
 {
-    let (_, rest) = signed_in(bytes)?;
-    let (_, rest) = signed_in(rest)?;
+    let (_, rest) = bounds_in(bytes)?;
     Some(rest)
 }
 
@@ -127,16 +125,10 @@ fn after_dimensions(bytes: &[u8]) -> Option<&[u8]>
 fn after_element(bytes: &[u8]) -> Option<&[u8]>
     ensures { GivesRest (λ r. r.now) result (element_in bytes.now) }
 {
-    let (_, rest) = name_in(bytes)?;
-    let (form, rest) = byte_in(rest)?;
-    let (_, rest) = byte_in(rest)?;
-    let (_, rest) = byte_in(rest)?;
-    let (_, rest) = word_in(rest)?;
-    let (_, rest) = byte_in(rest)?;
-    if form > 2 {
-        return None;
+    match element_in(bytes) {
+        Some((_, rest)) => Some(rest),
+        None => None,
     }
-    Some(rest)
 }
 
 #[tactic(auto, using(crate::proofs::Counting::counting))]

@@ -1,8 +1,4 @@
 //! Why bytes are no object.
-ghost use Rattle.cw_view.specs.declared.fault.DescFault.TheVariants as faults;
-ghost use Rattle.std.specs.Prelude.{◌≡◌};
-
-use cw_word::NoMemory;
 use std::fmt;
 use thiserror::Error;
 
@@ -24,20 +20,4 @@ pub enum ObjFault {
     /// Bytes follow the last record.
     #[error("Trailing")]
     Trailing { at: u64 },
-}
-
-/// Why a payload gave no descriptor.
-#[derive(Clone, Copy, Debug, PartialEq, Eq)]
-pub enum DescFault {
-    /// It is not of the form.
-    NotDesc,
-    NoMemory,
-}
-
-impl From<NoMemory> for DescFault {
-    ghost from_gives = { λ _ fault. fault ≡ faults.NoMemory };
-
-    fn from(_: NoMemory) -> DescFault {
-        DescFault::NoMemory
-    }
 }

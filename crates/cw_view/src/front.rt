@@ -29,13 +29,13 @@ pub(crate) const END: u8 = 255;
 /// there are, where the records of families stand and how many there are, and where the code is.
 #[derive(Clone, Copy)]
 pub(crate) struct Front {
-    pub(crate) kind: u8,
-    pub(crate) number: u32,
-    pub(crate) descriptors: usize,
-    pub(crate) families: usize,
-    pub(crate) families_at: usize,
-    pub(crate) code_at: usize,
-    pub(crate) code_len: usize,
+    pub kind: u8,
+    pub number: u32,
+    pub descriptors: usize,
+    pub families: usize,
+    pub families_at: usize,
+    pub code_at: usize,
+    pub code_len: usize,
 }
 
 /// Whether a record of a kind may come behind one of another, and 0 is none.
@@ -186,10 +186,7 @@ impl Front {
         ensures { Gives (λ n. n) result (numbered (next_record (facts_at bytes.now self.now) 1 payload.now)) }
     {
         let (_, rest) = name_in(payload)?;
-        if !rest.is_empty() {
-            return None;
-        }
-        Some(0)
+        rest.is_empty().then_some(0)
     }
 
     fn next_descriptor(&self, bytes: &[u8], payload: &[u8]) -> Option<u32>
@@ -208,10 +205,7 @@ impl Front {
         ensures { Gives (λ n. n) result (numbered (next_record (facts_at bytes.now self.now) 3 payload.now)) }
     {
         let family = read_family(payload)?;
-        if !is_placed(self.descriptors, family.sort, family.extent) {
-            return None;
-        }
-        Some(0)
+        is_placed(self.descriptors, family.sort, family.extent).then_some(0)
     }
 
     fn next_item(&self, bytes: &[u8], payload: &[u8]) -> Option<u32>
@@ -219,13 +213,9 @@ impl Front {
         ensures { Gives (λ n. n) result (numbered (next_record (facts_at bytes.now self.now) 4 payload.now)) }
     {
         let item = read_item(payload)?;
-        if !is_named(&item) {
-            return None;
-        }
-        if !has_words(item.offset, item.words, self.family(bytes, item.family)) {
-            return None;
-        }
-        Some(0)
+        let fits = is_named(&item)
+            && has_words(item.offset, item.words, self.family(bytes, item.family));
+        fits.then_some(0)
     }
 
     fn next_preset(&self, bytes: &[u8], payload: &[u8]) -> Option<u32>
@@ -233,10 +223,7 @@ impl Front {
         ensures { Gives (λ n. n) result (numbered (next_record (facts_at bytes.now self.now) 5 payload.now)) }
     {
         let preset = read_preset(payload)?;
-        if !has_preset(preset.offset, self.family(bytes, preset.family)) {
-            return None;
-        }
-        Some(0)
+        has_preset(preset.offset, self.family(bytes, preset.family)).then_some(0)
     }
 
     fn next_relocation(&self, bytes: &[u8], payload: &[u8]) -> Option<u32>
@@ -245,10 +232,8 @@ impl Front {
         ensures { Gives (λ n. n) result (numbered (next_record (facts_at bytes.now self.now) 7 payload.now)) }
     {
         let relocation = read_reloc(payload)?;
-        if !self.allows_relocation(bytes, &relocation) {
-            return None;
-        }
-        Some(relocation.place)
+        self.allows_relocation(bytes, &relocation)
+            .then_some(relocation.place)
     }
 
     fn next_definition(&self, bytes: &[u8], payload: &[u8]) -> Option<u32>
@@ -256,10 +241,8 @@ impl Front {
         ensures { Gives (λ n. n) result (numbered (next_record (facts_at bytes.now self.now) 8 payload.now)) }
     {
         let (descriptor, place) = read_definition(payload)?;
-        if !self.allows_definition(bytes, descriptor, place) {
-            return None;
-        }
-        Some(u32::from(descriptor))
+        self.allows_definition(bytes, descriptor, place)
+            .then_some(u32::from(descriptor))
     }
 
     fn next_body(&self, bytes: &[u8], payload: &[u8]) -> Option<u32>
@@ -267,10 +250,7 @@ impl Front {
         ensures { Gives (λ n. n) result (numbered (next_record (facts_at bytes.now self.now) 9 payload.now)) }
     {
         let body = read_body(payload)?;
-        if (body.entry as usize) >= self.code_len {
-            return None;
-        }
-        Some(0)
+        ((body.entry as usize) < self.code_len).then_some(0)
     }
 
     fn next_statement(&self, bytes: &[u8], payload: &[u8]) -> Option<u32>
@@ -278,10 +258,7 @@ impl Front {
         ensures { Gives (λ n. n) result (numbered (next_record (facts_at bytes.now self.now) 10 payload.now)) }
     {
         let (place, line) = read_statement(payload)?;
-        if !self.allows_statement(bytes, place, line) {
-            return None;
-        }
-        Some(place)
+        self.allows_statement(bytes, place, line).then_some(place)
     }
 
     /// The number with which a record begins, 0 where it has none, where the record may come next.

@@ -10,8 +10,8 @@ mod payload;
 mod records;
 mod view;
 
-pub use building::read_desc;
-pub use fault::{DescFault, ObjFault};
+pub use building::{DescFault, descriptors_of, read_desc};
+pub use fault::ObjFault;
 pub use payload::{
     read_body, read_definition, read_family, read_item, read_preset, read_reloc, read_statement,
 };

@@ -1,5 +1,5 @@
 // The lines of the storage map that have an address.
-ghost use Rattle.std.specs.Prelude.{◌≡◌, ◌+◌, ◌++◌, All, OnOk, IfOk, slice_index, slice_get, flat_map};
+ghost use Rattle.std.specs.Prelude.{◌≡◌, ◌+◌, ◌++◌, All, OnOk, IfOk, slice_get, flat_map};
 ghost use Rattle.cw_unit.specs.Program.{is_frame_family};
 ghost use Rattle.cw_view.specs.ObjectFormat.{IsObject};
 ghost use Rattle.cw_view.specs.Reading.{family_in, item_in};
@@ -8,7 +8,7 @@ ghost use Rattle.cw_link.specs.Contents.{records_of};
 ghost use Rattle.cw_watch.specs.Watching.{owner_text, name_text, item_text, line_of, lines_from};
 
 use crate::opening::view_of;
-use cw_link::families_of;
+use cw_link::{families_of, number_at};
 use cw_list::{add, addresses, unnamed};
 use cw_unit::layout::{Family, ItemView, Map, Sort};
 use cw_view::{View, read_item};
@@ -32,15 +32,6 @@ fn is_frame(families: &[Family], family: u16) -> bool
             _ => false,
         },
         None => false,
-    }
-}
-
-fn home_of(homes: &[u16], family: u16) -> u16
-    ensures { result ≡ slice_index homes.now family }
-{
-    match homes.get(family as usize) {
-        Some(home) => *home,
-        None => 0,
     }
 }
 
@@ -98,7 +89,7 @@ fn add_line(
     let text = item_text(alloc, segment, item)?;
     lines.push(ItemLine {
         text,
-        address: u32::from(home_of(homes, item.family)) + u32::from(item.offset),
+        address: u32::from(number_at(homes, item.family)) + u32::from(item.offset),
         words: item.words,
     })
 }

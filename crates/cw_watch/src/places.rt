@@ -1,12 +1,9 @@
 // The places at which the statements of a line begin.
 ghost use Rattle.std.specs.Prelude.{◌≡◌, ◌+◌, ◌++◌, ◌≤◌, map, All, OnOk, IfOk};
-ghost use Rattle.cw_view.specs.ObjectFormat.{IsObject};
-ghost use Rattle.cw_view.specs.Reading.{statement_in};
-ghost use Rattle.cw_link.specs.Contents.{records_of};
-ghost use Rattle.cw_link.specs.LinkedImage.{linked_size};
+ghost use Rattle.cw_view.specs.{ObjectFormat.IsObject, Reading.statement_in};
+ghost use Rattle.cw_link.specs.{Contents.records_of, LinkedImage.linked_size};
 ghost use Rattle.cw_object.specs.ObjectContents.{contents_in};
-ghost use Rattle.cw_watch.specs.Rising.{RisesFrom};
-ghost use Rattle.cw_watch.specs.Watching.{places_at, segment_places, stop_places};
+ghost use Rattle.cw_watch.specs.{Rising.RisesFrom, Watching.places_at, Watching.segment_places, Watching.stop_places};
 
 use crate::opening::view_of;
 use cw_stop::Stop;

@@ -5,8 +5,7 @@ ghost use Rattle.cw_view.specs.ObjectFormat.{IsObject};
 ghost use Rattle.cw_place.specs.Placement.{IsLimits};
 ghost use Rattle.cw_link.specs.LinkedImage.{linked_size};
 ghost use Rattle.cw_object.specs.ObjectContents.{contents_in};
-ghost use Rattle.cw_watch.specs.Rising.{RisesFrom};
-ghost use Rattle.cw_watch.specs.Watching.{AnswersWatch};
+ghost use Rattle.cw_watch.specs.{Rising.RisesFrom, Watching.AnswersWatch};
 
 use crate::fault::WatchFault;
 use crate::finding::watched_words;

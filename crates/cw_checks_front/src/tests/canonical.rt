@@ -1,9 +1,6 @@
 //! Each row is a text, a bar, and its canonical text, by hand from the rules. In both `~` stands for a line feed. The canonical text has itself
 //! as its canonical text.
-use crate::tests::rows::with_lines;
-use cw_lex::{Token, lex};
-use cw_macro::{MOST_BYTES, expand};
-use cw_parse::parse;
+use crate::tests::rows::{parsed, with_lines};
 use cw_show::show;
 use cw_tree::segment::Raw;
 use std::alloc::{AllocError, Global};
@@ -58,27 +55,12 @@ fn is_shown(alloc: Global, raw: &Raw, wanted: &[u8]) -> bool {
     }
 }
 
-fn are_shown(alloc: Global, tokens: &[Token<'_>], wanted: &[u8]) -> bool {
-    if tokens.len() > 65535 {
-        return false;
-    }
-    match parse(alloc, tokens) {
-        Ok(raw) => is_shown(alloc, &raw, wanted),
-        Err(_) => wanted.is_empty(),
-    }
-}
-
-// Whether this is the canonical text of a text that has a tree.
+// Whether this is the canonical text of a text that has a tree, or there is none of one that has tokens alone.
 fn is_canonical(alloc: Global, text: &[u8], wanted: &[u8]) -> bool {
-    if text.len() > MOST_BYTES {
-        return false;
-    }
-    let Ok(tokens) = lex(alloc, text) else {
-        return false;
-    };
-    match expand(alloc, tokens.as_slice()) {
-        Ok(expanded) => are_shown(alloc, expanded.as_slice(), wanted),
-        Err(_) => false,
+    match parsed(alloc, text) {
+        Some(Ok(raw)) => is_shown(alloc, &raw, wanted),
+        Some(Err(_)) => wanted.is_empty(),
+        None => false,
     }
 }
 

@@ -1,5 +1,9 @@
 //! The texts of tables that have a row a line, and what is told of them.
 use cw_checks_rows::repeated;
+use cw_lex::{Token, lex};
+use cw_macro::{MOST_BYTES, expand};
+use cw_parse::{ParseFault, parse};
+use cw_tree::segment::Raw;
 use std::alloc::{AllocError, Global};
 
 /// What is left of what a row tells.
@@ -87,5 +91,26 @@ pub fn told_of(row: &str) -> &[u8] {
     match row.split_once('?') {
         Some((_, told)) => told.as_bytes(),
         None => b"",
+    }
+}
+
+fn parsed_tokens(alloc: Global, tokens: &[Token<'_>]) -> Option<Result<Raw, ParseFault>> {
+    if tokens.len() > 65535 {
+        return None;
+    }
+    Some(parse(alloc, tokens))
+}
+
+/// The tree of a text or the fault of its tokens, where it has tokens and not too many.
+pub fn parsed(alloc: Global, text: &[u8]) -> Option<Result<Raw, ParseFault>> {
+    if text.len() > MOST_BYTES {
+        return None;
+    }
+    let Ok(tokens) = lex(alloc, text) else {
+        return None;
+    };
+    match expand(alloc, tokens.as_slice()) {
+        Ok(expanded) => parsed_tokens(alloc, expanded.as_slice()),
+        Err(_) => None,
     }
 }

@@ -1,8 +1,7 @@
 //! Each row is how often the parts between bars stand, a blank, a text, a question mark, and `ok` with the number of its tokens,
 //! or its fault: `S1 token line` for Syntax, `S2 token line` for NestTooDeep, `S3 line` for LeftOut.
-use cw_lex::{Token, lex};
-use cw_macro::{MOST_BYTES, expand};
-use cw_parse::{ParseFault, parse};
+use crate::tests::rows::parsed;
+use cw_parse::ParseFault;
 use std::alloc::{AllocError, Global};
 use std::test::Fail;
 
@@ -136,31 +135,14 @@ fn is_told(told: &str, code: &str, numbers: &[u32]) -> bool {
     words.next().is_none()
 }
 
-// Whether what is told comes of tokens.
-fn tokens_come(alloc: Global, tokens: &[Token<'_>], told: &str) -> bool {
-    if tokens.len() > 65535 {
-        return false;
-    }
-    match parse(alloc, tokens) {
-        Ok(raw) => is_told(told, "ok", &[raw.tokens]),
-        Err(ParseFault::Syntax { token, line }) => is_told(told, "S1", &[token, line]),
-        Err(ParseFault::NestTooDeep { token, line }) => is_told(told, "S2", &[token, line]),
-        Err(ParseFault::LeftOut { line, .. }) => is_told(told, "S3", &[line]),
-        Err(ParseFault::NoMemory) => false,
-    }
-}
-
-// Whether it comes of a text.
+// Whether what is told comes of a text.
 fn comes(alloc: Global, text: &[u8], told: &str) -> bool {
-    if text.len() > MOST_BYTES {
-        return false;
-    }
-    let Ok(tokens) = lex(alloc, text) else {
-        return false;
-    };
-    match expand(alloc, tokens.as_slice()) {
-        Ok(expanded) => tokens_come(alloc, expanded.as_slice(), told),
-        Err(_) => false,
+    match parsed(alloc, text) {
+        Some(Ok(raw)) => is_told(told, "ok", &[raw.tokens]),
+        Some(Err(ParseFault::Syntax { token, line })) => is_told(told, "S1", &[token, line]),
+        Some(Err(ParseFault::NestTooDeep { token, line })) => is_told(told, "S2", &[token, line]),
+        Some(Err(ParseFault::LeftOut { line, .. })) => is_told(told, "S3", &[line]),
+        Some(Err(ParseFault::NoMemory)) | None => false,
     }
 }
 

@@ -8,7 +8,7 @@ use Rattle.cw_place.proofs.place.Goals as goal
 
 pub place_all-requires-clause-spans : goal.place_all-requires-clause-spans
 place_all-requires-clause-spans c =
-    swept_for c.args.agreed.now c.args.spaces.now c.in_ok-spans.spans.items c.as_slice.result.now c.as_slice.ensures.value c.in_ok-spans.ensures.swept c.in_ok-spans.ensures.each c.in_ok-spans.ensures.fits
+    swept_for c.args.agreed.now c.args.spaces.now c.in_ok-spans.spans.items c.as_slice-absolute.result.now c.as_slice-absolute.ensures.value c.in_ok-spans.ensures.swept c.in_ok-spans.ensures.each c.in_ok-spans.ensures.fits
 
 pub returns : goal.returns
 returns c =

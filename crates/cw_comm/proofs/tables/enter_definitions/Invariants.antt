@@ -8,6 +8,6 @@ use Rattle.cw_comm.proofs.tables.enter_definitions.Given as goal
 abbrev pub invariant-loop-n : goal.invariant-loop-n
 invariant-loop-n l = record {
   count : length l.table.items ≡ length l.fn.table.items;
-  told : (k : ℕ) (f : Face) → k < length l.names → slice_get l.segments l.segment ≡ Some f
-      → slice_index_or l.table.items k None ≡ defined_in l.segment (defines (name_at l.names k) f.descs (drop l.n f.defined)) (slice_index_or l.fn.table.items k None);
+  told : (k : ℕ) (f : Face) → k < length l.listed.names.now → slice_get l.listed.segments.now l.segment ≡ Some f
+      → slice_index_or l.table.items k None ≡ defined_in l.segment (defines (name_at l.listed.names.now k) f.descs (drop l.n f.defined)) (slice_index_or l.fn.table.items k None);
 }

@@ -22,5 +22,5 @@ loop-segment-preserved c =
     record {
       end = next_end views g c.loop-segment.start _ view _ lt is end c.loop-segment.invariant.end;
       filled = next_code views c.args.limits.now _ c.loop-segment.code.items c.relocate.new.image.items g c.loop-segment.start _ view _ lt is end c.relocate.ensures
-          (links_are _ (links_at (map contents_of views) g c.loop-segment.start (contents_of view) rest) (c.homes_of.ensures ∙ ap (λ hs. get_or hs g []) c.requires.homes) (c.homes_of-in-loop-segment.ensures ∙ c.requires.definitions g (contents_of view) (contents_at views g view lt is)) refl refl (c.next_entry.ensures ∙ ap (λ e. next_entry e rest) end)) c.loop-segment.invariant.filled;
+          (links_are _ (links_at (map contents_of views) g c.loop-segment.start (contents_of view) rest) (c.list_at.ensures ∙ ap (λ hs. get_or hs g []) c.requires.homes) (c.list_at-in-loop-segment.ensures ∙ c.requires.definitions g (contents_of view) (contents_at views g view lt is)) refl refl (c.next_entry.ensures ∙ ap (λ e. next_entry e rest) end)) c.loop-segment.invariant.filled;
     }

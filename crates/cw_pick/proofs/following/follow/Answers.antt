@@ -8,8 +8,8 @@ use Rattle.cw_pick.proofs.following.follow.Goals as goal
 pub loop-member-preserved : goal.loop-member-preserved
 loop-member-preserved c =
     let lead : ℕ → ℕ → Bool = λ j k. is_asked c.args.index.now (lists_at c.args.members.now j) k in
-    let mid : Work = record { picked = c.loop-member.work.picked; todo = c.pop.new.self } in
+    let mid : Work = record { picked = c.loop-member.state.work.picked; todo = c.pop.new.self } in
     record {
       keeps = c.in_ok-want_of.ensures.keeps;
-      following = next lead c.args.work.now c.loop-member.work mid c.want_of.new.work c.in-Some.member refl c.in-Some.ensures.items c.in_ok-want_of.ensures.marks c.loop-member.invariant.following;
+      following = next lead c.args.state.now.work c.loop-member.state.work mid c.want_of.new.state.work c.in-Some.member refl c.in-Some.ensures.items c.in_ok-want_of.ensures.marks c.loop-member.invariant.following;
     }

@@ -5,9 +5,9 @@ use Rattle.cw_pick.proofs.following.follow.Given as goal
 
 abbrev pub invariant-loop-member : goal.invariant-loop-member
 invariant-loop-member l = record {
-  keeps : Keeps l.index l.asked.items l.work;
-  following : IsFollowing (λ j k. is_asked l.index (lists_at l.members j) k) l.initial.work l.work;
+  keeps : Keeps l.index l.state.asked.items l.state.work;
+  following : IsFollowing (λ j k. is_asked l.index (lists_at l.members j) k) l.initial.state.work l.state.work;
 }
 
 abbrev pub decreases-loop-member : goal.decreases-loop-member
-decreases-loop-member l = left l.work
+decreases-loop-member l = left l.state.work

@@ -12,10 +12,10 @@ returns-in-Some-clause-marks c =
     let keys = c.args.index.now.names.keys in
     let lists = c.args.index.now.definers.items in
     let is : definers c.args.index.now c.args.name ≡ get_or lists c.in-Some.number [] = list_at keys lists c.args.name c.in-Some.number c.requires.lists (found_first c.args.name keys c.in-Some.number c.in-Some.ensures.index) in
-    subst (λ (l : List ℕ). OnOk c.ask.result (Marks (is_in l) c.args.work.now c.ask.new.work)) (sym is) c.ask.ensures.marks
+    subst (λ (l : List ℕ). OnOk c.ask.result (Marks (is_in l) c.args.state.now.work c.ask.new.state.work)) (sym is) c.ask.ensures.marks
 
 pub returns-in-None-clause-marks : goal.returns-in-None-clause-marks
 returns-in-None-clause-marks c =
     let keys = c.args.index.now.names.keys in
     let is : definers c.args.index.now c.args.name ≡ [] = no_list keys c.args.index.now.definers.items c.args.name (sym c.in-None.ensures.found) in
-    none (is_in (definers c.args.index.now c.args.name)) c.args.work.now (λ k lt h. absurd (false≢true (sym (ap (λ (l : List ℕ). is_in l k) is) ∙ h)))
+    none (is_in (definers c.args.index.now c.args.name)) c.args.state.now.work (λ k lt h. absurd (false≢true (sym (ap (λ (l : List ℕ). is_in l k) is) ∙ h)))

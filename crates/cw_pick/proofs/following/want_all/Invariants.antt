@@ -4,6 +4,6 @@ use Rattle.cw_pick.proofs.following.want_all.Given as goal
 
 abbrev pub invariant-loop-name : goal.invariant-loop-name
 invariant-loop-name l = record {
-  keeps : Keeps l.index l.asked.items l.work;
-  marks : Marks (is_asked l.index (take l.name-index l.names)) l.initial.work l.work;
+  keeps : Keeps l.index l.state.asked.items l.state.work;
+  marks : Marks (is_asked l.index (take l.name-index l.names)) l.initial.state.work l.state.work;
 }

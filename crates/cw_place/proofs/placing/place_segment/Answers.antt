@@ -30,7 +30,7 @@ returns-clause-placed c =
     let found : slice_get spaces g ≡ Some t = slice_get_read spaces (length spaces) g t (search rules) c.requires.segment c.index-spaces-segment.is in
     let count = ap length (c.as_slice-count.ensures ∙ ap (λ (x : Space). x.families) (get_or_from_slice_get spaces g t t found)) in
     let all : length t.families ≤ c.loop-number.number = omega (arith, count, c.loop-number-test.false) in
-    subst (λ ps. HasPlaced c.args.agreed.now c.args.spans.now ps c.loop-number.placing) (all_placed c.args.agreed.now spaces g c.loop-number.number t found all) c.loop-number.invariant.placed
+    subst (λ ps. HasPlaced c.args.agreed.now c.args.room.now.spans.now ps c.loop-number.placing) (all_placed c.args.agreed.now spaces g c.loop-number.number t found all) c.loop-number.invariant.placed
 
 pub returns-clause-homes : goal.returns-clause-homes
 returns-clause-homes c = λ s is.

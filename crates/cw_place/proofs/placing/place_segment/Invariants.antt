@@ -7,6 +7,6 @@ use Rattle.cw_place.proofs.placing.place_segment.Given as goal
 
 abbrev pub invariant-loop-number : goal.invariant-loop-number
 invariant-loop-number l = record {
-  placed : HasPlaced l.agreed l.spans (placed_before l.agreed l.spaces l.segment l.number) l.placing;
+  placed : HasPlaced l.agreed l.room.spans.now (placed_before l.agreed l.spaces l.segment l.number) l.placing;
   homes : (s : Space) → slice_get l.spaces l.segment ≡ Some s → l.homes ≡ addresses_from (told (placed_before l.agreed l.spaces l.segment l.number)) l.segment (names_of l.agreed l.segment) 0 (take l.number s.families);
 }
