@@ -1,28 +1,14 @@
 //! What is so of built units, and of orders that have code: laws that need only the definitions.
 ghost use Rattle.std.specs.Prelude.{◌≡◌, ◌≢◌, ◌⊎◌, ℕ, ◌<◌, ◌≤◌, List, [], length, All, IsTrue, Some, slice_get};
-ghost use Rattle.cw_unit.specs.declared.unit.Unit.{Unit as SourceUnit};
-ghost use Rattle.cw_unit.specs.declared.unit.Def.{Def};
-ghost use Rattle.cw_unit.specs.declared.unit.Goal.{Goal};
-ghost use Rattle.cw_unit.specs.declared.layout.Limits.{Limits};
-ghost use Rattle.cw_unit.specs.declared.layout.Map.{Map};
-ghost use Rattle.cw_unit.specs.HasLayout.{HasLayout};
-ghost use Rattle.cw_unit.specs.Program.{program_at};
+ghost use Rattle.cw_unit.specs.{declared.unit.Unit.Unit as SourceUnit, declared.unit.Def.Def, declared.unit.Goal.Goal, declared.layout.Limits.Limits, declared.layout.Map.Map};
+ghost use Rattle.cw_unit.specs.{HasLayout.HasLayout, Program.program_at};
 ghost use Rattle.cw_safety.specs.WellFormed.{WellFormed};
 ghost use Rattle.cw_comm.specs.Clashes.{Agree};
-ghost use Rattle.cw_order.specs.declared.order.Orders.{Orders};
-ghost use Rattle.cw_order.specs.declared.order.Order.{Order};
-ghost use Rattle.cw_order.specs.HasCode.{HasCode};
-ghost use Rattle.cw_order.specs.FittingWords.{LinesFit};
-ghost use Rattle.cw_order.specs.NamesAgree.{NamesAgree};
-ghost use Rattle.cw_order.specs.Activations.{Callable};
-ghost use Rattle.cw_order.specs.Sharing.{DefinitionsShared};
-ghost use Rattle.cw_order.specs.OrderProgram.{Tables, order_at, place_of};
+ghost use Rattle.cw_order.specs.{declared.order.Orders.Orders, declared.order.Order.Order, HasCode.HasCode, FittingWords.LinesFit, NamesAgree.NamesAgree, Activations.Callable};
+ghost use Rattle.cw_order.specs.{Sharing.DefinitionsShared, OrderProgram.Tables, OrderProgram.order_at, OrderProgram.place_of};
 ghost use Rattle.cw_gen_expr.specs.UnitTables.{tables_of};
-ghost use Rattle.cw_gen_unit.specs.ReferenceUnits.{unit_orders, orders_program};
-ghost use Rattle.cw_gen_unit.specs.BuiltUnits.{are_built};
-ghost use Rattle.cw_built.specs.Built.{is_built};
-ghost use Rattle.cw_built.specs.Shared.{faces_of, Defines};
-ghost use Rattle.cw_built.specs.Coded.{have_code, is_landing};
+ghost use Rattle.cw_gen_unit.specs.{ReferenceUnits.unit_orders, ReferenceUnits.orders_program, BuiltUnits.are_built};
+ghost use Rattle.cw_built.specs.{Built.is_built, Shared.faces_of, Shared.Defines, Coded.have_code, Coded.is_landing};
 
 /// Units that are built and agree are well formed together at every storage map and limits. Each of them has a layout, and what it defines in
 /// common with others is there.

@@ -7,7 +7,7 @@ use Rattle.cw_facts.specs.declared.fact.Fact.{Fact}
 use Rattle.cw_facts.specs.declared.fact.Signature.{Signature}
 use Rattle.cw_scope.specs.declared.resolve.Named.{Named}
 use Rattle.cw_scope.specs.Gathered.{Gathers}
-use Rattle.cw_type.specs.judge.Declared.{overlaid_judged, common_overlaid_judged}
+use Rattle.cw_type.specs.judge.Declarations.{overlaid_judged, common_overlaid_judged}
 use Rattle.cw_type.specs.judge.Judged.{first_type_fault}
 use Rattle.cw_make.specs.Procedures.{declaration_procs, form_procs, simple_procs, block_procs, procedure_procs, statement_procs}
 use Rattle.cw_make.specs.Made.{unit_of}

@@ -49,6 +49,14 @@ RunAnswers (ends.Divide offset n) limit s d s' d' =
     (n < limit) × Went n s d s' d' × Steps s' Divides × (offset ≡ s'.instruction_pointer)
 RunAnswers (ends.PortFault n) limit s d s' d' = (n < limit) × ((e : Device) × Went n s d s' e × PortFails s' e d')
 
+-- the events of the run that an answer tells of
+abbrev pub events_of : (end : RunEnd) (limit : ℕ) (s : State) (d : Device) (s' : State) (d' : Device) → RunAnswers end limit s d s' d' → List Event
+events_of ends.Limit limit s d s' d' went = went.events
+events_of (ends.Halted n) limit s d s' d' answer = answer.2.1.events
+events_of (ends.BadCode offset n) limit s d s' d' answer = answer.1.events
+events_of (ends.Divide offset n) limit s d s' d' answer = answer.1.events
+events_of (ends.PortFault n) limit s d s' d' answer = answer.1.1.events
+
 -- the faults that the ports count, before and after a run
 abbrev pub RunCounts : RunEnd → (before now : ℕ) → Type 0
 RunCounts (ends.PortFault n) before now = (before ≤ now) × Rose before now

@@ -178,11 +178,11 @@ fn judge_element(element: &RawElem, width: &Option<u64>, first: &mut Option<Faul
         }
         RawElem::Part {
             name,
-            unsigned: _,
             bits,
             scale,
             word,
             bit,
+            ..
         } => {
             judge_int(bits, first);
             judge_scale(scale, first);

@@ -303,14 +303,7 @@ fn element_room(element: &RawElem) -> Room
 {
     match element {
         RawElem::Word(..) => whole_word(),
-        RawElem::Part {
-            name: _,
-            unsigned,
-            bits,
-            scale: _,
-            word: _,
-            bit: _,
-        } => Room {
+        RawElem::Part { unsigned, bits, .. } => Room {
             unsigned: *unsigned,
             bits: bits_in(&place_amount(bits)),
         },

@@ -73,8 +73,13 @@ pub data Built : ℕ → Bool → (s : Sort) → Grammar s → Value s → List 
 abbrev pub Gives : ℕ → Bool → (s : Sort) → Grammar s → Type 0
 Gives n p s g = (x : Value s) (ns : List ℕ) → Built n p s g x ns → IsNormalWithin n p s x ns
 
+-- of two parts in a row, where what their normal forms make is in normal form
+pub in_a_row : {n : ℕ} {p : Bool} {s t w : Sort} {x : Value s} {y : Value t} {z : Value w} {u v : List ℕ} → IsNormalWithin n p s x u → IsNormalWithin n p t y v
+    → ((a b : List ℕ) → IsNormal n p s x a → IsNormal n p t y b → IsNormal n p w z (a ++ b)) → IsNormalWithin n p w z (u ++ v)
+in_a_row g k made = record { marks = g.marks ++ k.marks; within = join g.within k.within; normal = made g.marks k.marks g.normal k.normal }
+
 pub two : {n : ℕ} {p : Bool} {s t : Sort} {x : Value s} {y : Value t} {u v : List ℕ} → IsNormalWithin n p s x u → IsNormalWithin n p t y v → IsNormalWithin n p (a_pair s t) (x, y) (u ++ v)
-two a b = record { marks = a.marks ++ b.marks; within = join a.within b.within; normal = both a.normal b.normal }
+two a b = in_a_row a b (λ c d h k. both h k)
 
 pub some : {n : ℕ} {p : Bool} {s : Sort} {x : Value s} {u : List ℕ} → IsNormalWithin n p s x u → IsNormalWithin n p (an_option s) (Some x) u
 some a = record { marks = a.marks; within = a.within; normal = present a.normal }
@@ -86,7 +91,7 @@ pub no_items : {n : ℕ} {p : Bool} {s : Sort} (u : List ℕ) → IsNormalWithin
 no_items u = record { marks = []; within = none_within u; normal = no_more }
 
 pub items_more : {n : ℕ} {p : Bool} {s : Sort} {x : Value s} {xs : List (Value s)} {u v : List ℕ} → IsNormalWithin n p s x u → IsNormalWithin n p (a_list s) xs v → IsNormalWithin n p (a_list s) (x ∷ xs) (u ++ v)
-items_more a b = record { marks = a.marks ++ b.marks; within = join a.within b.within; normal = one_more a.normal b.normal }
+items_more a b = in_a_row a b (λ c d h k. one_more h k)
 
 -- with more marks around
 pub after : {n : ℕ} {p : Bool} {s : Sort} {x : Value s} {v : List ℕ} (u : List ℕ) → IsNormalWithin n p s x v → IsNormalWithin n p s x (u ++ v)
@@ -129,6 +134,12 @@ pub pairs_normal : {n : ℕ} {p : Bool} {s t : Sort} {g : Grammar s} {h : Gramma
 pairs_normal b_end f k = no_items []
 pairs_normal (b_more (b_then {u = u} {v = v} {x = x} {y = y} d e) r) f k = items_more (two (f x u d) (k y v e)) (pairs_normal r f k)
 
+-- an operand, and more of them behind operators
+pub operation_normal : {n : ℕ} {p : Bool} {s o t : Sort} {g : Grammar s} {h : Grammar o} {f : Value s × List (Value o × Value s) → Value t}
+    → ((x : Value s) (more : List (Value o × Value s)) (u v : List ℕ) → IsNormalWithin n p s x u → IsNormalWithin n p (a_list (a_pair o s)) more v → IsNormalWithin n p t (f (x, more)) (u ++ v))
+    → Gives n p s g → Gives n p o h → Gives n p t ((g · many (h · g)) ⇒ f)
+operation_normal made operand operator x ns (b_map (b_then {u = u} {v = v} {x = y} {y = more} d e)) = made y more u v (operand y u d) (pairs_normal e operator operand)
+
 pub one_item : {n : ℕ} {p : Bool} {s : Sort} {x : Value s} {u : List ℕ} → IsNormalWithin n p s x u → IsNormalWithin n p (a_list s) (x ∷ []) u
 one_item {u = u} k = record { marks = k.marks ++ []; within = subst (λ (z : List ℕ). Within z u) (sym (append-nil k.marks)) k.within; normal = one_more k.normal no_more }
 
@@ -138,7 +149,7 @@ cons_in {n = n} {p = p} {s = s} {t = t} {x = x} {a = a} h (both {x = xs} {y = o}
     subst (λ (z : List ℕ). IsNormal n p (a_pair (a_list s) t) (x ∷ xs, o) z) (append_assoc a b c) (both (one_more h k) l)
 
 pub cons_made : {n : ℕ} {p : Bool} {s t : Sort} {x : Value s} {y : List (Value s) × Value t} {u v : List ℕ} → IsNormalWithin n p s x u → IsNormalWithin n p (a_pair (a_list s) t) y v → IsNormalWithin n p (a_pair (a_list s) t) (x ∷ y.0, y.1) (u ++ v)
-cons_made h k = record { marks = h.marks ++ k.marks; within = join h.within k.within; normal = cons_in h.normal k.normal }
+cons_made h k = in_a_row h k (λ a b g l. cons_in g l)
 
 pub no_cons : {n : ℕ} {p : Bool} {s t : Sort} {y : Value t} {u : List ℕ} → IsNormalWithin n p t y u → IsNormalWithin n p (a_pair (a_list s) t) ([], y) u
 no_cons k = record { marks = k.marks; within = k.within; normal = both no_more k.normal }

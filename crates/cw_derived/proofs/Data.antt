@@ -23,7 +23,7 @@ use Rattle.cw_derived.specs.Marks.{mark, mark_behind, Within, empty, kept, skipp
 use Rattle.cw_derived.specs.NormalForm.{IsNormal, no_more, absent, present, both, is_literal, void, number_place, octal_place, literal_place, is_presets, is_range, is_bounds, is_group, word_elem, part_elem, is_table, single_data, array_data, table_data, name_base, one_base, two_base}
 use Rattle.cw_derived.specs.Proper.{IsNormalWithin}
 use Rattle.cw_derived.proofs.Withins.{join, front, beyond, twice, all_within}
-use Rattle.cw_derived.proofs.Built.{Gives, Built, Filled, filled, marks_of, b_one, b_none, b_then, b_left, b_right, b_map, b_again, after, some, cons_made, no_cons, no_items, one_item, before, two, optional_normal, second_normal, some_normal, round_normal, square_normal}
+use Rattle.cw_derived.proofs.Built.{Gives, Built, Filled, filled, marks_of, b_one, b_none, b_then, b_left, b_right, b_map, b_again, after, some, cons_made, no_cons, no_items, one_item, before, two, optional_normal, second_normal, some_normal, round_normal, square_normal, in_a_row}
 use Rattle.cw_derived.proofs.Leaves.{name_normal, number_normal, octal_normal, int_normal, sign_normal, sint_normal, type_normal, size_normal}
 use Rattle.cw_derived.proofs.Operands.{appended}
 
@@ -31,14 +31,8 @@ use Rattle.cw_derived.proofs.Operands.{appended}
 
 value_normal : {n : ℕ} {p : Bool} → Gives n p a_place preset_value
 unfolding preset_value
-value_normal x ns (b_map (b_then o (b_left (b_map d)))) =
-    let s = optional_normal sign_normal o in
-    let k = number_normal _ _ d in
-    record { marks = s.marks ++ k.marks; within = join s.within k.within; normal = number_place s.normal k.normal }
-value_normal x ns (b_map (b_then o (b_right (b_left (b_map d))))) =
-    let s = optional_normal sign_normal o in
-    let k = octal_normal _ _ d in
-    record { marks = s.marks ++ k.marks; within = join s.within k.within; normal = octal_place s.normal k.normal }
+value_normal x ns (b_map (b_then o (b_left (b_map d)))) = in_a_row (optional_normal sign_normal o) (number_normal _ _ d) (λ a b h k. number_place h k)
+value_normal x ns (b_map (b_then o (b_right (b_left (b_map d))))) = in_a_row (optional_normal sign_normal o) (octal_normal _ _ d) (λ a b h k. octal_place h k)
 value_normal x ns (b_map (b_then o (b_right (b_right (b_map (b_one {t = t} e)))))) =
     let s = optional_normal sign_normal o in
     record { marks = s.marks ++ mark (position t) ∷ []; within = join s.within (kept (skipped empty)); normal = literal_place s.normal (is_literal (raw_literal t)) }
@@ -50,7 +44,7 @@ filled_list : {n : ℕ} {p : Bool} {s : Sort} {xs : List (Value s)} {a : List �
 filled_list (filled k) = k
 
 filled_more : {n : ℕ} {p : Bool} {s : Sort} {xs ys : List (Value s)} {a b : List ℕ} → Filled n p s xs a → IsNormalWithin n p (a_list s) ys b → Filled n p s (xs ++ ys) (a ++ b)
-filled_more (filled k) m = filled (record { marks = k.marks ++ m.marks; within = join k.within m.within; normal = appended k.normal m.normal })
+filled_more (filled k) m = filled (in_a_row k m (λ a b g l. appended g l))
 
 place_fine : {n : ℕ} {p : Bool} {f : Position → List RawPlace} {ns : List ℕ} → Built n p (a_from a_position (a_list a_place)) place f ns → (at : Position) → Filled n p a_place (f at) (mark_behind at ∷ ns)
 unfolding place
@@ -82,24 +76,15 @@ preset_normal x ns (b_map (b_then (b_one {t = t} e) (b_again h))) = presets_of (
 
 pub range_normal : {n : ℕ} {p : Bool} → Gives n p a_range range
 unfolding range
-range_normal x ns (b_map (b_then d e)) =
-    let g = sint_normal _ _ d in
-    let k = second_normal sint_normal e in
-    record { marks = g.marks ++ k.marks; within = join g.within k.within; normal = is_range g.normal k.normal }
+range_normal x ns (b_map (b_then d e)) = in_a_row (sint_normal _ _ d) (second_normal sint_normal e) (λ a b h k. is_range h k)
 
 pub bounds_normal : {n : ℕ} {p : Bool} → Gives n p a_bounds bounds
 unfolding bounds
-bounds_normal x ns (b_map (b_then d e)) =
-    let g = range_normal _ _ d in
-    let k = optional_normal (λ y ms b. second_normal range_normal b) e in
-    record { marks = g.marks ++ k.marks; within = join g.within k.within; normal = is_bounds g.normal k.normal }
+bounds_normal x ns (b_map (b_then d e)) = in_a_row (range_normal _ _ d) (optional_normal (λ y ms b. second_normal range_normal b) e) (λ a b h k. is_bounds h k)
 
 pub group_normal : {n : ℕ} {p : Bool} → Gives n p a_group group
 unfolding group
-group_normal x ns (b_map (b_then (b_map (b_then d e)) i)) =
-    let g = some_normal name_normal d e in
-    let k = square_normal bounds_normal _ _ i in
-    record { marks = g.marks ++ k.marks; within = join g.within k.within; normal = is_group g.normal k.normal }
+group_normal x ns (b_map (b_then (b_map (b_then d e)) i)) = in_a_row (some_normal name_normal d e) (square_normal bounds_normal _ _ i) (λ a b h k. is_group h k)
 
 part_in : {n : ℕ} {p : Bool} {f : RawName} (u : Bool) {y : RawInt × RawSint} {w i : RawInt} {a b d e : List ℕ} → IsNormal n p a_name f a → IsNormal n p (a_pair an_int a_sint) y b → IsNormal n p an_int w d → IsNormal n p an_int i e
     → IsNormal n p an_elem (elem_tree.Part f u y.0 y.1 w i) (a ++ (b ++ (d ++ e)))
@@ -202,10 +187,7 @@ indexes_normal x ns (b_map (b_then {u = u} o (b_map (b_then {v = v} (b_then d e)
 
 pub base_normal : {n : ℕ} {p : Bool} → Gives n p a_base base
 unfolding base
-base_normal x ns (b_map (b_then d o)) =
-    let g = name_normal _ _ d in
-    let k = optional_normal indexes_normal o in
-    record { marks = g.marks ++ k.marks; within = join g.within k.within; normal = base_in g.normal k.normal }
+base_normal x ns (b_map (b_then d o)) = in_a_row (name_normal _ _ d) (optional_normal indexes_normal o) (λ a b h k. base_in h k)
 
 -- OVERLAY, its base and its data
 pub data Overlaid (n : ℕ) (p : Bool) : Item × (RawBase × RawData) → List ℕ → Type 0 where

@@ -15,7 +15,7 @@ use Rattle.cw_derived.specs.Marks.{mark, empty, kept, skipped}
 use Rattle.cw_derived.specs.NormalForm.{IsNormal, absent, present, both, is_literal, number as a_number_alone, octal as an_octal_alone, literal, string, location, forced, bracket, referred, call, named as named_ref, one_index, two_indexes, bare, is_cmp, is_cand, is_cond, choice}
 use Rattle.cw_derived.specs.Proper.{IsNormalWithin}
 use Rattle.cw_derived.proofs.Withins.{join}
-use Rattle.cw_derived.proofs.Built.{Gives, marks_of, filled, b_one, b_none, b_then, b_left, b_right, b_map, b_opens, before, pairs_normal, many_normal, optional_normal}
+use Rattle.cw_derived.proofs.Built.{Gives, marks_of, filled, b_one, b_none, b_then, b_left, b_right, b_map, b_opens, before, pairs_normal, many_normal, optional_normal, in_a_row, operation_normal}
 use Rattle.cw_derived.proofs.Leaves.{name_normal, number_normal, octal_normal, sign_normal, factor_sign_normal, comparator_normal, operator_normal, type_normal, bits_normal}
 use Rattle.cw_derived.proofs.Operands.{mask_made, union_made, differ_made, term_made, sum_made, expr_made, prim_made}
 
@@ -81,21 +81,14 @@ prim_normal x ns (b_map (b_then d e)) = prim_made (many_normal bits_normal d) (p
 
 -- ---- operations
 
-mask_normal : {n : ℕ} {p : Bool} → Gives n p a_mask mask
-unfolding mask
-mask_normal x ns (b_map (b_then d e)) = mask_made (prim_normal _ _ d) (pairs_normal e operator_normal prim_normal)
-
-union_normal : {n : ℕ} {p : Bool} → Gives n p a_union union
-unfolding union
-union_normal x ns (b_map (b_then d e)) = union_made (mask_normal _ _ d) (pairs_normal e operator_normal mask_normal)
-
-differ_normal : {n : ℕ} {p : Bool} → Gives n p a_differ differ
-unfolding differ
-differ_normal x ns (b_map (b_then d e)) = differ_made (union_normal _ _ d) (pairs_normal e operator_normal union_normal)
-
+-- each over the one before it
 term_normal : {n : ℕ} {p : Bool} → Gives n p a_term term
-unfolding term
-term_normal x ns (b_map (b_then d e)) = term_made (differ_normal _ _ d) (pairs_normal e factor_sign_normal differ_normal)
+unfolding mask union differ term
+term_normal {n = n} {p = p} =
+    let masks : Gives n p a_mask mask = λ x ns d. operation_normal (λ y more u v h k. mask_made h k) prim_normal operator_normal x ns d in
+    let unions : Gives n p a_union union = λ x ns d. operation_normal (λ y more u v h k. union_made h k) masks operator_normal x ns d in
+    let differs : Gives n p a_differ differ = λ x ns d. operation_normal (λ y more u v h k. differ_made h k) unions operator_normal x ns d in
+    λ x ns d. operation_normal (λ y more u v h k. term_made h k) differs factor_sign_normal x ns d
 
 sum_normal : {n : ℕ} {p : Bool} → Gives n p a_sum sum
 unfolding sum
@@ -111,17 +104,11 @@ cmp_normal x ns (b_map (b_then d (b_then o e))) =
 
 cand_normal : {n : ℕ} {p : Bool} → Gives n p a_cand cand
 unfolding cand
-cand_normal x ns (b_map (b_then d e)) =
-    let g = cmp_normal _ _ d in
-    let k = pairs_normal e operator_normal cmp_normal in
-    record { marks = g.marks ++ k.marks; within = join g.within k.within; normal = is_cand g.normal k.normal }
+cand_normal x ns (b_map (b_then d e)) = in_a_row (cmp_normal _ _ d) (pairs_normal e operator_normal cmp_normal) (λ a b h k. is_cand h k)
 
 pub condition_normal : {n : ℕ} {p : Bool} → Gives n p a_cond condition
 unfolding condition
-condition_normal x ns (b_map (b_then d e)) =
-    let g = cand_normal _ _ d in
-    let k = pairs_normal e operator_normal cand_normal in
-    record { marks = g.marks ++ k.marks; within = join g.within k.within; normal = is_cond g.normal k.normal }
+condition_normal x ns (b_map (b_then d e)) = in_a_row (cand_normal _ _ d) (pairs_normal e operator_normal cand_normal) (λ a b h k. is_cond h k)
 
 chosen : {n : ℕ} {p : Bool} (at : Position) {y : RawCond × (RawExpr × RawExpr)} {a : List ℕ} → IsNormal n p (a_pair a_cond (a_pair an_expr an_expr)) y a → IsNormal (suc n) p an_expr (expr_tree.Choice at y.0 y.1.0 y.1.1) (mark at ∷ a)
 chosen at (both h (both k l)) = choice at h k l

@@ -55,14 +55,5 @@ UnionLayer = RawUnion-F RawExpr RawPrimary RawRef RawCand RawCmp RawCond RawDiff
 
 -- what stands in the bracket, where the layer is one
 abbrev pub held : PrimaryLayer → Option RawExpr
-held y = elim y [
-  | layer.Number n ↦ None
-  | layer.Octal n ↦ None
-  | layer.Literal c ↦ None
-  | layer.Text at cs ↦ None
-  | layer.Location at r ↦ None
-  | layer.Forced t e ↦ None
-  | layer.Bracket at e ↦ Some e
-  | layer.Ref r ↦ None
-  | layer.Call f xs ↦ None
-]
+held (layer.Bracket at e) = Some e
+held _ = None

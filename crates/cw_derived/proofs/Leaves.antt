@@ -13,7 +13,7 @@ use Rattle.cw_grammar.proofs.Numbers.{part_small, few_places, part_fits}
 use Rattle.cw_derived.specs.Marks.{mark, empty, kept, skipped}
 use Rattle.cw_derived.specs.NormalForm.{is_position, is_name, is_number, is_octal, int_number, int_octal, is_sign, is_factor_sign, is_compare_sign, is_sint, is_size, integer, fixed, is_bits}
 use Rattle.cw_derived.proofs.Withins.{join, beyond}
-use Rattle.cw_derived.proofs.Built.{Gives, b_one, b_then, b_left, b_right, b_map, after, before, optional_normal}
+use Rattle.cw_derived.proofs.Built.{Gives, b_one, b_then, b_left, b_right, b_map, after, before, optional_normal, in_a_row}
 
 is_one : (w : List ℕ) → is_identifier (unwrap_or (identifier w) (65 ∷ [])) ≡ true
 is_one w =
@@ -66,10 +66,7 @@ operator_normal x ns (b_map (b_one {t = t} e)) = record { marks = mark (position
 
 pub sint_normal : {n : ℕ} {p : Bool} → Gives n p a_sint sint
 unfolding sint
-sint_normal x ns (b_map (b_then o d)) =
-    let s = optional_normal sign_normal o in
-    let k = int_normal _ _ d in
-    record { marks = s.marks ++ k.marks; within = join s.within k.within; normal = is_sint s.normal k.normal }
+sint_normal x ns (b_map (b_then o d)) = in_a_row (optional_normal sign_normal o) (int_normal _ _ d) (λ a b h k. is_sint h k)
 
 pub type_normal : {n : ℕ} {p : Bool} → Gives n p a_type number_type
 unfolding number_type

@@ -18,7 +18,7 @@ use Rattle.cw_derived.specs.Marks.{mark, empty, kept, skipped}
 use Rattle.cw_derived.specs.NormalForm.{procedure_tag, recursive_tag, value_ips, location_ips, array_ips, table_ips, label_ips, switch_ips, plain_ps, procedure_ps, is_spec, data_citem, overlay_citem, label_citem, switch_citem, spec_citem, single_aitem, array_aitem, table_aitem, is_common, is_library, is_absolute}
 use Rattle.cw_derived.specs.Proper.{IsNormalWithin}
 use Rattle.cw_derived.proofs.Withins.{join, front, beyond, none_within}
-use Rattle.cw_derived.proofs.Built.{Gives, Built, b_one, b_then, b_left, b_right, b_map, after, before, some, nothing, second_normal, some_normal, listed_normal, square_normal}
+use Rattle.cw_derived.proofs.Built.{Gives, Built, b_one, b_then, b_left, b_right, b_map, after, before, some, nothing, second_normal, some_normal, listed_normal, square_normal, in_a_row}
 use Rattle.cw_derived.proofs.Leaves.{name_normal, int_normal, type_normal, size_normal}
 use Rattle.cw_derived.proofs.Data.{bounds_normal, table_normal, data_table_normal, singles_made, arrays_made, Overlaid, overlaid, overlay_made}
 
@@ -115,9 +115,7 @@ typed_made g (b_right (b_map (b_map (b_then {u = w} a (b_then d b))))) m =
 unplaced_made : {n : ℕ} {p : Bool} {f : RawInt → RawAitem} {ns : List ℕ} {i : RawInt} {v : List ℕ} → Built n p (a_from an_int an_aitem) unplaced_aitem f ns → IsNormalWithin n p an_int i v → IsNormalWithin n p an_aitem (f i) (ns ++ v)
 unfolding unplaced_aitem
 unplaced_made (b_left (b_map (b_then t d))) m = typed_made (type_normal _ _ t) d m
-unplaced_made (b_right (b_map d)) m =
-    let k = table_normal _ _ d in
-    record { marks = k.marks ++ m.marks; within = join k.within m.within; normal = table_aitem k.normal m.normal }
+unplaced_made (b_right (b_map d)) m = in_a_row (table_normal _ _ d) m (λ a b h k. table_aitem h k)
 
 pub aitem_normal : {n : ℕ} {p : Bool} → Gives n p an_aitem aitem
 unfolding aitem

@@ -25,7 +25,7 @@ use Rattle.cw_derived.specs.Marks.{mark, Within, empty, kept, skipped}
 use Rattle.cw_derived.specs.NormalForm.{IsNormal, no_more, one_more, no_statement, assignment, bits_assignment, jump_to, jump_through, called_alone, called_with, is_answer, inner_block, is_stmt, simple_form, one_felem, while_felem, step_felem, data_decl, overlay_decl, switch_decl, proc_decl, value_param, location_param, array_param, table_param, label_param, switch_param, procedure_param, is_raw}
 use Rattle.cw_derived.specs.Proper.{IsNormalWithin}
 use Rattle.cw_derived.proofs.Withins.{all_within, join, twice, beyond}
-use Rattle.cw_derived.proofs.Built.{Gives, Built, filled, marks_of, b_one, b_none, b_then, b_left, b_right, b_map, b_opens, b_again, after, before, some, nothing, many_normal, second_normal, first_normal, some_normal, listed_normal, cons_made, no_cons}
+use Rattle.cw_derived.proofs.Built.{Gives, Built, filled, marks_of, b_one, b_none, b_then, b_left, b_right, b_map, b_opens, b_again, after, before, some, nothing, many_normal, second_normal, first_normal, some_normal, listed_normal, cons_made, no_cons, in_a_row}
 use Rattle.cw_derived.proofs.Leaves.{name_normal, type_normal, bits_normal, is_name_of}
 use Rattle.cw_derived.proofs.Expressions.{indexed_made, bare_made, name_ref, reference_normal, expr_normal, condition_normal}
 use Rattle.cw_derived.proofs.Data.{table_normal, data_table_normal, singles_made, arrays_made, Overlaid, overlaid, overlay_made}
@@ -38,7 +38,7 @@ spread {u = u} t k = record { marks = k.marks; within = twice k.within (kept (sk
 -- ---- simple statements
 
 assigned_made : {n : ℕ} {p : Bool} {r : RawRef} {x : RawExpr} {u v : List ℕ} → IsNormalWithin n p a_ref r u → IsNormalWithin n p an_expr x v → IsNormalWithin n p a_simple (simple_tree.Assign r x) (u ++ v)
-assigned_made h k = record { marks = h.marks ++ k.marks; within = join h.within k.within; normal = assignment h.normal k.normal }
+assigned_made h k = in_a_row h k (λ a b g l. assignment g l)
 
 simple_made : {n : ℕ} {p : Bool} {f : RawName} {g : RawName → RawSimple} {u ns : List ℕ} → IsNormalWithin n p a_name f u → Built n p (a_from a_name a_simple) simple_behind g ns → IsNormalWithin n p a_simple (g f) (u ++ ns)
 unfolding simple_behind
@@ -86,7 +86,7 @@ labelled_in {n = n} {p = p} {f = f} {a = a} g (is_stmt {ls = ls} {x = x} {a = b}
     (subst (λ (z : List ℕ). IsNormal n p a_stmt (stmt_tree (f ∷ ls) x) z) (append_assoc a b c) (is_stmt (one_more g h) k))
 
 labelled_made : {n : ℕ} {p : Bool} {f : RawName} {s : RawStmt} {u v : List ℕ} → IsNormalWithin n p a_name f u → IsNormalWithin n p a_stmt s v → IsNormalWithin n p a_stmt (with_label f s) (u ++ v)
-labelled_made h k = record { marks = h.marks ++ k.marks; within = join h.within k.within; normal = labelled_in h.normal k.normal }
+labelled_made h k = in_a_row h k (λ a b g l. labelled_in g l)
 
 form_made : {n : ℕ} {p : Bool} {x : RawForm} {u : List ℕ} → IsNormalWithin n p a_form x u → IsNormalWithin n p a_stmt (stmt_tree [] x) u
 form_made k = record { marks = k.marks; within = k.within; normal = is_stmt no_more k.normal }
@@ -104,10 +104,7 @@ stmt_normal q x ns (b_right (b_right (b_right (b_map d)))) = form_made (simple_f
 
 pub felem_normal : {n : ℕ} {p : Bool} → Gives n p a_felem felem
 unfolding felem
-felem_normal x ns (b_map (b_then d (b_left (b_map c)))) =
-    let h = expr_normal _ _ d in
-    let k = second_normal condition_normal c in
-    record { marks = h.marks ++ k.marks; within = join h.within k.within; normal = while_felem h.normal k.normal }
+felem_normal x ns (b_map (b_then d (b_left (b_map c)))) = in_a_row (expr_normal _ _ d) (second_normal condition_normal c) (λ a b h k. while_felem h k)
 felem_normal x ns (b_map (b_then d (b_right (b_left (b_map (b_map (b_then {u = u} w (b_then e f)))))))) =
     let h = expr_normal _ _ d in
     let k = expr_normal _ _ e in
@@ -129,9 +126,7 @@ procedure_param_made g (b_map (b_then (b_one {t = t} e) (b_then d l))) =
 pub param_normal : {n : ℕ} {p : Bool} → Gives n p a_param param
 unfolding param
 param_normal x ns (b_left (b_map (b_then t (b_left (b_map (b_map (b_then {u = u} w (b_map (b_then d l))))))))) =
-    let h = type_normal _ _ t in
-    let k = after u (some_normal name_normal d l) in
-    record { marks = h.marks ++ k.marks; within = join h.within k.within; normal = array_param h.normal k.normal }
+    in_a_row (type_normal _ _ t) (after u (some_normal name_normal d l)) (λ a b h k. array_param h k)
 param_normal x ns (b_left (b_map (b_then t (b_right (b_map d))))) = procedure_param_made (some (type_normal _ _ t)) d
 param_normal x ns (b_right (b_left (b_map d))) = procedure_param_made (nothing []) d
 param_normal x ns (b_right (b_right (b_left (b_map (b_then (b_one {t = t} e) (b_then z (b_map (b_then d l)))))))) =

@@ -64,11 +64,11 @@ fn form_facts(alloc: Global, form: &RawForm, out: &mut List<Fact>) -> Result<(),
     match form {
         RawForm::Simple(s) => simple_facts(alloc, s.get(), out),
         RawForm::If {
-            at: _,
             test,
             labels,
             first,
             second,
+            ..
         } => {
             condition_uses(test.get(), out)?;
             declare_each(alloc, labels.as_slice(), &Kind::Label, out)?;

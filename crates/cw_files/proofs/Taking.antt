@@ -83,12 +83,15 @@ told_at file_of [] i d within = absurd (omega arith)
 told_at file_of (name ∷ names) zero d within = refl
 told_at file_of (name ∷ names) (suc i) d within = told_at file_of names i d (omega arith)
 
+-- what no name has
+abbrev pub no_name : Bor (List ℕ)
+no_name = record { ref_ptr = (0, 0); now = [] }
+
 -- the file of the next name, where no file changed so far
-pub told_now : (file_of file_now : List ℕ → Told) (names : List (Bor (List ℕ))) (i number : ℕ) (d : Bor (List ℕ)) → i < length names
-    → AllStay file_of file_now → number ≡ i → slice_get (map (λ name. file_of name.now) names) number ≡ Some (file_now (slice_index_or names i d).now)
-told_now file_of file_now names i number d within stay same =
-    ap (λ n. slice_get (map (λ name. file_of name.now) names) n) same ∙ told_at file_of names i d within
-    ∙ ap (λ told. Some told) (sym (stay (slice_index_or names i d).now))
+pub told_now : (file_of file_now : List ℕ → Told) (names : List (Bor (List ℕ))) (i number : ℕ) → i < length names
+    → AllStay file_of file_now → number ≡ i → slice_get (told_of file_of names) number ≡ Some (file_now (slice_index_or names i no_name).now)
+told_now file_of file_now names i number within stay same =
+    ap (λ n. slice_get (told_of file_of names) n) same ∙ told_at file_of names i no_name within ∙ ap (λ told. Some told) (sym (stay (slice_index_or names i no_name).now))
 
 -- as many as the names
 pub all_names : {X : Type 0} (file_of : List ℕ → Told) (names : List (Bor (List ℕ))) (xs : List X) (i : ℕ) → length xs ≡ i → i ≡ length names → length xs ≡ length (told_of file_of names)

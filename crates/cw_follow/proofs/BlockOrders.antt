@@ -77,7 +77,7 @@ module _ (known : Given) where
     -- ---- the orders before the last one
 
     puts_so : (o : Order) (m : Bool) → Puts o → act p (action_of p g acts o) g place m acts w ≡ after p.room 0 (puts_word p g acts o w) g place m acts w
-    puts_so order.Save m is = ap (λ b. go_on b g place m acts w w) (sym (le-leb (stack_words w.operands acts) p.room s.room))
+    puts_so order.Save m is = ap (λ b. go_on b g place m acts w w) (sym (le-leb (stack_words w.operands acts) p.room s.stands.room))
     puts_so (order.Const x) m is = refl
     puts_so (order.Home f n) m is = refl
     puts_so (order.FrameHome n) m is = ap (λ x. after p.room 0 x g place m acts w) (address_unrefused (frame_word p.limits.area acts n) w)

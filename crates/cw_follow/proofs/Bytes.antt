@@ -62,12 +62,17 @@ order_place base o k = base + own_place o k
 abbrev pub pieces_at : Orders → (place : ℕ) → Order → List Coded
 pieces_at o k order = pieces_by (names_of o) (own_place o k) k (block_at (left_at 0 o.list k) (drop k o.list)) order
 
--- a segment's code in an image: its filled words, its entry, each order's pieces, the landings of the labels that have one and the routines of
--- the switches that something names
-pub record Stands (p : OrderProgram) (image : List ℕ) (g : ℕ) (o : Orders) : Type 0 where
+-- how the relocated words of a segment are filled, by the place where the next segment begins
+pub record Filled (p : OrderProgram) (g : ℕ) : Type 0 where
   pub value : Filling
   pub next_place : ℕ
   pub fills : Fills p g next_place value
+
+-- a segment's code in an image: its filled words, its entry, each order's pieces, the landings of the labels that have one and the routines of
+-- the switches that something names
+pub record Stands (p : OrderProgram) (image : List ℕ) (g : ℕ) (o : Orders) : Type 0 where
+  pub filled : Filled p g
+  pub open filled use *
   pub entry : HasPieces image value (base_of p g) entry_pieces
   pub orders : (k : ℕ) (order : Order) → slice_get o.list k ≡ Some order → HasPieces image value (order_place (base_of p g) o k) (pieces_at o k order)
   pub landings : (l : ℕ) (m : LabelMark) → slice_get o.labels l ≡ Some m → has_landing (is_named_label o) l m ≡ true → HasPieces image value (base_of p g + landing_start (names_of o) l) (landing_pieces (names_of o) (landing_start (names_of o) l) m)

@@ -214,12 +214,12 @@ module _ (known : Given) where
             let paid : 4 ≤ weight p (at g place true acts w Running) = let x = weight_is known s (order.JumpIf c m) e in omega arith in
             chosen known s false 0 (way_of_two (λ x y v. to_mark_if (holds (comparison c) x y) m v) w) 4 (begins_next known s a (order.JumpIf c m) e) (step_is known s (Some (order.JumpIf c m)) e) paid
             (chooses rows p image g acts true (order_place (base_of p g) s.orders (place + 1)) (short_distance (own + 5) to) (start known s) c m w.operands w.memory w.input w.output ends
-            (short_arrives (base_of p g) own 5 to (close refl)) s.fits.operands i a.landed)
+            (short_arrives (base_of p g) own 5 to (close refl)) s.fits.words.operands i a.landed)
         cases false close ends i =
             let paid : 4 ≤ weight p (at g place true acts w Running) = let x = weight_is known s (order.JumpIf c m) e in omega arith in
             chosen known s false 0 (way_of_two (λ x y v. to_mark_if (holds (comparison c) x y) m v) w) 4 (begins_next known s a (order.JumpIf c m) e) (step_is known s (Some (order.JumpIf c m)) e) paid
             (chooses rows p image g acts false (order_place (base_of p g) s.orders (place + 1)) (distance (own + 8) to) (start known s) c m w.operands w.memory w.input w.output ends
-            (jump_arrives (base_of p g) own 8 to) s.fits.operands i a.landed)
+            (jump_arrives (base_of p g) own 8 to) s.fits.words.operands i a.landed)
 
     -- an order, where the accumulator is as it wants it; where it is the other way the orders would be stuck
     follow_order : (loaded : Bool) (s : Sound p image g place loaded acts w (watch q)) (a : Alone p image g place loaded acts w (watch q) s.orders) (o : Order) → slice_get s.orders.list place ≡ Some o → FollowFrom known (over (first_of o (begins_here known s)) (watch q)) (at g place loaded acts w Running) (watch q)
@@ -492,7 +492,7 @@ module _ (known : Given) where
         let begun : lines_at image.places (order_place (base_of p g) m.orders (place + 1)) ≡ (g + 1, n) ∷ [] =
         ap (lines_at image.places) (sym (listed_place (base_of p g) m.orders (place + 1) b.0 listed)) ∙ ap (λ k. lines_at image.places (base_of p g + slice_index (order_places m.orders) k)) (sym next) ∙ places_stand.starts g place n m.orders m.unit e in
         let short = code_short known m.orders g (place + 1) b.0 m.unit listed some m.landed.stacked.is.sees.fits in
-        let noted_there : passes image.places p.limits.area q ≡ (g + 1, n, w.memory) ∷ [] = notes_one rows.words p (g + 1) n short low refl begun m.fits.memory landed in
+        let noted_there : passes image.places p.limits.area q ≡ (g + 1, n, w.memory) ∷ [] = notes_one rows.words p (g + 1) n short low refl begun m.fits.words.memory landed in
         let note : starts p (at g place loaded acts w Running) ≡ owed_by (slice_get there.0.orders.list there.0.from) q =
         ap (λ x. started_by x g w) (order_is known m (Some o) e) ∙ sym noted_there
         ∙ sym (ap₂ (λ l k. owed_by (slice_get l.list k) q) (sym same) (sym from_there) ∙ ap (λ y. owed_by y q) listed ∙ ap (λ c. if c then passes image.places p.limits.area q else []) may) in

@@ -209,6 +209,28 @@ chain (Changed v) f = f v
 chain (Refused kind) f = Refused kind
 chain Impossible f = Impossible
 
+chain_ends : (x : Outcome) → chain x Changed ≡ x
+chain_ends (Changed v) = refl
+chain_ends _ = refl
+
+chain_joins : (x : Outcome) (f g h : Words → Outcome) → ((v : Words) → h v ≡ chain (f v) g) → chain x h ≡ chain (chain x f) g
+chain_joins (Changed v) f g h each = each v
+chain_joins (Refused kind) f g h each = refl
+chain_joins Impossible f g h each = refl
+
+-- orders in turn, each of which goes on with a state or ends them
+module _ {State Result : Type 0} (on : State → Result) (go : Result → (State → Result) → Result) (short : Result) (step : Order → State → Result) where
+  abbrev in_turn : ℕ → List Order → State → Result
+  in_turn zero os s = on s
+  in_turn (suc n) [] s = short
+  in_turn (suc n) (o ∷ os) s = go (step o s) (in_turn n os)
+
+  in_turn_next : ((x : Result) → go x on ≡ x) → ((s : State) (f : State → Result) → go (on s) f ≡ f s) → ((x : Result) (f g h : State → Result) → ((s : State) → h s ≡ go (f s) g) → go x h ≡ go (go x f) g)
+      → (n : ℕ) (os : List Order) (o : Order) (s : State) → slice_get os n ≡ Some o → in_turn (suc n) os s ≡ go (in_turn n os s) (step o)
+  in_turn_next ends goes joins n [] o s e = absurd (cc)
+  in_turn_next ends goes joins zero (x ∷ xs) o s e = let same : x ≡ o = cc in ends (step x s) ∙ ap (λ y. step y s) same ∙ sym (goes s (step o))
+  in_turn_next ends goes joins (suc n) (x ∷ xs) o s e = joins (step x s) (in_turn n xs) (step o) (in_turn (suc n) xs) (λ v. in_turn_next ends goes joins n xs o v e)
+
 module _ (p : OrderProgram) (g : ℕ) (acts : List OrderActivation) where
   abbrev pub puts_word : Order → Words → Outcome
   puts_word order.Save w = Changed w
@@ -221,42 +243,25 @@ module _ (p : OrderProgram) (g : ℕ) (acts : List OrderActivation) where
   puts_word _ w = Impossible
 
   abbrev pub silently : ℕ → List Order → Words → Outcome
-  silently zero os w = Changed w
-  silently (suc n) [] w = Impossible
-  silently (suc n) (o ∷ os) w = chain (puts_word o w) (silently n os)
-
-  one_more : (x : Outcome) → chain x Changed ≡ x
-  one_more (Changed v) = refl
-  one_more _ = refl
+  silently = in_turn Changed chain Impossible puts_word
 
   pub silently_next : (n : ℕ) (os : List Order) (o : Order) (w : Words) → slice_get os n ≡ Some o → silently (suc n) os w ≡ chain (silently n os w) (puts_word o)
-  silently_next n [] o w e = absurd (cc)
-  silently_next zero (x ∷ xs) o w e = let same : x ≡ o = cc in one_more (puts_word x w) ∙ ap (λ y. puts_word y w) same
-  silently_next (suc n) (x ∷ xs) o w e = cases (λ v. silently_next n xs o v e) (puts_word x w)
-    where
-      cases : ((v : Words) → silently (suc n) xs v ≡ chain (silently n xs v) (puts_word o)) → (a : Outcome) → chain a (silently (suc n) xs) ≡ chain (chain a (silently n xs)) (puts_word o)
-      cases each (Changed v) = each v
-      cases each (Refused kind) = refl
-      cases each Impossible = refl
+  silently_next = in_turn_next Changed chain Impossible puts_word chain_ends (λ w f. refl) chain_joins
 
 -- where the accumulator is after so many of them
 abbrev pub loaded_silently : ℕ → List Order → Bool → Option Bool
-loaded_silently zero os m = Some m
-loaded_silently (suc n) [] m = None
-loaded_silently (suc n) (o ∷ os) m = loaded_then (loaded_after o m) (loaded_silently n os)
+loaded_silently = in_turn Some loaded_then None loaded_after
 
-one_more_loaded : (x : Option Bool) → loaded_then x Some ≡ x
-one_more_loaded (Some m) = refl
-one_more_loaded None = refl
+loaded_ends : (x : Option Bool) → loaded_then x Some ≡ x
+loaded_ends (Some m) = refl
+loaded_ends None = refl
+
+loaded_joins : (x : Option Bool) (f g h : Bool → Option Bool) → ((m : Bool) → h m ≡ loaded_then (f m) g) → loaded_then x h ≡ loaded_then (loaded_then x f) g
+loaded_joins (Some m) f g h each = each m
+loaded_joins None f g h each = refl
 
 pub loaded_next : (n : ℕ) (os : List Order) (o : Order) (m : Bool) → slice_get os n ≡ Some o → loaded_silently (suc n) os m ≡ loaded_then (loaded_silently n os m) (loaded_after o)
-loaded_next n [] o m e = absurd (cc)
-loaded_next zero (x ∷ xs) o m e = let same : x ≡ o = cc in one_more_loaded (loaded_after x m) ∙ ap (λ y. loaded_after y m) same
-loaded_next (suc n) (x ∷ xs) o m e = cases (λ v. loaded_next n xs o v e) (loaded_after x m)
-  where
-    cases : ((v : Bool) → loaded_silently (suc n) xs v ≡ loaded_then (loaded_silently n xs v) (loaded_after o)) → (a : Option Bool) → loaded_then a (loaded_silently (suc n) xs) ≡ loaded_then (loaded_then a (loaded_silently n xs)) (loaded_after o)
-    cases each (Some v) = each v
-    cases each None = refl
+loaded_next = in_turn_next Some loaded_then None loaded_after loaded_ends (λ m f. refl) loaded_joins
 
 -- the orders that can stand in a block before its last one and never stop
 abbrev pub Puts : Order → Type 0

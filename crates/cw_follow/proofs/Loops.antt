@@ -38,7 +38,7 @@ module _ (known : Given) where
         does known s false line (set_variable p.limits.area w) 18 (begins_next known s a o e) (step_is known s (Some o) e) (cheap known s o 18 (lit≤ tt) e)
         (sets_variable (setting known s) w.memory w.input w.output (next known s a) (by known s set_variable_entry after) line w.operands (behind known s a o e)
         (calls known s set_variable_entry after (lit< tt)) (line_fits known s o e)
-        s.fits.memory (low_room known s) s.fits.operands (code known s a o e) a.landed)
+        s.fits.words.memory (low_room known s) s.fits.words.operands (code known s a o e) a.landed)
 
     pub step_follows : (line : ℕ) → slice_get s.orders.list place ≡ Some (order.AddStep line) → Follow known (at g place true acts w Running) q
     step_follows line e =
@@ -47,7 +47,7 @@ module _ (known : Given) where
         does known s false line (add_step p.limits.area w) 21 (begins_next known s a o e) (step_is known s (Some o) e) (cheap known s o 21 (lit≤ tt) e)
         (adds_step (setting known s) w.memory w.input w.output (next known s a) (by known s add_step_entry after) line w.operands (behind known s a o e) (calls known s add_step_entry after (lit< tt))
         (line_fits known s o e)
-        s.fits.memory (low_room known s) (code known s a o e) a.landed)
+        s.fits.words.memory (low_room known s) (code known s a o e) a.landed)
 
     pub put_follows : (line : ℕ) → slice_get s.orders.list place ≡ Some (order.PutVariable line) → Follow known (at g place true acts w Running) q
     put_follows line e =
@@ -56,7 +56,7 @@ module _ (known : Given) where
         does known s true line (put_variable p.limits.area w) 18 (begins_next known s a o e) (step_is known s (Some o) e) (cheap known s o 18 (lit≤ tt) e)
         (puts_variable (setting known s) w.memory w.input w.output (next known s a) (by known s put_variable_entry after) line w.operands (behind known s a o e)
         (calls known s put_variable_entry after (lit< tt)) (line_fits known s o e)
-        s.fits.memory (low_room known s) (code known s a o e) a.landed)
+        s.fits.words.memory (low_room known s) (code known s a o e) a.landed)
 
     pub limit_follows : (m : ℕ) → slice_get s.orders.list place ≡ Some (order.Exhausted m) → Follow known (at g place true acts w Running) q
     limit_follows m e =
@@ -67,7 +67,7 @@ module _ (known : Given) where
         (step_is known s (Some o) e) (cheap known s o 17 (lit≤ tt) e)
         (exhausts (setting known s) w.memory w.input w.output (next known s a) (by known s exhausted_entry after) (distance (own + 6) (mark_starts s.orders m)) m (start known s) w.operands
         (behind known s a o e) (calls known s exhausted_entry after (lit< tt))
-        (jump_arrives (base_of p g) own 6 (mark_starts s.orders m)) (low_room known s) s.fits.operands s.fits.memory (code known s a o e) a.landed)
+        (jump_arrives (base_of p g) own 6 (mark_starts s.orders m)) (low_room known s) s.fits.words.operands s.fits.words.memory (code known s a o e) a.landed)
 
     -- by a table
     by_table : (marks : List ℕ) → slice_get s.orders.list place ≡ Some (order.LoopWay marks) → here known s a + (20 + 2 * length marks) ≡ next known s a
@@ -96,7 +96,7 @@ module _ (known : Given) where
         (step_is known s (Some o) e) (cheap known s o 6 (lit≤ tt) e)
         (loops rows p image g acts to by table (start known s) marks w.operands w.memory w.input w.output short table_is arrives
         (λ k m is. subst (HasWord image (here + 20 + 2 * k)) (start_word k m) (mark_word_is image st.value (names_of s.orders) (here + 20) marks k m words is))
-        s.fits.operands (i.0, (i.1.0, (i.1.1.0, (i.1.1.1.0, (i.1.1.1.1.0, (i.1.1.1.1.1.0, (i.1.1.1.1.1.1.0, tt))))))) a.landed)
+        s.fits.words.operands (i.0, (i.1.0, (i.1.1.0, (i.1.1.1.0, (i.1.1.1.1.0, (i.1.1.1.1.1.0, (i.1.1.1.1.1.1.0, tt))))))) a.landed)
 
     pub loop_follows : (marks : List ℕ) → slice_get s.orders.list place ≡ Some (order.LoopWay marks) → Follow known (at g place true acts w Running) q
     loop_follows [] e = by_table [] e (let z = size_listed (order.LoopWay []) in let y = behind known s a (order.LoopWay []) e in omega arith) (code known s a (order.LoopWay []) e)
@@ -113,13 +113,13 @@ module _ (known : Given) where
         cases true close ends i =
             chosen known s false 0 (way_of_one (λ x v. to_mark_in (mark_of_number (m ∷ []) x) v) w.operands w) 3 (begins_next known s a o e)
             (step_is known s (Some o) e) (cheap known s o 3 (lit≤ tt) e)
-            (loops_close rows p image g acts (next known s a) (short_distance (own + 3) (mark_starts s.orders m)) (start known s) m w.operands w.memory w.input w.output ends
-            (short_arrives (base_of p g) own 3 (mark_starts s.orders m) (close refl)) s.fits.operands i a.landed)
+            (loops_close rows p image (short_distance (own + 3) (mark_starts s.orders m)) g acts (next known s a) (start known s) m w.operands w.memory w.input w.output ends
+            (short_arrives (base_of p g) own 3 (mark_starts s.orders m) (close refl)) s.fits.words.operands i a.landed)
         cases false close ends i =
             chosen known s false 0 (way_of_one (λ x v. to_mark_in (mark_of_number (m ∷ []) x) v) w.operands w) 3 (begins_next known s a o e)
             (step_is known s (Some o) e) (cheap known s o 3 (lit≤ tt) e)
-            (loops_once rows p image g acts (next known s a) (distance (own + 6) (mark_starts s.orders m)) (start known s) m w.operands w.memory w.input w.output ends
-            (jump_arrives (base_of p g) own 6 (mark_starts s.orders m)) s.fits.operands i a.landed)
+            (loops_once rows p image (distance (own + 6) (mark_starts s.orders m)) g acts (next known s a) (start known s) m w.operands w.memory w.input w.output ends
+            (jump_arrives (base_of p g) own 6 (mark_starts s.orders m)) s.fits.words.operands i a.landed)
     loop_follows (m ∷ n ∷ ms) e = by_table (m ∷ n ∷ ms) e (let z = size_listed (order.LoopWay (m ∷ n ∷ ms)) in let y = behind known s a (order.LoopWay (m ∷ n ∷ ms)) e in omega arith) (code known s a (order.LoopWay (m ∷ n ∷ ms)) e)
 
   module _ {q : Watched} {g place : ℕ} {acts : List OrderActivation} {w : Words} (s : Sound p image g place false acts w q) (a : Alone p image g place false acts w q s.orders) where
@@ -138,7 +138,7 @@ module _ (known : Given) where
         let arrives : (here + 11 + distance (own + 11) (mark_starts s.orders m)) % 65536 ≡ start known s m % 65536 = jump_arrives (base_of p g) own 11 (mark_starts s.orders m) in
         chosen known s false line (next_step p.limits.area m (Some home) w) 33 (begins_next known s a o e) (step_is known s (Some o) e) (cheap known s o 33 (lit≤ tt) e)
         (takes_step (setting known s) w.memory w.input w.output 1 (next known s a) (by known s next_step_entry (here + 3 + 3)) (distance (own + 11) (mark_starts s.orders m)) line home m (start known s)
-        w.operands (lit≤ tt) (omega arith) (calls known s next_step_entry (here + 3 + 3) (lit< tt)) (omega arith) (line_fits known s o e) s.fits.memory (low_room known s) i.1
+        w.operands (lit≤ tt) (omega arith) (calls known s next_step_entry (here + 3 + 3) (lit< tt)) (omega arith) (line_fits known s o e) s.fits.words.memory (low_room known s) i.1
         (λ inside. doubles_word (setting known s) w.memory w.input w.output home word w.operands (omega arith) i.0 a.landed))
     turn_follows (cell.Frame n) line m e =
         chosen known s false line (next_step p.limits.area m (frame_word p.limits.area acts n) w) 33 (begins_next known s a o e) (step_is known s (Some o) e)
@@ -156,5 +156,5 @@ module _ (known : Given) where
             let ends : here + 17 ≡ next known s a = behind known s a o e in
             let arrives : (here + 15 + distance (own + 15) (mark_starts s.orders m)) % 65536 ≡ start known s m % 65536 = jump_arrives (base_of p g) own 15 (mark_starts s.orders m) in
             takes_step (setting known s) w.memory w.input w.output 2 (next known s a) (by known s next_step_entry (here + 3 + 4 + 3)) (distance (own + 15) (mark_starts s.orders m)) line k m (start known s)
-            w.operands (lit≤ tt) (omega arith) (calls known s next_step_entry (here + 3 + 4 + 3) (lit< tt)) (omega arith) (line_fits known s o e) s.fits.memory (low_room known s) i.1.1
+            w.operands (lit≤ tt) (omega arith) (calls known s next_step_entry (here + 3 + 4 + 3) (lit< tt)) (omega arith) (line_fits known s o e) s.fits.words.memory (low_room known s) i.1.1
             (λ inside. doubles_frame (setting known s) w.memory w.input w.output n k w.operands is (i.0, (i.1.0, tt)) a.landed)

@@ -219,9 +219,7 @@ module _ (p : OrderProgram) (image before behind : List ℕ) (g next : ℕ) (val
 
     abbrev stands_here : Stands p image g o
     stands_here = record {
-      value = value;
-      next_place = next;
-      fills = fills;
+      filled = record { value = value; next_place = next; fills = fills };
       entry = entry_there;
       orders = order_there;
       landings = landing_there;

@@ -3,7 +3,7 @@
 use Rattle.std.proofs.Common.{◌≡◌, ℕ, zero, suc, ◌+◌, ◌-◌, ◌/◌, ◌%◌, ◌^◌, ◌<◌, ◌≤◌, Bool, true, false, List, [], ◌∷◌, ◌++◌, length, refl, sym, ap, ◌∙◌, subst, arith, lit<, append_assoc}
 use borrow.Author.Tests.{eqb-true}
 use Rattle.std.proofs.lemmas.List.{append-nil}
-use Rattle.std.specs.Prelude.{bit_and, bit_xor, ◌==◌}
+use Rattle.std.specs.Prelude.{bit_and, bit_xor, ◌==◌, if◌then◌else◌}
 use Rattle.cw_i86.specs.Encoding.{bytes_of}
 use Rattle.cw_i86.specs.declared.instr.Instr.{Instr}
 use Rattle.cw_i86.specs.declared.instr.Instr.TheVariants as i86
@@ -38,8 +38,7 @@ shift_steps (suc zero) = 1
 shift_steps (suc (suc n)) = 2
 
 abbrev pub lowest_steps : Bool → ℕ
-lowest_steps true = 0
-lowest_steps false = 1
+lowest_steps whole = if whole then 0 else 1
 
 abbrev pub part_steps : (t b : ℕ) → (is_signed : Bool) → ℕ
 part_steps t b true = shift_steps (16 - (t + b)) + shift_steps (16 - t)

@@ -28,6 +28,7 @@ use Rattle.cw_tmpl.specs.Templates.{entry_pieces, segment_word, landing_pieces, 
 use Rattle.cw_tmpl.specs.Blocks.{block_at, left_at}
 use Rattle.cw_tmpl.specs.ReferenceCode.{names_of}
 use Rattle.cw_follow.specs.Placing.{Fills, base_of}
+use Rattle.cw_follow.proofs.Bytes.{Filled}
 use Rattle.cw_tmpl.proofs.Sizes.{own_place, pieces_by}
 
 -- the bytes of an image, and the places where statements begin in it
@@ -146,9 +147,8 @@ behind_start list (suc j) = is_start (slice_get list j)
 -- a segment's code in an image: its filled words, its entry, each order's pieces, the landings of the labels that have one and the routines of
 -- the switches that something names
 pub record Stands (p : OrderProgram) (image : Image) (g : ℕ) (o : Orders) : Type 0 where
-  pub value : Filling
-  pub next_place : ℕ
-  pub fills : Fills p g next_place value
+  pub filled : Filled p g
+  pub open filled use *
   pub entry : HasPieces image value (base_of p g) entry_pieces
   pub orders : (k : ℕ) (it : Order) → slice_get o.list k ≡ Some it → HasPiecesFrom (first_of it (behind_start o.list k)) image value (order_place (base_of p g) o k) (pieces_at o k it)
   pub landings : (l : ℕ) (m : LabelMark) → slice_get o.labels l ≡ Some m → has_landing (is_named_label o) l m ≡ true → HasPieces image value (base_of p g + landing_start (names_of o) l) (landing_pieces (names_of o) (landing_start (names_of o) l) m)

@@ -1,7 +1,6 @@
 -- How states of the machine of orders and of the processor match.
 use Rattle.std.proofs.Common.{◌≡◌, ◌≢◌, ℕ, zero, suc, ◌+◌, ◌-◌, ◌≤◌, Bool, true, false, List, [], ◌∷◌, length, drop, Option, Some, None, refl, ap, ◌∙◌, arith}
 use Rattle.std.specs.Prelude.{slice_get, nat_le}
-use Rattle.std.specs.List.{All}
 use Rattle.std.proofs.lemmas.Bool.{leb-true}
 use Rattle.std.proofs.lemmas.Option.{slice_get_within}
 use Rattle.cw_track.specs.Machine.{shown_after}
@@ -13,7 +12,7 @@ use Rattle.cw_order.specs.declared.order.Orders.{Orders}
 use Rattle.cw_order.specs.OrderProgram.{OrderProgram, order_in, order_at}
 use Rattle.cw_order.specs.OrderState.{OrderActivation, OrderState, at, stack_words}
 use Rattle.cw_order.specs.OrderMachine.{go_on, after, carry_out, step, order_machine}
-use Rattle.cw_order.specs.FittingWords.{WordsFit, ActivationFits, StateFits}
+use Rattle.cw_order.specs.FittingWords.{WordsFit, StateFits}
 use Rattle.cw_order.specs.Activations.{ActivationsStand, Beginning, StateStands}
 use Rattle.cw_tmpl.specs.Blocks.{block_at, orders_left, left_at}
 use Rattle.cw_follow.specs.Placing.{base_of, Codable}
@@ -44,31 +43,39 @@ abbrev pub ComesBack : OrderProgram → List OrderActivation → Type 0
 ComesBack p [] = Unit {0}
 ComesBack p (a ∷ acts) = ((o : Orders) → slice_get p.units a.segment ≡ Some o → left_at 0 o.list a.place ≡ 0) × ComesBack p acts
 
--- The processor stands before a block, with the words and the accumulator as they are before it, and the first orders of the block are done.
--- All activations have been begun, and the orders do not get stuck.
+-- A state of the machine of orders that goes on: its words fit, all activations have been begun and come back to where a block begins, and
+-- the orders do not get stuck.
+pub record GoesOn (p : OrderProgram) (g : ℕ) (acts : List OrderActivation) (s : OrderState) : Type 0 where
+  pub fits : StateFits s
+  pub stands : StateStands p s
+  pub working : ActivationsStand p g acts
+  pub comes_back : ComesBack p acts
+  pub never : Never p s
+
+-- The processor stands before a block, with the words and the accumulator as they are before it.
+pub record BlockStart (p : OrderProgram) (image : Image) (g from : ℕ) (orders : Orders) (acts : List OrderActivation) (q : Watched) : Type 0 where
+  pub before : Words
+  pub loaded_before : Bool
+  pub begins : left_at 0 orders.list from ≡ 0
+  pub landed : Landed p image (order_place (base_of p g) orders from) g loaded_before acts before q
+  pub fits_before : WordsFit before
+  pub room_before : stack_words before.operands acts ≤ p.room
+
+-- The processor stands before a block, of which the first orders are done.
 pub record Sound (p : OrderProgram) (image : Image) (g place : ℕ) (loaded : Bool) (acts : List OrderActivation) (w : Words) (q : Watched) : Type 0 where
   pub orders : Orders
   pub unit : slice_get p.units g ≡ Some orders
   pub from : ℕ
   pub done : ℕ
-  pub before : Words
-  pub loaded_before : Bool
+  pub start : BlockStart p image g from orders acts q
+  pub open start use *
   pub place_is : from + done ≡ place
-  pub begins : left_at 0 orders.list from ≡ 0
   pub inside : done ≤ orders_left (block_at 0 (drop from orders.list))
   pub did : silently p g acts done (drop from orders.list) before ≡ Changed w
   pub moded : loaded_silently done (drop from orders.list) loaded_before ≡ Some loaded
-  pub landed : Landed p image (order_place (base_of p g) orders from) g loaded_before acts before q
-  pub fits : WordsFit w
-  pub acts_fit : All ActivationFits acts
-  pub fits_before : WordsFit before
-  pub room : stack_words w.operands acts ≤ p.room
-  pub room_before : stack_words before.operands acts ≤ p.room
   pub wrote : before.output ≡ w.output
-  pub stands : StateStands p (at g place loaded acts w Running)
-  pub working : ActivationsStand p g acts
-  pub comes_back : ComesBack p acts
-  pub never : Never p (at g place loaded acts w Running)
+  pub state : GoesOn p g acts (at g place loaded acts w Running)
+  pub open state use *
 
 -- The same, where no order of the block is done.
 abbrev pub Arrived : (p : OrderProgram) (image : Image) (g place : ℕ) (loaded : Bool) (acts : List OrderActivation) (w : Words) (q : Watched) → Type 0
@@ -84,24 +91,13 @@ before_block {place = place} {loaded = loaded} {w = w} o unit begins landed fits
     unit = unit;
     from = place;
     done = 0;
-    before = w;
-    loaded_before = loaded;
+    start = record { before = w; loaded_before = loaded; begins = begins; landed = landed; fits_before = fits.words; room_before = stands.room };
     place_is = omega arith;
-    begins = begins;
     inside = omega arith;
     did = refl;
     moded = refl;
-    landed = landed;
-    fits = fits.words;
-    acts_fit = fits.activations;
-    fits_before = fits.words;
-    room = stands.room;
-    room_before = stands.room;
     wrote = refl;
-    stands = stands;
-    working = working;
-    comes_back = comes_back;
-    never = never;
+    state = record { fits = fits; stands = stands; working = working; comes_back = comes_back; never = never };
   },
   refl,
 )

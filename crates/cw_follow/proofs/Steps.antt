@@ -144,7 +144,7 @@ module _ (known : Given) where
     weight_is o e = let f : weight p (at g place loaded acts w Running) ≡ weight_of o = ap weight_at (order_is (Some o) e) in omega arith
 
     pub fits_next : (t : OrderState) → step p (at g place loaded acts w Running) ≡ t → StateFits t
-    fits_next t e = subst StateFits e (rows.words.keeps p (at g place loaded acts w Running) (record { words = s.fits; activations = s.acts_fit }))
+    fits_next t e = subst StateFits e (rows.words.keeps p (at g place loaded acts w Running) s.fits)
 
     pub stands_next : (t : OrderState) → step p (at g place loaded acts w Running) ≡ t → StateStands p t
     stands_next t e = subst (StateStands p) e (rows.words.stands_keep p (at g place loaded acts w Running) coded.callable s.stands)
@@ -270,10 +270,8 @@ module _ (known : Given) where
               unit = s.unit;
               from = s.from;
               done = s.done + 1;
-              before = s.before;
-              loaded_before = s.loaded_before;
+              start = s.start;
               place_is = omega arith;
-              begins = s.begins;
               inside = more;
               did =
                   ap (λ n. silently p g acts n (drop s.from s.orders.list) s.before) next ∙ silently_next p g acts s.done (drop s.from s.orders.list) o s.before there
@@ -281,17 +279,14 @@ module _ (known : Given) where
               moded =
                   ap (λ n. loaded_silently n (drop s.from s.orders.list) s.loaded_before) next ∙ loaded_next s.done (drop s.from s.orders.list) o s.loaded_before there
                   ∙ ap (λ x. loaded_then x (loaded_after o)) s.moded ∙ mode;
-              landed = s.landed;
-              fits = (fits_next (at g (place + 1) m acts v Running) on.goes).words;
-              acts_fit = (fits_next (at g (place + 1) m acts v Running) on.goes).activations;
-              fits_before = s.fits_before;
-              room = on.room;
-              room_before = s.room_before;
               wrote = s.wrote ∙ sym (never_writes p g acts o w v is);
-              stands = stands_next (at g (place + 1) m acts v Running) on.goes;
-              working = s.working;
-              comes_back = s.comes_back;
-              never = never_on p (at g place loaded acts w Running) (at g (place + 1) m acts v Running) on.goes s.never;
+              state = record {
+                fits = fits_next (at g (place + 1) m acts v Running) on.goes;
+                stands = stands_next (at g (place + 1) m acts v Running) on.goes;
+                working = s.working;
+                comes_back = s.comes_back;
+                never = never_on p (at g place loaded acts w Running) (at g (place + 1) m acts v Running) on.goes s.never;
+              };
             } in
             let within = slice_get_within s.orders.list place o e in
             let long : length_in (slice_get p.units g) ≡ length s.orders.list = ap length_in s.unit in
@@ -397,7 +392,7 @@ module _ (known : Given) where
         (subst (λ x. Chooses p image limit code_end start g l line acts s.before.output first (way_after x f)) (did_as n os is_done e) d))
 
     pub low_room : operand_words w.operands < level acts
-    low_room = let room = s.room in let most = coded.room in let split = words_split w.operands acts in omega arith
+    low_room = let room = s.stands.room in let most = coded.room in let split = words_split w.operands acts in omega arith
 
     -- ---- orders that are blocks of their own
 

@@ -8,6 +8,7 @@ use Rattle.cw_i86.specs.declared.instr.Instr.TheVariants as i86
 use Rattle.cw_i86.specs.declared.instr.Imm.TheVariants as imm
 use Rattle.cw_i86.specs.declared.instr.Rm.TheVariants as rms
 use Rattle.cw_run86.specs.Processor.{Processor, processor_step}
+use Rattle.cw_run86.specs.Several as several
 use Rattle.cw_follow.proofs.Watched.{Watched, watched_step}
 use Rattle.cw_run86.specs.Views as view
 use Rattle.cw_run86.specs.Views.{View, Sees, IsTop, register, with_place, with_register, with_result, with_pair, with_overflow, with_cell, with_stack, double_overflows, sum_overflows, difference_overflows, word_sum, word_difference, word_down_signed, shift_overflow, product_low, product_high, product_overflows, sign_of, with_number}
@@ -120,12 +121,10 @@ codes [] = []
 codes (a ∷ acts) = instruction a ∷ codes acts
 
 abbrev pub NeedsAll : List Act → View → Type 0
-NeedsAll [] v = Unit {0}
-NeedsAll (a ∷ acts) v = Needs a v × NeedsAll acts (after a v)
+NeedsAll = several.NeedsAll after Needs
 
 abbrev pub after_all : List Act → View → View
-after_all [] v = v
-after_all (a ∷ acts) v = after_all acts (after a v)
+after_all = several.after_all after
 
 -- the place behind them
 abbrev pub behind : List Act → ℕ → ℕ

@@ -128,9 +128,7 @@ module _ (p : OrderProgram) (image : Image) (coded : Codable p) (stand : PlacesS
 
     abbrev strong_here : Stands p image g o
     strong_here = record {
-      value = s.value;
-      next_place = s.next_place;
-      fills = s.fills;
+      filled = s.filled;
       entry = pieces_strong false image s.value (base_of p g) entry_pieces s.entry (λ n lt no.
           let next = base_next in
           let within = entry_within in

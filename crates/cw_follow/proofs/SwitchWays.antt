@@ -46,4 +46,4 @@ module _ (known : Given) where
         (chooses_way rows p image g acts (next known s a) line (by known s switch_entry stop) table (start known s) marks w.operands w.memory w.input w.output (has_code known s o e) table_is all.library
         (line_fits known s o e) stop_is (low_room known s)
         (λ k m is. subst (HasWord image (here + 20 + 2 * k)) (start_word k m) (mark_word_is image st.value (names_of s.orders) (here + 20) marks k m words is))
-        s.fits.operands (i.0, (i.1.0, (i.1.1.0, (i.1.1.1.0, (i.1.1.1.1.0, (i.1.1.1.1.1.0, (i.1.1.1.1.1.1.0, (i.1.1.1.1.1.1.1.0, tt)))))))) a.landed)
+        s.fits.words.operands (i.0, (i.1.0, (i.1.1.0, (i.1.1.1.0, (i.1.1.1.1.0, (i.1.1.1.1.1.0, (i.1.1.1.1.1.1.0, (i.1.1.1.1.1.1.1.0, tt)))))))) a.landed)

@@ -197,7 +197,7 @@ module _ (known : Given) where
   goes_with {q} {g} {place} {acts} {w} s by_itself line steps to n owner (Held c ∷ rest) line_small named same stands goes paid way =
       absurd (stuck_here known s (goes ∙ no_word line (switch_at p to n) w.operands to owner g place false acts w (λ z others e. let f : Held c ∷ rest ≡ Word z ∷ others = sym same ∙ e in absurd (cc))))
   goes_with {q} {g} {place} {acts} {w} s by_itself line steps to n owner (Word z ∷ rest) line_small named same stands goes paid way =
-      let fits : FitsWord z = All-head OperandFits (Word z) rest (subst (All OperandFits) same s.fits.operands) in
+      let fits : FitsWord z = All-head OperandFits (Word z) rest (subst (All OperandFits) same s.fits.words.operands) in
       goes_through_switch s by_itself line steps to n owner z rest line_small named same fits stands goes paid (way z rest same)
 
   pub switches_own : {q : Watched} {g place : ℕ} {acts : List OrderActivation} {w : Words} (s : Sound p image g place true acts w q) (by_itself : Alone p image g place true acts w q s.orders) (n line : ℕ)

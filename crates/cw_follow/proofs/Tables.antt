@@ -7,6 +7,7 @@ use Rattle.std.proofs.lemmas.Int.{ints}
 use Rattle.std.proofs.lemmas.List.Elements.{All-head}
 use Rattle.std.proofs.lemmas.Option.{slice_get_within}
 use Rattle.cw_i86.specs.Effect.{holds}
+use Rattle.cw_i86.specs.declared.instr.Instr.{Instr}
 use Rattle.cw_i86.specs.declared.instr.Instr.TheVariants as i86
 use Rattle.cw_i86.specs.declared.instr.Imm.TheVariants as imm
 use Rattle.cw_i86.specs.declared.instr.Rm.TheVariants as rms
@@ -250,27 +251,40 @@ module _ (rows : Rows) (prog : OrderProgram) (image : Image) where
         compared_more rows {Between = Counted false} l.stacked.is l.kept.wrote (counts false is) (λ r t.
         last rows t.0 l.kept.wrote (landed rows prog image g acts false to l.top rest memory input output ends l.operands.1 l.kept (pass_if rows 4 by t.1 h.0 t.0)))
 
-  pub loops_once : {q : Watched} {at : ℕ} (g : ℕ) (acts : List OrderActivation) (to by : ℕ) (start : ℕ → ℕ) (m : ℕ) (operands : List Operand) (memory : List ℤ) (input output : List ℕ)
-      → at + 6 ≡ to → (at + 6 + by) % 65536 ≡ start m % 65536 → All OperandFits operands → HasAll image at (i86.Dec 0 ∷ i86.JumpIf 5 3 ∷ i86.Jump by ∷ [])
-      → Landed prog image at g true acts (record { operands = operands; memory = memory; input = input; output = output }) q
+  -- a loop of one element, by where its code leaves for when nothing is left of the number, and when something is
+  loops_one : {q : Watched} {at : ℕ} (g : ℕ) (acts : List OrderActivation) (i : Has image at (i86.Dec 0)) (n to : ℕ) (start : ℕ → ℕ) (m : ℕ) (operands : List Operand) (memory : List ℤ) (input output : List ℕ)
+      → n ≤ 3 → 0 < n
+      → ((z : ℤ) (rest : List Operand) (l : Landed prog image at g true acts (record { operands = Word z ∷ rest; memory = memory; input = input; output = output }) q) (next : ℕ)
+      → start m % 65536 ≡ next % 65536 → (word_difference (unsigned z) 1 == 0) ≡ true → Leaves g acts i z rest memory input output l n next)
+      → ((z : ℤ) (rest : List Operand) (l : Landed prog image at g true acts (record { operands = Word z ∷ rest; memory = memory; input = input; output = output }) q)
+      → (word_difference (unsigned z) 1 == 0) ≡ false → Leaves g acts i z rest memory input output l 2 to)
+      → All OperandFits operands → Landed prog image at g true acts (record { operands = operands; memory = memory; input = input; output = output }) q
       → Chooses prog image 3 to start g false 0 acts output q (way_of_one (λ i v. to_mark_in (mark_of_number (m ∷ []) i) v) operands (record { operands = operands; memory = memory; input = input; output = output }))
-  loops_once g acts to by start m operands memory input output e arrives fits i l =
+  loops_one g acts i n to start m operands memory input output few some there past fits l =
       marked g acts 3 to start 0 (m ∷ []) to_mark_in operands memory input output (lit< tt) fits l
       (λ k x rest is l.
       let o = only m k x is in
-      further 3 (lit≤ tt) (lit< tt) (one_to g acts i.0 (pos (suc k)) rest memory input output l by (start x) i.1 (ap (λ j. word_difference (unsigned (pos (suc j))) 1 == 0) o.0) (arrives ∙ ap (λ y. start y % 65536) (sym o.1))))
-      (λ z rest same far l. further 2 (lit≤ tt) (lit< tt) (one_past g acts i.0 z rest memory input output l by to i.1 (some_left _ (omega arith)) e))
+      further n few some (there (pos (suc k)) rest l (start x) (ap (λ y. start y % 65536) (sym o.1)) (ap (λ j. word_difference (unsigned (pos (suc j))) 1 == 0) o.0)))
+      (λ z rest same far l. further 2 (lit≤ tt) (lit< tt) (past z rest l (some_left _ (omega arith))))
 
-  pub loops_close : {q : Watched} {at : ℕ} (g : ℕ) (acts : List OrderActivation) (to by : ℕ) (start : ℕ → ℕ) (m : ℕ) (operands : List Operand) (memory : List ℤ) (input output : List ℕ)
-      → at + 3 ≡ to → (at + 3 + sign_extended by) % 65536 ≡ start m % 65536 → All OperandFits operands → HasAll image at (i86.Dec 0 ∷ i86.JumpIf 4 by ∷ [])
+  -- what one does, by the bytes of its code, the distance behind them to its mark, and the code
+  abbrev LoopsOne : Watched → (at size by : ℕ) → List Instr → Type 0
+  LoopsOne q at size by code = (g : ℕ) (acts : List OrderActivation) (to : ℕ) (start : ℕ → ℕ) (m : ℕ) (operands : List Operand) (memory : List ℤ) (input output : List ℕ)
+      → at + size ≡ to → (at + size + by) % 65536 ≡ start m % 65536 → All OperandFits operands → HasAll image at code
       → Landed prog image at g true acts (record { operands = operands; memory = memory; input = input; output = output }) q
       → Chooses prog image 3 to start g false 0 acts output q (way_of_one (λ i v. to_mark_in (mark_of_number (m ∷ []) i) v) operands (record { operands = operands; memory = memory; input = input; output = output }))
-  loops_close g acts to by start m operands memory input output e arrives fits i l =
-      marked g acts 3 to start 0 (m ∷ []) to_mark_in operands memory input output (lit< tt) fits l
-      (λ k x rest is l.
-      let o = only m k x is in
-      further 2 (lit≤ tt) (lit< tt) (short_to g acts i.0 (pos (suc k)) rest memory input output l by (start x) i.1 (ap (λ j. word_difference (unsigned (pos (suc j))) 1 == 0) o.0) (arrives ∙ ap (λ y. start y % 65536) (sym o.1))))
-      (λ z rest same far l. further 2 (lit≤ tt) (lit< tt) (short_past g acts i.0 z rest memory input output l by to i.1 (some_left _ (omega arith)) e))
+
+  pub loops_once : {q : Watched} {at : ℕ} (by : ℕ) → LoopsOne q at 6 by (i86.Dec 0 ∷ i86.JumpIf 5 3 ∷ i86.Jump by ∷ [])
+  loops_once by g acts to start m operands memory input output e arrives fits i l =
+      loops_one g acts i.0 3 to start m operands memory input output (lit≤ tt) (lit< tt)
+      (λ z rest l next same is. one_to g acts i.0 z rest memory input output l by next i.1 is (arrives ∙ same))
+      (λ z rest l is. one_past g acts i.0 z rest memory input output l by to i.1 is e) fits l
+
+  pub loops_close : {q : Watched} {at : ℕ} (by : ℕ) → LoopsOne q at 3 (sign_extended by) (i86.Dec 0 ∷ i86.JumpIf 4 by ∷ [])
+  loops_close by g acts to start m operands memory input output e arrives fits i l =
+      loops_one g acts i.0 2 to start m operands memory input output (lit≤ tt) (lit< tt)
+      (λ z rest l next same is. short_to g acts i.0 z rest memory input output l by next i.1 is (arrives ∙ same))
+      (λ z rest l is. short_past g acts i.0 z rest memory input output l by to i.1 is e) fits l
 
   -- ---- switches
 

@@ -114,14 +114,14 @@ module _ (known : Given) where
         let t = ended o (rescale_before from to) line refl e (ap (λ up. if up then Some line else None) is) (λ short. rescale_forms (names_of s.orders) own place short line from to is) in
         does known s true line (perform p.limits.area (Rescale from to) w) 17 (begins_next known s a o e) (step_is known s (Some o) e) (cheap known s o 17 (lit≤ tt) e)
         (rescales_up (setting known s) w.memory w.input w.output b (next known s a) line from to w.operands (line_fits known s o e) (leb-true from to is) (has_code known s o e).1 refl
-        (low_room known s) s.fits.operands
+        (low_room known s) s.fits.words.operands
         (times_check image words_of (here known s a) line n (own + pieces_size (rescale_before from to)) (call_place (names_of s.orders) place) (next known s a) t.short b t.code_is
         (t.check (test_place b (here known s a)) (times_long (here known s a) n b))) a.landed)
     rescaling from to line e false is =
         let o = order.Rescale from to line in
         let t = whole o (λ t. rescale_if t (2 ^ (to - from) == 32768) line from to) (nat_le from to) refl e refl (ap (λ up. if up then Some line else None) is) refl refl false is in
         does known s true line (perform p.limits.area (Rescale from to) w) 2 (begins_next known s a o e) (step_is known s (Some o) e) (cheap known s o 2 (lit≤ tt) e)
-        (rescales_down (setting known s) w.memory w.input w.output (next known s a) line from to w.operands (not_within from to is) (has_code known s o e).0 t.ends (low_room known s) s.fits.operands t.stands a.landed)
+        (rescales_down (setting known s) w.memory w.input w.output (next known s a) line from to w.operands (not_within from to is) (has_code known s o e).0 t.ends (low_room known s) s.fits.words.operands t.stands a.landed)
 
     pub rescale_follows : (from to line : ℕ) → slice_get s.orders.list place ≡ Some (order.Rescale from to line) → Follow known (at g place true acts w Running) q
     rescale_follows from to line e = rescaling from to line e (nat_le from to) refl
@@ -138,7 +138,7 @@ module _ (known : Given) where
         let t = product_ended (pos 0) line e refl in
         let h = t.code_is in
         does known s true line (perform p.limits.area (Multiply (pos 0)) w) 16 (begins_next known s a o e) (step_is known s (Some o) e) (cheap known s o 16 (lit≤ tt) e)
-        (products (setting known s) w.memory w.input w.output (next known s a) line w.operands (line_fits known s o e) (low_room known s) s.fits.operands
+        (products (setting known s) w.memory w.input w.output (next known s a) line w.operands (line_fits known s o e) (low_room known s) s.fits.words.operands
         (h.0, (h.1.0, t.check (here known s a + 1 + 2) (omega arith) h.1.1)) a.landed)
 
     multiplying_up : (n line : ℕ) → slice_get s.orders.list place ≡ Some (order.Mul (pos (suc n)) line) → Follow known (at g place true acts w Running) q
@@ -151,7 +151,7 @@ module _ (known : Given) where
         let h = t.code_is in
         does known s true line (perform p.limits.area (Multiply (pos (suc n))) w) 20 (begins_next known s a o e) (step_is known s (Some o) e) (cheap known s o 20 (lit≤ tt) e)
         (products_up (setting known s) w.memory w.input w.output b (next known s a) (by known s overflow_entry c) line n w.operands
-        (line_fits known s o e) (has_code known s o e) refl (calls known s overflow_entry c (lit< tt)) (low_room known s) s.fits.operands (
+        (line_fits known s o e) (has_code known s o e) refl (calls known s overflow_entry c (lit< tt)) (low_room known s) s.fits.words.operands (
           h.0,
           (
             h.1.0,
@@ -177,12 +177,12 @@ module _ (known : Given) where
         let h = t.code_is in
         does known s true line (perform p.limits.area (Multiply (negsuc n)) w) 32 (begins_next known s a o e) (step_is known s (Some o) e) (cheap known s o 32 (lit≤ tt) e)
         (products_down (setting known s) w.memory w.input w.output (next known s a) (by known s product_entry c) line n w.operands (line_fits known s o e) (ltb-true n 15 is)
-        (calls known s product_entry c (lit< tt)) (low_room known s) s.fits.operands (h.0, (h.1.0, (h.1.1.0, t.check c (omega arith) h.1.1.1))) a.landed)
+        (calls known s product_entry c (lit< tt)) (low_room known s) s.fits.words.operands (h.0, (h.1.0, (h.1.1.0, t.check c (omega arith) h.1.1.1))) a.landed)
     multiplying_down n line e false is =
         let o = order.Mul (negsuc n) line in
         let t = whole o (λ t. product_down line t n) (nat_lt n 15) refl e refl (ap (λ few. if few then Some line else None) is) refl refl false is in
         does known s true line (perform p.limits.area (Multiply (negsuc n)) w) 5 (begins_next known s a o e) (step_is known s (Some o) e) (cheap known s o 5 (lit≤ tt) e)
-        (products_far_down (setting known s) w.memory w.input w.output (next known s a) line n w.operands t.ends (not_below n 15 is) (has_code known s o e) (low_room known s) s.fits.operands t.stands a.landed)
+        (products_far_down (setting known s) w.memory w.input w.output (next known s a) line n w.operands t.ends (not_below n 15 is) (has_code known s o e) (low_room known s) s.fits.words.operands t.stands a.landed)
 
     pub multiply_follows : (s' : ℤ) (line : ℕ) → slice_get s.orders.list place ≡ Some (order.Mul s' line) → Follow known (at g place true acts w Running) q
     multiply_follows (pos zero) line e = multiplying line e
@@ -203,7 +203,7 @@ module _ (known : Given) where
         let h = t.code_is in
         does known s true line (perform p.limits.area (Divide (pos n)) w) 46 (begins_next known s a o e) (step_is known s (Some o) e) (cheap known s o 46 (lit≤ tt) e)
         (divides_up (setting known s) w.memory w.input w.output (next known s a) (by known s zero_divisor_entry b) (by known s quotient_up_entry c) line n w.operands (line_fits known s o e)
-        (has_code known s o e) (calls known s zero_divisor_entry b (lit< tt)) (calls known s quotient_up_entry c (lit< tt)) (low_room known s) s.fits.operands
+        (has_code known s o e) (calls known s zero_divisor_entry b (lit< tt)) (calls known s quotient_up_entry c (lit< tt)) (low_room known s) s.fits.words.operands
         (h.0, (h.1.0, (h.1.1.0, (h.1.1.1.0, (h.1.1.1.1.0, (h.1.1.1.1.1.0, (h.1.1.1.1.1.1.0, (h.1.1.1.1.1.1.1.0, t.check c (omega arith) h.1.1.1.1.1.1.1.1)))))))) a.landed)
     divide_follows (negsuc n) line e =
         let o = order.Div (negsuc n) line in
@@ -213,7 +213,7 @@ module _ (known : Given) where
         let h = t.code_is in
         does known s true line (perform p.limits.area (Divide (negsuc n)) w) 44 (begins_next known s a o e) (step_is known s (Some o) e) (cheap known s o 44 (lit≤ tt) e)
         (divides_down (setting known s) w.memory w.input w.output (next known s a) (by known s zero_divisor_entry b) (by known s quotient_down_entry c) line n w.operands (line_fits known s o e)
-        (has_code known s o e) (calls known s zero_divisor_entry b (lit< tt)) (calls known s quotient_down_entry c (lit< tt)) (low_room known s) s.fits.operands
+        (has_code known s o e) (calls known s zero_divisor_entry b (lit< tt)) (calls known s quotient_down_entry c (lit< tt)) (low_room known s) s.fits.words.operands
         (h.0, (h.1.0, (h.1.1.0, (h.1.1.1.0, (h.1.1.1.1.0, (h.1.1.1.1.1.0, (h.1.1.1.1.1.1.0, (h.1.1.1.1.1.1.1.0, t.check c (omega arith) h.1.1.1.1.1.1.1.1)))))))) a.landed)
 
     -- ---- elements and entries
@@ -223,7 +223,7 @@ module _ (known : Given) where
         let o = order.Element lower span line in
         does known s true line (from_base p.limits.area (λ base. Indexed base lower) w) 21 (begins_next known s a o e) (step_is known s (Some o) e) (cheap known s o 21 (lit≤ tt) e)
         (forms_element (setting known s) w.memory w.input w.output words_of (next known s a) line (line_fits known s o e) (λ k. calls known s address_entry k (lit< tt)) lower w.operands
-        (has_code known s o e) (low_room known s) s.fits.operands (record { stands = code known s a o e; ends = behind known s a o e }) a.landed)
+        (has_code known s o e) (low_room known s) s.fits.words.operands (record { stands = code known s a o e; ends = behind known s a o e }) a.landed)
 
     pub element_of_two_follows : (lower second : ℤ) (width line : ℕ) → slice_get s.orders.list place ≡ Some (order.ElementOfTwo lower second width line) → Follow known (at g place true acts w Running) q
     element_of_two_follows lower second width line e =
@@ -231,7 +231,7 @@ module _ (known : Given) where
         let h = has_code known s o e in
         does known s true line (from_base p.limits.area (λ base. Indexed2 base lower second width) w) 31 (begins_next known s a o e) (step_is known s (Some o) e) (cheap known s o 31 (lit≤ tt) e)
         (forms_element_of_two (setting known s) w.memory w.input w.output words_of (next known s a) line (line_fits known s o e) (λ k. calls known s address_entry k (lit< tt)) lower second width w.operands
-        h.0 h.1 h.2 (low_room known s) s.fits.operands (record { stands = code known s a o e; ends = behind known s a o e }) a.landed)
+        h.0 h.1 h.2 (low_room known s) s.fits.words.operands (record { stands = code known s a o e; ends = behind known s a o e }) a.landed)
 
     pub element_inside_follows : (lower second : ℤ) (width span : ℕ) → slice_get s.orders.list place ≡ Some (order.ElementInside lower second width span) → Follow known (at g place true acts w Running) q
     element_inside_follows lower second width span e =
@@ -239,7 +239,7 @@ module _ (known : Given) where
         let h = has_code known s o e in
         does known s true 0 (unrefused (from_base p.limits.area (λ base. Indexed2 base lower second width) w)) 10 (begins_next known s a o e) (step_is known s (Some o) e) (cheap known s o 10 (lit≤ tt) e)
         (forms_element_inside (setting known s) w.memory w.input w.output words_of (next known s a) 0 (lit< tt) (λ k. calls known s address_entry k (lit< tt)) lower second width w.operands
-        h.0 h.1 h.2 (low_room known s) s.fits.operands (record { stands = code known s a o e; ends = behind known s a o e }) a.landed)
+        h.0 h.1 h.2 (low_room known s) s.fits.words.operands (record { stands = code known s a o e; ends = behind known s a o e }) a.landed)
 
     pub entry_follows : (width word span line : ℕ) → slice_get s.orders.list place ≡ Some (order.Entry width word span line) → Follow known (at g place true acts w Running) q
     entry_follows width word span line e =
@@ -247,4 +247,4 @@ module _ (known : Given) where
         let h = has_code known s o e in
         does known s true line (from_base p.limits.area (λ base. Scaled base width word) w) 25 (begins_next known s a o e) (step_is known s (Some o) e) (cheap known s o 25 (lit≤ tt) e)
         (forms_entry (setting known s) w.memory w.input w.output words_of (next known s a) line (line_fits known s o e) (λ k. calls known s address_entry k (lit< tt)) width word w.operands
-        h.0 h.1 (low_room known s) s.fits.operands (record { stands = code known s a o e; ends = behind known s a o e }) a.landed)
+        h.0 h.1 (low_room known s) s.fits.words.operands (record { stands = code known s a o e; ends = behind known s a o e }) a.landed)

@@ -93,7 +93,7 @@ module _ (known : Given) where
         let c = here known s a + 3 in
         does known s true 0 (unrefused (perform p.limits.area ReadByte w)) 7 (begins_next known s a o e) (step_is known s (Some o) e) (cheap known s o 7 (lit≤ tt) e)
         (reads (setting known s) w.memory w.output (next known s a) (by known s read_entry c) w.operands w.input (behind known s a o e) (calls known s read_entry c (lit< tt)) (low_room known s)
-        (code known s a o e).0 s.fits.input (landed_here known s a))
+        (code known s a o e).0 s.fits.words.input (landed_here known s a))
 
     pub write_follows : slice_get s.orders.list place ≡ Some order.WriteByte → FollowFrom known (begun_here known s) (at g place false acts w Running) q
     write_follows e =
@@ -135,7 +135,7 @@ module _ (known : Given) where
             let v = f z (with_operands w rest) in
             let on = went_on p g place true m 0 acts w v (goes_on (Word z ∷ rest) is) s.never in
             let whole : w ≡ words (Word z ∷ rest) w.memory w.input w.output = ap (λ xs. words xs w.memory w.input w.output) is in
-            let fz = All-head OperandFits (Word z) rest (subst (All OperandFits) is s.fits.operands) in
+            let fz = All-head OperandFits (Word z) rest (subst (All OperandFits) is s.fits.words.operands) in
             silent known s a o m v e on.goes none codeless (λ at l. turned z rest fz at (subst (λ x. Landed p image at g true acts x q) whole l))
 
     pub drop_follows : slice_get s.orders.list place ≡ Some order.Drop → Follow known (at g place true acts w Running) q
@@ -167,19 +167,19 @@ module _ (known : Given) where
     add_follows line e =
         let o = order.Add line in
         does known s true line (perform p.limits.area Add w) 16 (begins_next known s a o e) (step_is known s (Some o) e) (cheap known s o 16 (lit≤ tt) e)
-        (adds (setting known s) w.memory w.input w.output (next known s a) line w.operands (line_fits known s o e) (low_room known s) s.fits.operands (add_code line (form_of o) e refl (code known s a o e)) a.landed)
+        (adds (setting known s) w.memory w.input w.output (next known s a) line w.operands (line_fits known s o e) (low_room known s) s.fits.words.operands (add_code line (form_of o) e refl (code known s a o e)) a.landed)
 
     pub subtract_follows : (line : ℕ) → slice_get s.orders.list place ≡ Some (order.Sub line) → Follow known (at g place true acts w Running) q
     subtract_follows line e =
         let o = order.Sub line in
         does known s true line (perform p.limits.area Subtract w) 17 (begins_next known s a o e) (step_is known s (Some o) e) (cheap known s o 17 (lit≤ tt) e)
-        (subtracts (setting known s) w.memory w.input w.output (next known s a) line w.operands (line_fits known s o e) (low_room known s) s.fits.operands (subtract_code line (form_of o) e refl (code known s a o e)) a.landed)
+        (subtracts (setting known s) w.memory w.input w.output (next known s a) line w.operands (line_fits known s o e) (low_room known s) s.fits.words.operands (subtract_code line (form_of o) e refl (code known s a o e)) a.landed)
 
     pub negate_follows : (line : ℕ) → slice_get s.orders.list place ≡ Some (order.Neg line) → Follow known (at g place true acts w Running) q
     negate_follows line e =
         let o = order.Neg line in
         does known s true line (perform p.limits.area Negate w) 15 (begins_next known s a o e) (step_is known s (Some o) e) (cheap known s o 15 (lit≤ tt) e)
-        (negates (setting known s) w.memory w.input w.output (next known s a) line w.operands (line_fits known s o e) (low_room known s) s.fits.operands
+        (negates (setting known s) w.memory w.input w.output (next known s a) line w.operands (line_fits known s o e) (low_room known s) s.fits.words.operands
         (negate_code line (form_of o) e refl (code known s a o e)) a.landed)
 
     pub load_follows : slice_get s.orders.list place ≡ Some order.Load → Follow known (at g place true acts w Running) q
@@ -201,15 +201,15 @@ module _ (known : Given) where
         let o = order.LoadPart t b is_signed in
         let h = has_code known s o e in
         does known s true 0 (unrefused (perform p.limits.area (Fetch (part t b (not is_signed))) w)) 7 (begins_next known s a o e) (step_is known s (Some o) e) (cheap known s o 7 (lit≤ tt) e)
-        (loads_part (setting known s) w.memory w.input w.output s.fits.memory a.landed.kept.long (all.stands g s.orders s.unit).value (next known s a) t b is_signed w.operands (behind known s a o e) h.0 h.1 (low_room known s)
-        s.fits.operands (code known s a o e) a.landed)
+        (loads_part (setting known s) w.memory w.input w.output s.fits.words.memory a.landed.kept.long (all.stands g s.orders s.unit).value (next known s a) t b is_signed w.operands (behind known s a o e) h.0 h.1 (low_room known s)
+        s.fits.words.operands (code known s a o e) a.landed)
 
     pub store_part_follows : (t b : ℕ) → slice_get s.orders.list place ≡ Some (order.StorePart t b) → Follow known (at g place true acts w Running) q
     store_part_follows t b e =
         let o = order.StorePart t b in
         let h = has_code known s o e in
         does known s false 0 (unrefused (perform p.limits.area (StoreBits t b) w)) 8 (begins_next known s a o e) (step_is known s (Some o) e) (cheap known s o 8 (lit≤ tt) e)
-        (stores_part (setting known s) w.memory w.input w.output s.fits.memory a.landed.kept.long (all.stands g s.orders s.unit).value (next known s a) t b w.operands (behind known s a o e) h.1 (low_room known s) s.fits.operands
+        (stores_part (setting known s) w.memory w.input w.output s.fits.words.memory a.landed.kept.long (all.stands g s.orders s.unit).value (next known s a) t b w.operands (behind known s a o e) h.1 (low_room known s) s.fits.words.operands
         (code known s a o e) a.landed)
 
     -- all bits of a word, by no code
@@ -221,7 +221,7 @@ module _ (known : Given) where
     pub take_follows : (t b : ℕ) → slice_get s.orders.list place ≡ Some (order.Take t b) → Follow known (at g place true acts w Running) q
     take_follows t b e = elim (cases_lt 0 (part_steps t b false)) [
       | inl some ↦ does known s true 0 (unrefused (perform p.limits.area (Extract t b) w)) 4 (begins_next known s a (order.Take t b) e) (step_is known s (Some (order.Take t b)) e) (cheap known s (order.Take t b) 4 (lit≤ tt) e)
-          (takes (setting known s) w.memory w.input w.output (all.stands g s.orders s.unit).value (next known s a) t b w.operands (behind known s a (order.Take t b) e) some (has_code known s (order.Take t b) e).1 (low_room known s) s.fits.operands
+          (takes (setting known s) w.memory w.input w.output (all.stands g s.orders s.unit).value (next known s a) t b w.operands (behind known s a (order.Take t b) e) some (has_code known s (order.Take t b) e).1 (low_room known s) s.fits.words.operands
           (code known s a (order.Take t b) e) a.landed)
       | inr none ↦ let all_bits = without_steps t b (omega arith) in
           take_all (subst (λ n. slice_get s.orders.list place ≡ Some (order.Take n 0)) all_bits.0 (subst (λ n. slice_get s.orders.list place ≡ Some (order.Take t n)) all_bits.1 e))
@@ -239,7 +239,7 @@ module _ (known : Given) where
     combines_follow op o e goes paid ends long sets needs i =
         does known s true 0 (unrefused (perform p.limits.area (Combine op) w)) 2 (begins_next known s a o e) (step_is known s (Some o) e ∙ goes) (cheap known s o 2 paid e)
         (combines (setting known s) w.memory w.input w.output (next known s a) (logic_act op) (logic_word op) (λ a b o. false) (λ x y. signed (logic_word op (unsigned x) (unsigned y))) w.operands ends long sets needs
-        (logic_turned (setting known s) w.memory w.input w.output op) (low_room known s) s.fits.operands i a.landed)
+        (logic_turned (setting known s) w.memory w.input w.output op) (low_room known s) s.fits.words.operands i a.landed)
 
     pub and_follows : slice_get s.orders.list place ≡ Some order.And → Follow known (at g place true acts w Running) q
     and_follows e = combines_follow logic.Mask order.And e refl (lit≤ tt) (behind known s a order.And e) refl (λ a cx dx b sp bp si di o cells stack i t. refl) (λ v. tt) (code known s a order.And e)
@@ -255,7 +255,7 @@ module _ (known : Given) where
         let o = order.Less in
         does known s true 0 (unrefused (difference w)) 3 (begins_next known s a o e) (step_is known s (Some o) e) (cheap known s o 3 (lit≤ tt) e)
         (differs (setting known s) w.memory w.input w.output (next known s a) (λ x y. signed (word_difference (unsigned x) (unsigned y))) w.operands (behind known s a o e)
-        (lesses (setting known s) w.memory w.input w.output) (low_room known s) s.fits.operands (code known s a o e) a.landed)
+        (lesses (setting known s) w.memory w.input w.output) (low_room known s) s.fits.words.operands (code known s a o e) a.landed)
 
     -- ---- indexes and addresses
 
@@ -265,7 +265,7 @@ module _ (known : Given) where
         let c = here known s a + 3 + 2 + 2 + 3 in
         does known s true line (index (λ i. i -ℤ lower) w) 16 (begins_next known s a o e) (step_is known s (Some o) e) (cheap known s o 16 (lit≤ tt) e)
         (indexes_less (setting known s) w.memory w.input w.output (next known s a) (by known s address_entry c) line lower w.operands (line_fits known s o e) (behind known s a o e)
-        (calls known s address_entry c (lit< tt)) (has_code known s o e) (low_room known s) s.fits.operands (code known s a o e) a.landed)
+        (calls known s address_entry c (lit< tt)) (has_code known s o e) (low_room known s) s.fits.words.operands (code known s a o e) a.landed)
 
     pub in_area_follows : (line : ℕ) → slice_get s.orders.list place ≡ Some (order.InArea line) → Follow known (at g place true acts w Running) q
     in_area_follows line e =
@@ -273,7 +273,7 @@ module _ (known : Given) where
         let c = here known s a + 2 + 2 + 3 in
         does known s true line (perform p.limits.area (Form Taken) w) 15 (begins_next known s a o e) (step_is known s (Some o) e) (cheap known s o 15 (lit≤ tt) e)
         (in_areas (setting known s) w.memory w.input w.output (next known s a) (by known s address_entry c) line w.operands (line_fits known s o e) (behind known s a o e)
-        (calls known s address_entry c (lit< tt)) (low_room known s) s.fits.operands (code known s a o e) a.landed)
+        (calls known s address_entry c (lit< tt)) (low_room known s) s.fits.words.operands (code known s a o e) a.landed)
 
     -- with both bounds, and with one number where the lower one is 0
     between_follows : (lower upper : ℤ) (line : ℕ) → slice_get s.orders.list place ≡ Some (order.InBounds lower upper line) → here known s a + 20 ≡ next known s a
@@ -286,7 +286,7 @@ module _ (known : Given) where
         let second = first + 2 + 3 + 2 + 3 in
         does known s true line (perform p.limits.area (InBounds lower upper) w) 17 (begins_next known s a o e) (step_is known s (Some o) e) (cheap known s o 17 (lit≤ tt) e)
         (bounds_kept (setting known s) w.memory w.input w.output (next known s a) (by known s bounds_entry first) (by known s bounds_entry second) line lower upper w.operands (line_fits known s o e)
-        ends (calls known s bounds_entry first (lit< tt)) (calls known s bounds_entry second (lit< tt)) h.0 h.1 (low_room known s) s.fits.operands i a.landed)
+        ends (calls known s bounds_entry first (lit< tt)) (calls known s bounds_entry second (lit< tt)) h.0 h.1 (low_room known s) s.fits.words.operands i a.landed)
 
     pub in_bounds_follows : (lower upper : ℤ) (line : ℕ) → slice_get s.orders.list place ≡ Some (order.InBounds lower upper line) → Follow known (at g place true acts w Running) q
     in_bounds_follows (pos zero) upper line e =
@@ -294,6 +294,6 @@ module _ (known : Given) where
         let stop = here known s a + 3 + 2 + 3 in
         does known s true line (perform p.limits.area (InBounds (pos 0) upper) w) 15 (begins_next known s a o e) (step_is known s (Some o) e) (cheap known s o 15 (lit≤ tt) e)
         (bounds_from_zero (setting known s) w.memory w.input w.output (next known s a) (by known s bounds_entry stop) line upper w.operands (line_fits known s o e)
-        (behind known s a o e) (calls known s bounds_entry stop (lit< tt)) (has_code known s o e).1 (low_room known s) s.fits.operands (code known s a o e) a.landed)
+        (behind known s a o e) (calls known s bounds_entry stop (lit< tt)) (has_code known s o e).1 (low_room known s) s.fits.words.operands (code known s a o e) a.landed)
     in_bounds_follows (pos (suc n)) upper line e = let o = order.InBounds (pos (suc n)) upper line in between_follows (pos (suc n)) upper line e (behind known s a o e) (code known s a o e)
     in_bounds_follows (negsuc n) upper line e = let o = order.InBounds (negsuc n) upper line in between_follows (negsuc n) upper line e (behind known s a o e) (code known s a o e)

@@ -1,18 +1,13 @@
 //! The law that joins the machine of orders and the processor.
 ghost use Rattle.std.specs.Prelude.{ℕ, ℤ, ◌<◌, List, [], All};
-ghost use Rattle.cw_track.specs.Tracking.{TracksAfter};
-ghost use Rattle.cw_track.specs.Watching.{watched};
-ghost use Rattle.cw_i86.specs.State.{State};
-ghost use Rattle.cw_i86.specs.MachineRun.{IsStart};
+ghost use Rattle.cw_track.specs.{Tracking.TracksAfter, Watching.watched};
+ghost use Rattle.cw_i86.specs.{State.State, MachineRun.IsStart};
 ghost use Rattle.cw_run86.specs.Processor.{processor_machine, processor_start};
 ghost use Rattle.cw_image.specs.Begun.{StatementPlace};
 ghost use Rattle.cw_unit.specs.Behaviour.{is_running};
-ghost use Rattle.cw_order.specs.OrderProgram.{OrderProgram};
-ghost use Rattle.cw_order.specs.OrderMachine.{order_machine, order_start};
-ghost use Rattle.cw_order.specs.Starting.{starts};
-ghost use Rattle.cw_follow.specs.Showing.{shown_as};
-ghost use Rattle.cw_follow.specs.Passing.{passes, statement_places, PlacesStand};
-ghost use Rattle.cw_follow.specs.Placing.{IsImage, Codable, BeginsWith, NeverStuck, startup_cost};
+ghost use Rattle.cw_order.specs.{OrderProgram.OrderProgram, OrderMachine.order_machine, OrderMachine.order_start, Starting.starts};
+ghost use Rattle.cw_follow.specs.{Showing.shown_as, Passing.passes, Passing.statement_places, Passing.PlacesStand, Placing.IsImage, Placing.Codable, Placing.BeginsWith};
+ghost use Rattle.cw_follow.specs.Placing.{NeverStuck, startup_cost};
 
 use cw_order::laws::{activations, words};
 use cw_routines::laws::{

@@ -1,12 +1,12 @@
 -- What reading says of the longest front of a list.
-use Rattle.std.proofs.Common.{◌≡◌, ℕ, zero, suc, ◌+◌, ◌-◌, ◌≤◌, ◌<◌, Bool, true, false, List, [], ◌∷◌, ◌++◌, length, Result, Ok, Err, refl, sym, ap, subst, ◌∙◌, append_assoc, arith}
-use Rattle.std.proofs.lemmas.List.{append-nil, length-append}
+use Rattle.std.proofs.Common.{◌≡◌, ℕ, suc, ◌+◌, ◌-◌, ◌≤◌, ◌<◌, true, List, [], ◌∷◌, ◌++◌, length, Ok, Err, refl, sym, ap, subst, ◌∙◌, append_assoc, arith}
+use Rattle.std.proofs.lemmas.List.{length-append}
 use Rattle.cw_grammar.specs.Tokens.{Item}
 use Rattle.cw_grammar.specs.Grammar.{Sort, Value, Grammar, predictive}
 use Rattle.cw_grammar.specs.Derives.{Derives, IsViablePrefix}
-use Rattle.cw_grammar.specs.Reading.{Fault, syntax_at, deep_at, Read, read_with, reads, inside, Agains, turns, unbounded}
-use Rattle.cw_grammar.specs.Parsing.{IsLongestFront, IsLongestText, IsNoText, IsDeepAt}
-use Rattle.cw_grammar.proofs.Sound.{Found, Stops, Deep, Sound, sound}
+use Rattle.cw_grammar.specs.Reading.{Fault, syntax_at, deep_at, Read, reads}
+use Rattle.cw_grammar.specs.Parsing.{IsLongestText, IsNoText, IsDeepAt}
+use Rattle.cw_grammar.proofs.Sound.{Found, Stops, Deep}
 use Rattle.cw_grammar.proofs.Passes.{Passes, front_passes}
 use Rattle.cw_grammar.proofs.Strict.{Strict, text_strict}
 use Rattle.cw_grammar.proofs.Whole.{text_is_front, reads_text, sound_at}
@@ -62,17 +62,19 @@ read_no_text n s g ts k ok h =
 pub read_deep : (n : ℕ) (s : Sort) (g : Grammar s) (ts : List Item) (k : ℕ) → predictive g ≡ true → reads n g ts ≡ Err (deep_at k) → IsDeepAt n s g ts k
 read_deep n s g ts k ok h =
     let p : Deep n s g ts k = sound_at n s g ts (Err (deep_at k)) h in
+    let parts : ts ≡ p.stops.text ++ p.opening ∷ p.behind = p.stops.parts ∙ ap (λ (z : List Item). p.stops.text ++ z) p.begins in
+    let left_is : length p.behind + 1 ≡ k = omega (arith, ap length p.begins, p.stops.left_is) in
     record {
-      before = p.text;
+      before = p.stops.text;
       opening = p.opening;
-      rest = p.rest;
-      parts = p.parts;
-      left_is = p.left_is;
-      is_front = p.is_front;
+      rest = p.behind;
+      parts = parts;
+      left_is = left_is;
+      is_front = p.stops.is_front;
       opens = p.is_deep;
       too_deep = λ f.
-          let within : n ≤ n → k ≤ length p.rest = goes_over n n s g ts (p.text ++ p.opening ∷ []) p.rest (Err (deep_at k)) ok (p.parts ∙ sym (append_assoc p.text (p.opening ∷ []) p.rest)) f h in
-          omega (arith, within (omega arith), p.left_is);
+          let within : n ≤ n → k ≤ length p.behind = goes_over n n s g ts (p.stops.text ++ p.opening ∷ []) p.behind (Err (deep_at k)) ok (parts ∙ sym (append_assoc p.stops.text (p.opening ∷ []) p.behind)) f h in
+          omega (arith, within (omega arith), left_is);
     }
 
 same_parts : (u a r b : List Item) → u ++ r ≡ a ++ b → length u ≡ length a → (u ≡ a) × (r ≡ b)

@@ -25,16 +25,47 @@ left (Err (deep_at k)) = k
 sound_left_le : (n : ℕ) (s : Sort) (g : Grammar s) (ts : List Item) (o : Read (Value s)) → Sound n s g ts o → left o ≤ length ts
 sound_left_le n s g ts (Ok x) p = omega (arith, ap length p.parts, length-append p.text x.1)
 sound_left_le n s g ts (Err (syntax_at k)) p = omega (arith, ap length p.parts, length-append p.text p.rest, p.left_is)
-sound_left_le n s g ts (Err (deep_at k)) p = omega (arith, ap length p.parts, length-append p.text (p.opening ∷ p.rest), p.left_is)
+sound_left_le n s g ts (Err (deep_at k)) p = omega (arith, ap length p.stops.parts, length-append p.stops.text p.stops.rest, p.stops.left_is)
 
 pub left_le : (n : ℕ) (s : Sort) (g : Grammar s) (ts : List Item) → left (reads n g ts) ≤ length ts
 left_le n s g ts = sound_left_le n s g ts (reads n g ts) (sound n s g ts)
 
+-- Where m levels may be opened, no depth stops reading before the last l tokens; and what else stops it stands so to them.
+abbrev pub Goes : (Stop : (k l : ℕ) → Type 0) (m n : ℕ) (A : Type 0) → Read A → ℕ → Type 0
+Goes Stop m n A (Ok x) l = length x.1 ≤ l
+Goes Stop m n A (Err (syntax_at k)) l = Stop k l
+Goes Stop m n A (Err (deep_at k)) l = m ≤ n → k ≤ l
+
+pub goes_give : (Stop : (k l : ℕ) → Type 0) (m n : ℕ) (A B : Type 0) (o : Read A) (f : A → B) (l : ℕ) → Goes Stop m n A o l → Goes Stop m n B (o >>= λ x. Ok (f x.0, x.1)) l
+goes_give Stop m n A B (Ok x) f l p = p
+goes_give Stop m n A B (Err (syntax_at k)) f l p = p
+goes_give Stop m n A B (Err (deep_at k)) f l p = p
+
+pub goes_inside : (Stop : (k l : ℕ) → Type 0) (m n : ℕ) (A : Type 0) (o : Read A) (l : ℕ) → Goes Stop m n A o l → Goes Stop (suc m) (suc n) A o l
+goes_inside Stop m n A (Ok x) l p = p
+goes_inside Stop m n A (Err (syntax_at k)) l p = p
+goes_inside Stop m n A (Err (deep_at k)) l p = λ le. p (omega arith)
+
+pub goes_second : (Stop : (k l : ℕ) → Type 0) (m n : ℕ) (A B : Type 0) (o : Read A) (f : A × List Item → Read B) (x : A) (u : List Item) (l : ℕ) → Finds m n A o x u → Goes Stop m n B (f (x, u)) l → Goes Stop m n B (o >>= f) l
+goes_second Stop m n A B o f x u l (found e) p = rw e p
+goes_second Stop m n A B o f x u l (too_deep lt k e) p = rw e (λ le. absurd (omega arith))
+
+-- behind one more that is read first
+pub goes_more : (Stop : (k l : ℕ) → Type 0) (m n : ℕ) (s : Sort) (g : Grammar s) (u v : List Item) (x : Value s) → null g ≡ false → disjoint (next g) (first g) ≡ true → Heads u (first g) → Heads v (first g) → Completes m n s g u x
+    → ((r : List Item) → Goes Stop m n (List (Value s)) (reads n (many g) (v ++ r)) (length r)) → (r : List Item) → Goes Stop m n (List (Value s)) (reads n (many g) ((u ++ v) ++ r)) (length r)
+goes_more Stop m n s g u v x z d a b c q r =
+    let start = c (v ++ r) (starts_disjoint (v ++ r) (next g) (first g) d (b r)) in
+    let all = goes_second Stop m n (Value s) (List (Value s)) (reads n g (u ++ (v ++ r))) (λ y. reads n (many g) y.1 >>= λ w. Ok (y.0 ∷ w.0, w.1)) x (v ++ r) (length r) start
+    (goes_give Stop m n (List (Value s)) (List (Value s)) (reads n (many g) (v ++ r)) (λ w. x ∷ w) (length r) (q r)) in
+    let F : Read (List (Value s)) → Type 0 = λ o. Goes Stop m n (List (Value s)) o (length r) in
+    rw append_assoc (subst F (sym (many_more n s g (u ++ (v ++ r)) z (a (v ++ r)))) all)
+
+abbrev AtMost : (k l : ℕ) → Type 0
+AtMost k l = k ≤ l
+
 -- Reading goes on to the last l tokens at least, where m levels may be opened.
 abbrev pub Passes : (m n : ℕ) (A : Type 0) → Read A → ℕ → Type 0
-Passes m n A (Ok x) l = length x.1 ≤ l
-Passes m n A (Err (syntax_at k)) l = k ≤ l
-Passes m n A (Err (deep_at k)) l = m ≤ n → k ≤ l
+Passes = Goes AtMost
 
 passes_left : (m n : ℕ) (A : Type 0) (o : Read A) (l : ℕ) → left o ≤ l → Passes m n A o l
 passes_left m n A (Ok x) l h = h
@@ -45,20 +76,6 @@ passes_first : (m n : ℕ) (A B : Type 0) (o : Read A) (f : A × List Item → R
 passes_first m n A B (Ok x) f l p q = passes_left m n B (f x) l (omega (arith, q x))
 passes_first m n A B (Err (syntax_at k)) f l p q = p
 passes_first m n A B (Err (deep_at k)) f l p q = p
-
-passes_second : (m n : ℕ) (A B : Type 0) (o : Read A) (f : A × List Item → Read B) (x : A) (u : List Item) (l : ℕ) → Finds m n A o x u → Passes m n B (f (x, u)) l → Passes m n B (o >>= f) l
-passes_second m n A B o f x u l (found e) p = rw e p
-passes_second m n A B o f x u l (too_deep lt k e) p = rw e (λ le. absurd (omega arith))
-
-passes_give : (m n : ℕ) (A B : Type 0) (o : Read A) (f : A → B) (l : ℕ) → Passes m n A o l → Passes m n B (o >>= λ x. Ok (f x.0, x.1)) l
-passes_give m n A B (Ok x) f l p = p
-passes_give m n A B (Err (syntax_at k)) f l p = p
-passes_give m n A B (Err (deep_at k)) f l p = p
-
-passes_inside : (m n : ℕ) (A : Type 0) (o : Read A) (l : ℕ) → Passes m n A o l → Passes (suc m) (suc n) A o l
-passes_inside m n A (Ok x) l p = p
-passes_inside m n A (Err (syntax_at k)) l p = p
-passes_inside m n A (Err (deep_at k)) l p = λ le. p (omega arith)
 
 left_give : (A B : Type 0) (o : Read A) (f : A → B) (l : ℕ) → left o ≤ l → left (o >>= λ x. Ok (f x.0, x.1)) ≤ l
 left_give A B (Ok x) f l p = p
@@ -81,8 +98,8 @@ pass_then : (m n : ℕ) (s t : Sort) (g : Grammar s) (h : Grammar t) (u v : List
 pass_then m n s t g h u v x d (inl e) p c q r = rw (e, append-nil u) (pass_start m n s t g h u p r)
 pass_then m n s t g h u v x d (inr b) p c q r =
     let start = c (v ++ r) (starts_disjoint (v ++ r) (next g) (first h) d (b r)) in
-    rw append_assoc (passes_second m n (Value s) (Value s × Value t) (reads n g (u ++ (v ++ r))) (λ z. reads n h z.1 >>= λ w. Ok ((z.0, w.0), w.1)) x (v ++ r) (length r) start
-    (passes_give m n (Value t) (Value s × Value t) (reads n h (v ++ r)) (λ w. (x, w)) (length r) (q r)))
+    rw append_assoc (goes_second AtMost m n (Value s) (Value s × Value t) (reads n g (u ++ (v ++ r))) (λ z. reads n h z.1 >>= λ w. Ok ((z.0, w.0), w.1)) x (v ++ r) (length r) start
+    (goes_give AtMost m n (Value t) (Value s × Value t) (reads n h (v ++ r)) (λ w. (x, w)) (length r) (q r)))
 
 pass_left : (m n : ℕ) (s : Sort) (g h : Grammar s) (u : List Item) → (u ≡ []) ⊎ Heads u (first g) → PassesAt m n s g u → PassesAt m n s (g ∣ h) u
 pass_left m n s g h u (inl e) p r = rw e (passes_left m n (Value s) (reads n (g ∣ h) r) (length r) (left_le n s (g ∣ h) r))
@@ -106,21 +123,16 @@ pass_more : (m n : ℕ) (s : Sort) (g : Grammar s) (u v : List Item) (x : Value 
     → PassesAt m n (a_list s) (many g) (u ++ v)
 pass_more m n s g u v x z d (inl e) b p c q r = rw e (q r)
 pass_more m n s g u v x z d (inr a) (inl e) p c q r = rw (e, append-nil u) (pass_item m n s g u z (inr a) p r)
-pass_more m n s g u v x z d (inr a) (inr b) p c q r =
-    let start = c (v ++ r) (starts_disjoint (v ++ r) (next g) (first g) d (b r)) in
-    let all = passes_second m n (Value s) (List (Value s)) (reads n g (u ++ (v ++ r))) (λ y. reads n (many g) y.1 >>= λ w. Ok (y.0 ∷ w.0, w.1)) x (v ++ r) (length r) start
-    (passes_give m n (List (Value s)) (List (Value s)) (reads n (many g) (v ++ r)) (λ w. x ∷ w) (length r) (q r)) in
-    let F : Read (List (Value s)) → Type 0 = λ o. Passes m n (List (Value s)) o (length r) in
-    rw append_assoc (subst F (sym (many_more n s g (u ++ (v ++ r)) z (a (v ++ r)))) all)
+pass_more m n s g u v x z d (inr a) (inr b) p c q r = goes_more AtMost m n s g u v x z d a b c q r
 
 pass_map : (m n : ℕ) (s t : Sort) (f : Value s → Value t) (g : Grammar s) (u : List Item) → PassesAt m n s g u → PassesAt m n t (g ⇒ f) u
-pass_map m n s t f g u p r = passes_give m n (Value s) (Value t) (reads n g (u ++ r)) f (length r) (p r)
+pass_map m n s t f g u p r = goes_give AtMost m n (Value s) (Value t) (reads n g (u ++ r)) f (length r) (p r)
 
 pass_opens : (m n : ℕ) (s : Sort) (k : TokenKind) (q : Rule s) (t : Item) (u : List Item) → same t.kind k ≡ true → ((l : ℕ) → PassesAt m l s (rule q) u) → PassesAt (suc m) n (a_pair a_token s) (opens k q) (t ∷ u)
 unfolding inside
 pass_opens m zero s k q t u e p r = rw e (λ le. absurd (omega arith))
 pass_opens m (suc n) s k q t u e p r =
-    rw e (passes_give (suc m) (suc n) (Value s) (Item × Value s) (reads n (rule q) (u ++ r)) (λ y. (t, y)) (length r) (passes_inside m n (Value s) (reads n (rule q) (u ++ r)) (length r) (p n r)))
+    rw e (goes_give AtMost (suc m) (suc n) (Value s) (Item × Value s) (reads n (rule q) (u ++ r)) (λ y. (t, y)) (length r) (goes_inside AtMost m n (Value s) (reads n (rule q) (u ++ r)) (length r) (p n r)))
 
 pass_again : (m n : ℕ) (s : Sort) (a : Again s) (u : List Item) → PassesAt m n s (again_rule a) u → PassesAt m n s (again a) u
 pass_again m n s a u p r =

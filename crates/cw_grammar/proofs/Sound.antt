@@ -1,11 +1,10 @@
 -- What is read is derived, and a fault stands behind a front.
-use Rattle.std.proofs.Common.{◌≡◌, ℕ, zero, suc, ◌+◌, ◌≤◌, Bool, true, false, cond, List, [], ◌∷◌, ◌++◌, length, Result, Ok, Err, refl, sym, ap, ◌∙◌, append_assoc, arith}
-use Rattle.std.proofs.lemmas.List.{append-nil}
-use Rattle.cw_grammar.specs.Tokens.{Item, code, same}
+use Rattle.std.proofs.Common.{◌≡◌, ℕ, zero, suc, ◌+◌, Bool, true, false, cond, List, [], ◌∷◌, ◌++◌, length, Ok, Err, refl, sym, ap, subst, ◌∙◌, append_assoc, arith}
+use Rattle.cw_grammar.specs.Tokens.{Item, same}
 use Rattle.cw_lex.specs.declared.token.TokenKind.{TokenKind}
-use Rattle.cw_grammar.specs.Grammar.{Sort, a_token, a_pair, a_list, Value, Rule, Grammar, one, none, ◌·◌, ◌∣◌, many, ◌⇒◌, opens, Again, again, again_first, again_next, guarded, first, starts}
+use Rattle.cw_grammar.specs.Grammar.{Sort, a_token, a_pair, a_list, Value, Rule, Grammar, one, none, ◌·◌, ◌∣◌, many, ◌⇒◌, opens, Again, again, first, starts}
 use Rattle.cw_grammar.specs.Table.{rule, again_rule}
-use Rattle.cw_grammar.specs.Derives.{Derives, is_one, is_none, is_then, is_left, is_right, is_end, is_more, is_map, is_opens, is_again, IsViablePrefix, no_token, of_one, of_first, of_second, of_left, of_right, of_item, of_more, of_map, of_opens, of_again}
+use Rattle.cw_grammar.specs.Derives.{Derives, is_one, is_none, is_then, is_left, is_right, is_end, is_more, is_map, is_opens, is_again, IsViablePrefix, no_token, of_first, of_second, of_left, of_right, of_item, of_more, of_map, of_opens, of_again}
 use Rattle.cw_grammar.specs.Reading.{Fault, syntax_at, deep_at, Read, ◌>>=◌, take_one, repeat, Inside, read_with, reads, inside, Agains, turns, unbounded}
 
 -- More levels may be opened.
@@ -37,13 +36,11 @@ pub record Stops (n : ℕ) (s : Sort) (g : Grammar s) (ts : List Item) (left : �
 
 -- the tokens before the fault are a front, and with the next one they are one that opens one level more
 pub record Deep (n : ℕ) (s : Sort) (g : Grammar s) (ts : List Item) (left : ℕ) : Type 0 where
-  pub text : List Item
+  pub stops : Stops n s g ts left
   pub opening : Item
-  pub rest : List Item
-  pub parts : ts ≡ text ++ opening ∷ rest
-  pub left_is : length rest + 1 ≡ left
-  pub is_front : IsViablePrefix n s g text
-  pub is_deep : IsViablePrefix (suc n) s g (text ++ opening ∷ [])
+  pub behind : List Item
+  pub begins : stops.rest ≡ opening ∷ behind
+  pub is_deep : IsViablePrefix (suc n) s g (stops.text ++ opening ∷ [])
 
 abbrev pub Sound : (n : ℕ) (s : Sort) (g : Grammar s) (ts : List Item) → Read (Value s) → Type 0
 Sound n s g ts (Ok x) = Found n s g ts x.0 x.1
@@ -61,19 +58,20 @@ prepend t a b c e = ap (λ (z : List Item). t ∷ z) e
 rejoin : (ts u r v q : List Item) → ts ≡ u ++ r → r ≡ v ++ q → ts ≡ (u ++ v) ++ q
 rejoin ts u r v q e f = e ∙ ap (λ (z : List Item). u ++ z) f ∙ sym (append_assoc u v q)
 
+abbrev stops_behind : (m n : ℕ) (s t : Sort) (g : Grammar s) (h : Grammar t) (ts u r : List Item) → ts ≡ u ++ r → ((v : List Item) → IsViablePrefix m s g v → IsViablePrefix n t h (u ++ v)) → (k : ℕ) → Stops m s g r k → Stops n t h ts k
+stops_behind m n s t g h ts u r e here k p = record { text = u ++ p.text; rest = p.rest; parts = rejoin ts u r p.text p.rest e p.parts; left_is = p.left_is; is_front = here p.text p.is_front }
+
 -- A fault of a part is one of the whole, if each front of the part, behind what was read before it, is one of the whole.
 fault_behind : (m n : ℕ) (s t : Sort) (g : Grammar s) (h : Grammar t) (ts u r : List Item) → ts ≡ u ++ r → ((v : List Item) → IsViablePrefix m s g v → IsViablePrefix n t h (u ++ v)) → ((v : List Item) → IsViablePrefix (suc m) s g v → IsViablePrefix (suc n) t h (u ++ v))
     → (f : Fault) → Sound m s g r (Err f) → Sound n t h ts (Err f)
-fault_behind m n s t g h ts u r e here deeper (syntax_at k) p = record { text = u ++ p.text; rest = p.rest; parts = rejoin ts u r p.text p.rest e p.parts; left_is = p.left_is; is_front = here p.text p.is_front }
+fault_behind m n s t g h ts u r e here deeper (syntax_at k) p = stops_behind m n s t g h ts u r e here k p
 fault_behind m n s t g h ts u r e here deeper (deep_at k) p =
     record {
-      text = u ++ p.text;
+      stops = stops_behind m n s t g h ts u r e here k p.stops;
       opening = p.opening;
-      rest = p.rest;
-      parts = rejoin ts u r p.text (p.opening ∷ p.rest) e p.parts;
-      left_is = p.left_is;
-      is_front = here p.text p.is_front;
-      is_deep = rw append_assoc (deeper (p.text ++ p.opening ∷ []) p.is_deep);
+      behind = p.behind;
+      begins = p.begins;
+      is_deep = subst (λ (z : List Item). IsViablePrefix (suc n) t h z) (sym (append_assoc u p.stops.text (p.opening ∷ []))) (deeper (p.stops.text ++ p.opening ∷ []) p.is_deep);
     }
 
 -- of the same tokens
@@ -134,7 +132,7 @@ sound_repeat n s g test item q (suc k) ts =
 -- the inside of a level, behind the token that opens it
 sound_inside : (n : ℕ) (s : Sort) (k : TokenKind) (r : Rule s) (t : Item) (ts : List Item) → same t.kind k ≡ true → (o : Read (Value s)) → SoundInside n s r ts o → Sound n (a_pair a_token s) (opens k r) (t ∷ ts) (o >>= λ y. Ok ((t, y.0), y.1))
 sound_inside zero s k r t ts e o h =
-    rw h (record { text = []; opening = t; rest = ts; parts = refl; left_is = refl; is_front = no_token; is_deep = of_opens e no_token })
+    rw h (record { stops = record { text = []; rest = t ∷ ts; parts = refl; left_is = omega arith; is_front = no_token }; opening = t; behind = ts; begins = refl; is_deep = of_opens e no_token })
 sound_inside (suc n) s k r t ts e (Ok x) p = record { text = t ∷ p.text; parts = prepend t ts p.text x.1 p.parts; derives = is_opens e p.derives }
 sound_inside (suc n) s k r t ts e (Err m) p = fault_behind n (suc n) s (a_pair a_token s) (rule r) (opens k r) (t ∷ ts) (t ∷ []) ts refl (λ v q. of_opens e q) (λ v q. of_opens e q) m p
 

@@ -1,21 +1,21 @@
 -- Behind a text no fault of syntax stands at the next token: reading stops there, or goes on past it.
-use Rattle.std.proofs.Common.{◌≡◌, ℕ, zero, suc, ◌+◌, ◌≤◌, ◌<◌, Bool, true, false, cond, not, ◌&&◌, ◌||◌, List, [], ◌∷◌, ◌++◌, length, Result, Ok, Err, refl, sym, ap, subst, ◌∙◌, append_assoc, arith, inl, inr, ◌⊎◌}
+use Rattle.std.proofs.Common.{◌≡◌, ℕ, zero, suc, ◌+◌, ◌≤◌, ◌<◌, Bool, true, false, cond, not, ◌&&◌, ◌||◌, List, [], ◌∷◌, ◌++◌, length, Ok, Err, refl, sym, ap, subst, ◌∙◌, append_assoc, arith, inl, inr, ◌⊎◌}
 use Rattle.std.proofs.lemmas.Bool.{and_parts, or_cases, both_ways, cases_lt}
 use Rattle.std.proofs.lemmas.List.{append-nil, length-append}
-use Rattle.cw_grammar.specs.Tokens.{Item, code, same}
+use Rattle.cw_grammar.specs.Tokens.{Item, same}
 use Rattle.cw_lex.specs.declared.token.TokenKind.{TokenKind}
-use Rattle.cw_grammar.specs.Grammar.{Sort, a_token, a_pair, a_list, Value, Rule, Grammar, one, none, ◌·◌, ◌∣◌, many, ◌⇒◌, opens, Again, again, again_first, again_next, guarded, member, first, next, null, starts, disjoint, predictive, rule_next}
+use Rattle.cw_grammar.specs.Grammar.{Sort, a_token, a_pair, a_list, Value, Rule, Grammar, one, none, ◌·◌, ◌∣◌, many, ◌⇒◌, opens, Again, again, again_first, guarded, first, next, null, starts, disjoint, predictive}
 use Rattle.cw_grammar.specs.Table.{rule, again_rule}
 use Rattle.cw_grammar.specs.Derives.{Derives, is_one, is_none, is_then, is_left, is_right, is_end, is_more, is_map, is_opens, is_again}
-use Rattle.cw_grammar.specs.Reading.{Fault, syntax_at, deep_at, Read, ◌>>=◌, take_one, Inside, read_with, reads, inside, Agains, turns, unbounded}
-use Rattle.cw_grammar.proofs.Tests.{starts_neither, starts_disjoint, starts_append, or_false, starts_into}
+use Rattle.cw_grammar.specs.Reading.{syntax_at, deep_at, Read, ◌>>=◌, reads, inside}
+use Rattle.cw_grammar.proofs.Tests.{starts_disjoint, starts_append, starts_into}
 use Rattle.cw_grammar.proofs.Sound.{Found, Sound, sound}
-use Rattle.cw_grammar.proofs.Begins.{Begins, Heads, begins}
+use Rattle.cw_grammar.proofs.Begins.{Begins, begins}
 use Rattle.cw_grammar.proofs.Many.{many_more, many_end}
 use Rattle.cw_grammar.proofs.Table.{rule_predictive, again_predictive, again_guarded, again_null, again_begun}
 use Rattle.cw_grammar.proofs.Again.{again_step}
 use Rattle.cw_grammar.proofs.Complete.{Finds, found, too_deep, Completes, complete}
-use Rattle.cw_grammar.proofs.Passes.{left, left_le, then_parts, or_parts, many_parts}
+use Rattle.cw_grammar.proofs.Passes.{left, left_le, Goes, goes_give, goes_inside, goes_second, goes_more, then_parts, or_parts, many_parts}
 
 -- what may be nothing is derived from nothing
 null_guarded : {s : Sort} (g : Grammar s) → guarded g ≡ true → null g ≡ true → (x : Value s) × Derives 0 s g [] x
@@ -183,11 +183,12 @@ moves n (◌⇒◌ {s = s} {t = t} g f) ok = moves_map n s t f g (moves n g ok)
 moves n (opens {s = s} k r) ok = moves_opens n s k r
 moves n (again {s = s} a) ok = moves_again n s a
 
+abbrev Below : (k l : ℕ) → Type 0
+Below k l = k < l
+
 -- behind a text reading stops, or goes on past the next token
 abbrev pub Strict : (m n : ℕ) (A : Type 0) → Read A → ℕ → Type 0
-Strict m n A (Ok x) l = length x.1 ≤ l
-Strict m n A (Err (syntax_at k)) l = k < l
-Strict m n A (Err (deep_at k)) l = m ≤ n → k ≤ l
+Strict = Goes Below
 
 strict_left : (m n : ℕ) (A : Type 0) (o : Read A) (l : ℕ) → left o < l → Strict m n A o l
 strict_left m n A (Ok x) l h = omega arith
@@ -198,16 +199,6 @@ strict_moves : (m n : ℕ) (A : Type 0) (o : Read A) (l : ℕ) → Moves A o l �
 strict_moves m n A (Ok x) l h = omega arith
 strict_moves m n A (Err (syntax_at k)) l h = h
 strict_moves m n A (Err (deep_at k)) l h = λ _. h
-
-strict_give : (m n : ℕ) (A B : Type 0) (o : Read A) (f : A → B) (l : ℕ) → Strict m n A o l → Strict m n B (o >>= λ x. Ok (f x.0, x.1)) l
-strict_give m n A B (Ok x) f l p = p
-strict_give m n A B (Err (syntax_at k)) f l p = p
-strict_give m n A B (Err (deep_at k)) f l p = p
-
-strict_inside : (m n : ℕ) (A : Type 0) (o : Read A) (l : ℕ) → Strict m n A o l → Strict (suc m) (suc n) A o l
-strict_inside m n A (Ok x) l p = p
-strict_inside m n A (Err (syntax_at k)) l p = p
-strict_inside m n A (Err (deep_at k)) l p = λ le. p (omega arith)
 
 same_rest : (u a r b : List Item) → u ++ r ≡ a ++ b → length b ≡ length r → b ≡ r
 same_rest [] [] r b e h = sym e
@@ -237,10 +228,6 @@ strict_bind m n A B (Ok y) f r p q same s =
 strict_bind m n A B (Err (syntax_at k)) f r p q same s = p
 strict_bind m n A B (Err (deep_at k)) f r p q same s = p
 
-strict_second : (m n : ℕ) (A B : Type 0) (o : Read A) (f : A × List Item → Read B) (x : A) (u : List Item) (l : ℕ) → Finds m n A o x u → Strict m n B (f (x, u)) l → Strict m n B (o >>= f) l
-strict_second m n A B o f x u l (found e) p = rw e p
-strict_second m n A B o f x u l (too_deep lt k e) p = rw e (λ le. absurd (omega arith))
-
 abbrev pub StrictAt : (m n : ℕ) (s : Sort) (g : Grammar s) (w : List Item) → Type 0
 StrictAt m n s g w = (r : List Item) → Strict m n (Value s) (reads n g (w ++ r)) (length r)
 
@@ -250,11 +237,11 @@ strict_then m n s t g h u v x d (inl b) p c q r =
     (strict_bind m n (Value s) (Value s × Value t) (reads n g (u ++ r)) (λ z. reads n h z.1 >>= λ w. Ok ((z.0, w.0), w.1)) r (p r)
     (λ y. left_give (Value t) (Value s × Value t) (reads n h y.1) (λ w. (y.0, w)) (length y.1) (left_le n t h y.1))
     (found_rest n s g u r)
-    (λ y. strict_give m n (Value t) (Value s × Value t) (reads n h r) (λ w. (y, w)) (length r) (let k = q r in rw b.0 at k)))
+    (λ y. goes_give Below m n (Value t) (Value s × Value t) (reads n h r) (λ w. (y, w)) (length r) (let k = q r in rw b.0 at k)))
 strict_then m n s t g h u v x d (inr b) p c q r =
     let start = c (v ++ r) (starts_disjoint (v ++ r) (next g) (first h) d (b r)) in
-    rw append_assoc (strict_second m n (Value s) (Value s × Value t) (reads n g (u ++ (v ++ r))) (λ z. reads n h z.1 >>= λ w. Ok ((z.0, w.0), w.1)) x (v ++ r) (length r) start
-    (strict_give m n (Value t) (Value s × Value t) (reads n h (v ++ r)) (λ w. (x, w)) (length r) (q r)))
+    rw append_assoc (goes_second Below m n (Value s) (Value s × Value t) (reads n g (u ++ (v ++ r))) (λ z. reads n h z.1 >>= λ w. Ok ((z.0, w.0), w.1)) x (v ++ r) (length r) start
+    (goes_give Below m n (Value t) (Value s × Value t) (reads n h (v ++ r)) (λ w. (x, w)) (length r) (q r)))
 
 strict_or_left : (m n : ℕ) (s : Sort) (g h : Grammar s) (u : List Item) → null g ≡ false → Begins s g u → StrictAt m n s g u → StrictAt m n s (g ∣ h) u
 strict_or_left m n s g h u z (inl b) p r = absurd (both_ways (null g) z b.1)
@@ -290,20 +277,15 @@ strict_more m n s g u v x z d (inr a) (inl b) p c q r =
     let all = strict_bind m n (Value s) (List (Value s)) (reads n g (u ++ r)) (λ y. reads n (many g) y.1 >>= λ w. Ok (y.0 ∷ w.0, w.1)) r (p r)
     (λ y. left_give (List (Value s)) (List (Value s)) (reads n (many g) y.1) (λ w. y.0 ∷ w) (length y.1) (left_le n (a_list s) (many g) y.1))
     (found_rest n s g u r)
-    (λ y. strict_give m n (List (Value s)) (List (Value s)) (reads n (many g) r) (λ w. y ∷ w) (length r) (let k = q r in rw b.0 at k)) in
+    (λ y. goes_give Below m n (List (Value s)) (List (Value s)) (reads n (many g) r) (λ w. y ∷ w) (length r) (let k = q r in rw b.0 at k)) in
     rw (b.0, append-nil u) (subst F (sym (many_more n s g (u ++ r) z (a r))) all)
-strict_more m n s g u v x z d (inr a) (inr b) p c q r =
-    let start = c (v ++ r) (starts_disjoint (v ++ r) (next g) (first g) d (b r)) in
-    let all = strict_second m n (Value s) (List (Value s)) (reads n g (u ++ (v ++ r))) (λ y. reads n (many g) y.1 >>= λ w. Ok (y.0 ∷ w.0, w.1)) x (v ++ r) (length r) start
-    (strict_give m n (List (Value s)) (List (Value s)) (reads n (many g) (v ++ r)) (λ w. x ∷ w) (length r) (q r)) in
-    let F : Read (List (Value s)) → Type 0 = λ o. Strict m n (List (Value s)) o (length r) in
-    rw append_assoc (subst F (sym (many_more n s g (u ++ (v ++ r)) z (a (v ++ r)))) all)
+strict_more m n s g u v x z d (inr a) (inr b) p c q r = goes_more Below m n s g u v x z d a b c q r
 
 strict_opens : (m n : ℕ) (s : Sort) (k : TokenKind) (q : Rule s) (t : Item) (u : List Item) → same t.kind k ≡ true → ((l : ℕ) → StrictAt m l s (rule q) u) → StrictAt (suc m) n (a_pair a_token s) (opens k q) (t ∷ u)
 unfolding inside
 strict_opens m zero s k q t u e p r = rw e (λ le. absurd (omega arith))
 strict_opens m (suc n) s k q t u e p r =
-    rw e (strict_give (suc m) (suc n) (Value s) (Item × Value s) (reads n (rule q) (u ++ r)) (λ y. (t, y)) (length r) (strict_inside m n (Value s) (reads n (rule q) (u ++ r)) (length r) (p n r)))
+    rw e (goes_give Below (suc m) (suc n) (Value s) (Item × Value s) (reads n (rule q) (u ++ r)) (λ y. (t, y)) (length r) (goes_inside Below m n (Value s) (reads n (rule q) (u ++ r)) (length r) (p n r)))
 
 strict_one : (m n : ℕ) (k : TokenKind) (t : Item) → same t.kind k ≡ true → StrictAt m n a_token (one k) (t ∷ [])
 strict_one m n k t e r = rw e (omega arith)
@@ -312,7 +294,7 @@ strict_none : (m n : ℕ) (s : Sort) (x : Value s) → StrictAt m n s (none x) [
 strict_none m n s x r = omega arith
 
 strict_map : (m n : ℕ) (s t : Sort) (f : Value s → Value t) (g : Grammar s) (u : List Item) → StrictAt m n s g u → StrictAt m n t (g ⇒ f) u
-strict_map m n s t f g u p r = strict_give m n (Value s) (Value t) (reads n g (u ++ r)) f (length r) (p r)
+strict_map m n s t f g u p r = goes_give Below m n (Value s) (Value t) (reads n g (u ++ r)) f (length r) (p r)
 
 strict_again : (m n : ℕ) (s : Sort) (a : Again s) (u : List Item) → StrictAt m n s (again_rule a) u → StrictAt m n s (again a) u
 strict_again m n s a u p r =

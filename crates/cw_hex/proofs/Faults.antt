@@ -2,6 +2,7 @@
 use Rattle.std.proofs.Common.{◌≡◌, ℕ, suc, ◌+◌, List, [], ◌∷◌, ◌++◌, Bool, true, false, cond, Option, Some, None, Result, Ok, Err, eqb, length, refl, sym, ap, subst, ◌∙◌, inl, inr, arith}
 use Rattle.std.specs.Prelude.{◌||◌, ◌⊎◌}
 use Rattle.std.specs.List.{list_any}
+use Rattle.std.proofs.Math.Bool.{or-true, or-false}
 use Rattle.std.proofs.lemmas.Bool.{ne_eqb, eqb-true}
 use Rattle.cw_i86.specs.State.{State}
 use Rattle.cw_i86.specs.MachineRun.{IsStart}
@@ -12,22 +13,14 @@ use Rattle.cw_hex.specs.HexFormat.{lines_of, bytes_of, type_of, is_end, line_fau
 use Rattle.cw_hex.specs.HexTold.{IsCleared, AreFaultless, TellsHex, IsFirstHexFault, AnswersHex}
 use Rattle.cw_hex.proofs.Fold.{lines_told, hex_told, or_fault, at_end, start_reading, ended_after, Faultless}
 
-or_false : (e : Bool) → (e || false) ≡ e
-or_false true = refl
-or_false false = refl
-
-or_true : (e : Bool) → (e || true) ≡ true
-or_true true = refl
-or_true false = refl
-
 kept : (e k0 k1 k2 : Bool) (a b c d : Reading) → a.is_ended ≡ e → b.is_ended ≡ true → c.is_ended ≡ e → d.is_ended ≡ e → (k0 ≡ true → k1 ≡ false) → (cond k0 a (cond k1 b (cond k2 c d))).is_ended ≡ (e || k1)
-kept e true k1 k2 a b c d ha hb hc hd h = let f = h refl in rw f (ha ∙ sym (or_false e))
-kept e false true k2 a b c d ha hb hc hd h = hb ∙ sym (or_true e)
-kept e false false true a b c d ha hb hc hd h = hc ∙ sym (or_false e)
-kept e false false false a b c d ha hb hc hd h = hd ∙ sym (or_false e)
+kept e true k1 k2 a b c d ha hb hc hd h = let f = h refl in rw f (ha ∙ sym (or-false e))
+kept e false true k2 a b c d ha hb hc hd h = hb ∙ sym (or-true e)
+kept e false false true a b c d ha hb hc hd h = hc ∙ sym (or-false e)
+kept e false false false a b c d ha hb hc hd h = hd ∙ sym (or-false e)
 
 ended_line : (line : List ℕ) (r : Reading) → (after_line line r).is_ended ≡ (r.is_ended || is_end line)
-ended_line [] r = sym (or_false r.is_ended)
+ended_line [] r = sym (or-false r.is_ended)
 ended_line (c ∷ ds) r =
     let k = type_of (bytes_of ds) in
     kept r.is_ended (eqb k 0) (eqb k 1) (eqb k 2) _ _ _ _ refl refl refl refl
@@ -73,7 +66,7 @@ or_or true b c = refl
 or_or false b c = refl
 
 ended_any : (e : Bool) (lines : List (List ℕ)) → ended_after e lines ≡ (e || list_any is_end lines)
-ended_any e [] = sym (or_false e)
+ended_any e [] = sym (or-false e)
 ended_any e (line ∷ lines) = ended_any (e || is_end line) lines ∙ or_or e (is_end line) (list_any is_end lines)
 
 abbrev IsFine : Bool → ℕ → List ℕ → Type 0
@@ -83,7 +76,7 @@ same_line : (e f : Bool) (n m : ℕ) (line : List ℕ) → e ≡ f → n ≡ m �
 same_line e f n m line p q h = subst (λ (b : Bool). IsFine b m line) p (subst (λ (k : ℕ). IsFine e k line) q h)
 
 fine_behind : (n : ℕ) (e : Bool) (before : List (List ℕ)) (line : List ℕ) (behind : List (List ℕ)) → Faultless n e (before ++ line ∷ behind) → IsFine (e || list_any is_end before) (length before + n) line
-fine_behind n e [] line behind h = same_line e (e || false) n (0 + n) line (sym (or_false e)) (omega arith) h.0
+fine_behind n e [] line behind h = same_line e (e || false) n (0 + n) line (sym (or-false e)) (omega arith) h.0
 fine_behind n e (first ∷ before) line behind h =
     same_line ((e || is_end first) || list_any is_end before) (e || (is_end first || list_any is_end before)) (length before + (n + 1)) (suc (length before) + n) line
     (or_or e (is_end first) (list_any is_end before)) (omega arith) (fine_behind (n + 1) (e || is_end first) before line behind h.1)
@@ -94,7 +87,7 @@ fine_lines lines h = λ before line behind cut. fine_behind 1 false before line 
 lines_fine : (n : ℕ) (e : Bool) (lines : List (List ℕ)) → ((before : List (List ℕ)) (line : List ℕ) (behind : List (List ℕ)) → lines ≡ before ++ line ∷ behind → IsFine (e || list_any is_end before) (length before + n) line) → Faultless n e lines
 lines_fine n e [] h = tt
 lines_fine n e (first ∷ lines) h = (
-  same_line (e || false) e (0 + n) n first (or_false e) (omega arith) (h [] first lines refl),
+  same_line (e || false) e (0 + n) n first (or-false e) (omega arith) (h [] first lines refl),
   lines_fine (n + 1) (e || is_end first) lines (λ before line behind cut.
       same_line (e || (is_end first || list_any is_end before)) ((e || is_end first) || list_any is_end before) (suc (length before) + n) (length before + (n + 1)) line
       (sym (or_or e (is_end first) (list_any is_end before))) (omega arith)

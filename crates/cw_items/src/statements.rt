@@ -129,11 +129,10 @@ fn form_things(
     match form {
         RawForm::Simple(s) => simple_things(s.get(), named, owner, out),
         RawForm::If {
-            at: _,
             test,
-            labels: _,
             first,
             second,
+            ..
         } => {
             condition_texts(owner, test.get(), out)?;
             simple_things(first.get(), named, owner, out)?;

@@ -1,12 +1,9 @@
 //! Laws of the objects of units.
 ghost use Rattle.std.specs.Prelude.{ℕ, IsTrue};
-ghost use Rattle.cw_unit.specs.declared.unit.Unit.{Unit as SourceUnit};
-ghost use Rattle.cw_unit.specs.declared.layout.Layout.{Layout};
+ghost use Rattle.cw_unit.specs.{declared.unit.Unit.Unit as SourceUnit, declared.layout.Layout.Layout};
 ghost use Rattle.cw_tmpl.specs.declared.assembling.Code.{Code};
 ghost use Rattle.cw_obj.specs.Writable.{IsWritable};
-ghost use Rattle.cw_object.specs.IsWritable.{is_writable};
-ghost use Rattle.cw_object.specs.ObjectContents.{TellsItsUnit};
-ghost use Rattle.cw_object.specs.ObjectImages.{LinksToImages};
+ghost use Rattle.cw_object.specs.{IsWritable.is_writable, ObjectContents.TellsItsUnit, ObjectImages.LinksToImages};
 
 use cw_link::laws::other_bytes;
 use cw_obj::laws::object_written;

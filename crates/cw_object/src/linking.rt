@@ -2,9 +2,7 @@
 ghost use Rattle.std.specs.Prelude.{◌≡◌, ◌≤◌, length, map, All, IfOk};
 ghost use Rattle.cw_view.specs.ObjectFormat.{IsObject};
 ghost use Rattle.cw_place.specs.Placement.{IsLimits};
-ghost use Rattle.cw_link.specs.Contents.{contents_of};
-ghost use Rattle.cw_link.specs.LinkFaults.{AnswersLink};
-ghost use Rattle.cw_link.specs.Views.{IsOpened};
+ghost use Rattle.cw_link.specs.{Contents.contents_of, LinkFaults.AnswersLink, Views.IsOpened};
 ghost use Rattle.cw_object.specs.ObjectContents.{contents_in};
 
 use cw_link::{LinkFault, Linked, link};

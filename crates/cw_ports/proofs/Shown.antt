@@ -7,7 +7,7 @@ use Rattle.cw_io.specs.Bytes.{before_told, after_told}
 use Rattle.cw_i86.specs.State.{State}
 use Rattle.cw_i86.specs.MachineRun.{Event, Silent, Takes, Gives, Observed, IsAtWork, IsOver, End, Running, Bad, Divided, end_told, end_after, written, left_after, left_behind, FitsInput, asks_input, is_of_input}
 use Rattle.cw_cpu86.specs.Ports.{Device, AreBytes, MayBeLeft, FitsUntold, FitsTold, at_end_behind, Follows}
-use Rattle.cw_cpu86.specs.Answers.{RunAnswers, RunCounts, Went, NoneTold, steps_shown, end_shown}
+use Rattle.cw_cpu86.specs.Answers.{RunAnswers, RunCounts, Went, NoneTold, events_of, steps_shown, end_shown}
 use Rattle.cw_cpu86.specs.declared.cpu.RunEnd.{RunEnd}
 use Rattle.cw_cpu86.specs.declared.cpu.RunEnd.TheVariants as ends
 use Rattle.std.proofs.lemmas.List.{append_cancel_left, length-replicate}
@@ -19,7 +19,7 @@ use Rattle.cw_ports.specs.Laws.{output_goes_on, before_nothing}
 use Rattle.cw_ports.specs.Supplies.{is_open, is_too_long}
 use Rattle.cw_ports.specs.declared.supply.Supply.{Supply}
 use Rattle.cw_ports.specs.Running.{IsInput, AsksInput, Ran, Taken, Tells, Outside, Cut, RunShows, reached}
-use Rattle.cw_ports.specs.Concluding.{IsFresh, outside_of, said_of, Means, IsQuiet, EndsAlike, Concludes}
+use Rattle.cw_ports.specs.Concluding.{IsFresh, outside_of, Means, IsQuiet, EndsAlike, Concludes}
 use Rattle.cw_ports.specs.declared.supply.Supply.TheVariants.{Open, Faulty}
 use Rattle.cw_ports.specs.declared.supply.Supply.TheVariants as supplies
 use Rattle.cw_ports.specs.declared.running.ImageEnd.{ImageEnd}
@@ -59,7 +59,7 @@ told_end d d' events none f = rw (f.kind, f.segment, f.line_low, f.line_high, no
 -- what is seen of a run, and that it asks for nothing more unless a port refused
 abbrev IsSeen : (end : RunEnd) (limit : ℕ) (s s' : State) (d d' : Device) → RunAnswers end limit s d s' d' → Type 0
 IsSeen end limit s s' d d' answers =
-    (is_asking : Bool) × IsQuiet end is_asking × Seen s (steps_shown end limit) d d' is_asking (end_shown end d') (said_of end limit s d s' d' answers)
+    (is_asking : Bool) × IsQuiet end is_asking × Seen s (steps_shown end limit) d d' is_asking (end_shown end d') (events_of end limit s d s' d' answers)
 
 seen : (end : RunEnd) (limit : ℕ) (s s' : State) (d d' : Device) → NoneTold d → (answers : RunAnswers end limit s d s' d') → IsSeen end limit s s' d d' answers
 seen ends.Limit limit s s' d d' none w = (false, refl, by_went s limit limit d s' d' Running w (inl (s', w.runs, refl)))
@@ -206,10 +206,10 @@ counts_from end before before' now same counts = subst (λ n. RunCounts end n no
 
 pub came : Fitting → (end : RunEnd) (steps : ℕ) (s s' : State) (d d' : Device) (a : InputSide) (o : OutputSide) (gathered : ℕ) (b : InputSide) (p : OutputSide) (gathered' : ℕ) (hand waiting : List ℕ)
     → Keeps d' b p gathered' hand waiting → IsFresh d a o → (answers : RunAnswers end steps s d s' d') → RunCounts end (faults_of a.supply o.is_broken) (faults_of b.supply p.is_broken) → SidesLater a o gathered b p gathered'
-    → Came end steps s (said_of end steps s d s' d' answers) d' a o b p gathered'
+    → Came end steps s (events_of end steps s d s' d' answers) d' a o b p gathered'
 unfolding ran
 came fitting end steps s s' d d' a o gathered b p gathered' hand waiting keeps fresh answers counts later =
-    let events = said_of end steps s d s' d' answers in
+    let events = events_of end steps s d s' d' answers in
     let goes : InputGoes a b = subst (λ x. InputFrom x a b) fresh.input.supply later.0 (omega (arith, fresh.input.taken)) in
     let took : Took a.left b.left 0 b.taken = subst (λ n. Took a.left b.left n b.taken) fresh.input.taken goes.took in
     let told = seen end steps s s' d d' fresh.none answers in

@@ -3,7 +3,7 @@ use Rattle.std.specs.Prelude.{◌≡◌, ℕ, Bool, false, List}
 use Rattle.cw_i86.specs.State.{State}
 use Rattle.cw_i86.specs.MachineRun.{Event, End, FitsInput}
 use Rattle.cw_cpu86.specs.Ports.{Device}
-use Rattle.cw_cpu86.specs.Answers.{RunAnswers, RunCounts, NoneTold, steps_shown, end_shown}
+use Rattle.cw_cpu86.specs.Answers.{RunAnswers, RunCounts, NoneTold, events_of, steps_shown, end_shown}
 use Rattle.cw_cpu86.specs.declared.cpu.RunEnd.{RunEnd}
 use Rattle.cw_cpu86.specs.declared.cpu.RunEnd.TheVariants as ends
 use Rattle.cw_ports.specs.Later.{InputSide, IsUnread, OutputSide, IsUnwritten, SidesLater, faults_of}
@@ -23,14 +23,6 @@ abbrev pub outside_of : InputSide → OutputSide → Outside
 outside_of a o = outside a.left a.faults o.held o.faults
 
 -- ---- the end
-
--- what a run said to the ports
-abbrev pub said_of : (end : RunEnd) (limit : ℕ) (s : State) (d : Device) (s' : State) (d' : Device) → RunAnswers end limit s d s' d' → List Event
-said_of ends.Limit limit s d s' d' went = went.events
-said_of (ends.Halted n) limit s d s' d' answer = answer.2.1.events
-said_of (ends.BadCode offset n) limit s d s' d' answer = answer.1.events
-said_of (ends.Divide offset n) limit s d s' d' answer = answer.1.events
-said_of (ends.PortFault n) limit s d s' d' answer = answer.1.1.events
 
 -- the end of an image, by that of the processor and what it shows: where the output was written, and the input has not too many bytes
 abbrev pub Means : RunEnd → (shown : End) → ImageEnd → Type 0
@@ -66,4 +58,4 @@ abbrev pub ConcludesRuns : RunEnd → ImageEnd → (d' : Device) (b : InputSide)
 ConcludesRuns end status d' b p gathered' now =
     (s s' : State) (steps : ℕ) (d : Device) (a : InputSide) (o : OutputSide) (gathered : ℕ) → IsFresh d a o → (answers : RunAnswers end steps s d s' d')
     → RunCounts end (faults_of a.supply o.is_broken) (faults_of b.supply p.is_broken) → SidesLater a o gathered b p gathered'
-    → Concludes end (end_shown end d') status s (said_of end steps s d s' d' answers) steps (outside_of a o) now
+    → Concludes end (end_shown end d') status s (events_of end steps s d s' d' answers) steps (outside_of a o) now

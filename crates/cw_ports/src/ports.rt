@@ -148,30 +148,17 @@ impl<I: Source, O: Sink> Ports for ImagePorts<'_, '_, I, O> {
                 if !self.inlet.supply.is_open() {
                     return Err(Failed);
                 }
-                if self.outlet.push(value) {
-                    Ok(())
-                } else {
-                    Err(Failed)
+                if !self.outlet.push(value) {
+                    return Err(Failed);
                 }
             }
-            0x13 => {
-                self.kind = value;
-                Ok(())
-            }
-            0x14 => {
-                self.segment = value;
-                Ok(())
-            }
-            0x15 => {
-                self.line_low = value;
-                Ok(())
-            }
-            0x16 => {
-                self.line_high = value;
-                Ok(())
-            }
-            _ => Ok(()),
+            0x13 => self.kind = value,
+            0x14 => self.segment = value,
+            0x15 => self.line_low = value,
+            0x16 => self.line_high = value,
+            _ => {}
         }
+        Ok(())
     }
 
     ghost stays = { λ p. (input_stays _, output_stays _, λ settled. settled) };

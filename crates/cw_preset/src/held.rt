@@ -81,11 +81,10 @@ fn form_rows(
     match form {
         RawForm::Simple(s) => simple_rows(s.get(), alloc, out),
         RawForm::If {
-            at: _,
             test,
-            labels: _,
             first,
             second,
+            ..
         } => {
             condition_rows(test.get(), alloc, out)?;
             simple_rows(first.get(), alloc, out)?;
@@ -95,10 +94,10 @@ fn form_rows(
             }
         }
         RawForm::For {
-            at: _,
             variable,
             elems,
             body,
+            ..
         } => {
             reference_rows(variable.get(), alloc, out)?;
             felems_rows(elems.as_slice(), alloc, out)?;

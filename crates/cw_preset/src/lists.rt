@@ -52,14 +52,7 @@ fn element_fraction(element: &RawElem) -> u8
 {
     match element {
         RawElem::Word(_, scale, _) => fraction_of(scale),
-        RawElem::Part {
-            name: _,
-            unsigned: _,
-            bits: _,
-            scale,
-            word: _,
-            bit: _,
-        } => fraction_of_sint(scale),
+        RawElem::Part { scale, .. } => fraction_of_sint(scale),
     }
 }
 
@@ -217,14 +210,7 @@ fn element_put(element: &RawElem, before: u16, value: u16) -> u16
 {
     match element {
         RawElem::Word(..) => value,
-        RawElem::Part {
-            name: _,
-            unsigned: _,
-            bits,
-            scale: _,
-            word: _,
-            bit,
-        } => {
+        RawElem::Part { bits, bit, .. } => {
             let t = byte_within(&place_amount(bits));
             let b = byte_within(&place_amount(bit));
             put_part(t, b, before, value)
@@ -237,14 +223,7 @@ fn element_word(element: &RawElem) -> u16
 {
     match element {
         RawElem::Word(_, _, word) => short_within(&place_amount(word)),
-        RawElem::Part {
-            name: _,
-            unsigned: _,
-            bits: _,
-            scale: _,
-            word,
-            bit: _,
-        } => short_within(&place_amount(word)),
+        RawElem::Part { word, .. } => short_within(&place_amount(word)),
     }
 }
 

@@ -15,6 +15,7 @@ use Rattle.cw_i86.specs.declared.instr.Rm.TheVariants as rms
 use Rattle.cw_i86.specs.declared.instr.Place.{Place}
 use Rattle.cw_i86.specs.declared.instr.Place.TheVariants.{Direct, Plain, Near, Far}
 use Rattle.cw_run86.specs.Addressing.{offset_in}
+use Rattle.cw_run86.specs.Several.{NeedsAll, after_all, flags_of_all}
 use Rattle.cw_run86.specs.Processor.{Processor, processor_step}
 use Rattle.cw_run86.specs.Views.{View, Has, register, with_register, with_cell, with_stack, with_pair, word_sum, word_difference, word_up, word_down, word_down_signed, product_low, product_high, product_overflows, sign_of}
 use Rattle.cw_run86.proofs.Tests.{Finds}
@@ -209,18 +210,6 @@ abbrev pub codes : List Act → List Instr
 codes [] = []
 codes (a ∷ list) = instruction a ∷ codes list
 
-abbrev pub NeedsAll : List ℕ → List Act → View → Type 0
-NeedsAll code [] v = Unit {0}
-NeedsAll code (a ∷ list) v = Needs code a v × NeedsAll code list (after a v)
-
-abbrev pub after_all : List Act → View → View
-after_all [] v = v
-after_all (a ∷ list) v = after_all list (after a v)
-
-abbrev pub flags_all : List Act → View → Flags → Flags
-flags_all [] v f = f
-flags_all (a ∷ list) v f = flags_all list (after a v) (flags_after a v f)
-
 -- the place behind them
 abbrev pub behind : List Act → ℕ → ℕ
 behind [] at = at
@@ -338,8 +327,8 @@ module _ (Quiet : ℕ → Type 0) (code output : List ℕ) where
 
     -- all of a list, where the place of each is quiet
     pub each_of : (list : List Act) {at n : ℕ} {v : View} {f : Flags} {p : Processor} {T : Processor → Type 0} → QuietAll Quiet at (codes list)
-        → v.told.output ≡ output → HasAll code at (codes list) → NeedsAll code list v → At code at v f p
-        → ((q : Processor) → At code (behind list at) (after_all list v) (flags_all list v f) q → Leads Quiet code output n q T) → Leads Quiet code output (length list + n) p T
+        → v.told.output ≡ output → HasAll code at (codes list) → NeedsAll after (Needs code) list v → At code at v f p
+        → ((q : Processor) → At code (behind list at) (after_all after list v) (flags_of_all after flags_after list v f) q → Leads Quiet code output n q T) → Leads Quiet code output (length list + n) p T
     each_of [] {n = n} {p = p} {T = T} quiets told h needs s on = let e : n ≡ 0 + n = omega arith in subst (λ m. Leads Quiet code output m p T) e (on p s)
     each_of (a ∷ list) {at} {n} {v} {f} {p} {T} quiets told h needs s on =
         let within = h.0.within in
@@ -354,6 +343,6 @@ module _ (Quiet : ℕ → Type 0) (code output : List ℕ) where
 
     -- so where all places from the first one on are quiet
     pub straight : (list : List Act) {at n : ℕ} {v : View} {f : Flags} {p : Processor} {T : Processor → Type 0} → ((k : ℕ) → at ≤ k → k < behind list at → Quiet k)
-        → v.told.output ≡ output → HasAll code at (codes list) → NeedsAll code list v → At code at v f p
-        → ((q : Processor) → At code (behind list at) (after_all list v) (flags_all list v f) q → Leads Quiet code output n q T) → Leads Quiet code output (length list + n) p T
+        → v.told.output ≡ output → HasAll code at (codes list) → NeedsAll after (Needs code) list v → At code at v f p
+        → ((q : Processor) → At code (behind list at) (after_all after list v) (flags_of_all after flags_after list v f) q → Leads Quiet code output n q T) → Leads Quiet code output (length list + n) p T
     straight list quiet_all told h needs s on = each_of list (quiets_of list quiet_all) told h needs s on

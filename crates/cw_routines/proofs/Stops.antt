@@ -128,10 +128,14 @@ module _ (finds : Finds) (Quiet : ℕ → Type 0) (code : List ℕ) (stands : St
       more Quiet code told.output finds u (library 427 (lit< tt)) refl (to_place {to = 55} refl (acts.near finds u 65161 h.1.1.0)) (λ q u.
       tells kind r segment is t small u))
 
-  -- the stops of a step
+  -- the stops of a step, each from its place on
+  abbrev StepStops : StopKind → (place steps back line n r segment : ℕ) → (ax cx dx bx bp si di : ℕ) → Flags → (cells stack : ℕ → ℕ) → List ℕ → Told → Processor → Type 0
+  StepStops kind place steps back line n r segment ax cx dx bx bp si di f cells stack input told p =
+      n < 32768 → stack n ≡ back → HasWord code (back + 5) line → line < 65536 → Tells stack bp r segment
+      → At code place (view ax cx dx bx (2 * n) bp si di cells stack input told) f p → Leads Quiet code told.output steps p (Over told.output kind segment line)
+
   pub step_address_stops : (back line n r segment : ℕ) {ax cx dx bx bp si di : ℕ} {f : Flags} {cells stack : ℕ → ℕ} {input : List ℕ} {told : Told} {p : Processor}
-      → n < 32768 → stack n ≡ back → HasWord code (back + 5) line → line < 65536 → Tells stack bp r segment
-      → At code 416 (view ax cx dx bx (2 * n) bp si di cells stack input told) f p → Leads Quiet code told.output 13 p (Over told.output AddressRange segment line)
+      → StepStops AddressRange 416 13 back line n r segment ax cx dx bx bp si di f cells stack input told p
   step_address_stops back line n r segment {ax} {told = told} lt there word small t s =
       let h = step_address_stands code stands in
       straight Quiet code told.output finds (LowByte 4 ∷ []) {n = 12} (run 418 (lit≤ tt)) refl (h.0, tt) (tt, tt) s (λ q u.
@@ -139,8 +143,7 @@ module _ (finds : Finds) (Quiet : ℕ → Type 0) (code : List ℕ) (stands : St
       step_lines AddressRange back line n r segment (low_is ax 4 (lit< tt)) lt there word small t u))
 
   pub step_sum_stops : (back line n r segment : ℕ) {ax cx dx bx bp si di : ℕ} {f : Flags} {cells stack : ℕ → ℕ} {input : List ℕ} {told : Told} {p : Processor}
-      → n < 32768 → stack n ≡ back → HasWord code (back + 5) line → line < 65536 → Tells stack bp r segment
-      → At code 420 (view ax cx dx bx (2 * n) bp si di cells stack input told) f p → Leads Quiet code told.output 12 p (Over told.output Overflow segment line)
+      → StepStops Overflow 420 12 back line n r segment ax cx dx bx bp si di f cells stack input told p
   step_sum_stops back line n r segment {ax} {told = told} lt there word small t s =
       let h = step_sum_stands code stands in
       straight Quiet code told.output finds (LowByte 1 ∷ []) {n = 11} (run 422 (lit≤ tt)) refl (h.0, tt) (tt, tt) s (λ q u.

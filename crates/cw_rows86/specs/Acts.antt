@@ -11,6 +11,7 @@ use Rattle.cw_i86.specs.declared.instr.Imm.TheVariants as imm
 use Rattle.cw_i86.specs.declared.instr.Mem.{Mem}
 use Rattle.cw_i86.specs.declared.instr.Rm.{Rm}
 use Rattle.cw_run86.specs.Addressing.{offset_in}
+use Rattle.cw_run86.specs.Several as several
 use Rattle.cw_run86.specs.Views.{View, Has, IsTop, register, with_register, with_pair, with_stack, with_overflow, word_difference}
 use Rattle.cw_run86.specs.Views.{difference_overflows, product_low, product_high, product_overflows, shift_overflow, sign_of}
 use Rattle.cw_rows86.specs.Locations.{Location, InRegister, contents, with_contents, IsWritable, Denotes, in_memory}
@@ -151,16 +152,13 @@ HasActs code at [] = Unit {0}
 HasActs code at (a ∷ acts) = Has code at (instruction a) × HasActs code (at + length (bytes_of (instruction a))) acts
 
 abbrev pub NeedsAll : (code : List ℕ) → List Act → View → Type 0
-NeedsAll code [] v = Unit {0}
-NeedsAll code (a ∷ acts) v = Needs code a v × NeedsAll code acts (after a v)
+NeedsAll code = several.NeedsAll after (Needs code)
 
 abbrev pub after_all : List Act → View → View
-after_all [] v = v
-after_all (a ∷ acts) v = after_all acts (after a v)
+after_all = several.after_all after
 
 abbrev pub flags_of_all : List Act → View → Flags → Flags
-flags_of_all [] v f = f
-flags_of_all (a ∷ acts) v f = flags_of_all acts (after a v) (flags_of a v f)
+flags_of_all = several.flags_of_all after flags_of
 
 -- the place behind them
 abbrev pub behind : List Act → ℕ → ℕ

@@ -3,6 +3,7 @@ use Rattle.std.specs.Prelude.{ℕ, ◌+◌, ◌-◌, ◌*◌, ◌/◌, ◌%◌, 
 use Rattle.cw_i86.specs.Effect.{alu_flags}
 use Rattle.cw_i86.specs.Sums.{overflows, signed, keeping_carry, sum_flags, difference_flags}
 use Rattle.cw_i86.specs.Shifts.{shift_flags}
+use Rattle.cw_i86.specs.declared.shift.ShiftOp.{ShiftOp}
 use Rattle.cw_i86.specs.declared.shift.ShiftOp.TheVariants.{Shl, Shr, Sar}
 use Rattle.cw_i86.specs.declared.flags.Flags.{Flags}
 use Rattle.cw_run86.specs.Views.{View, register, with_register, with_overflow, word_sum, word_difference, sum_overflows}
@@ -19,22 +20,20 @@ pub data WordOperation : Type 0 where
   Xor : WordOperation
   Compare : WordOperation
 
--- the number in the opcode
+-- the number in the opcode, and the result
+abbrev pub row_of : WordOperation → ℕ × ((a b : ℕ) → ℕ)
+row_of Add = (0, word_sum)
+row_of Or = (1, bit_or)
+row_of And = (4, bit_and)
+row_of Subtract = (5, word_difference)
+row_of Xor = (6, bit_xor)
+row_of Compare = (7, word_difference)
+
 abbrev pub number_of : WordOperation → ℕ
-number_of Add = 0
-number_of Or = 1
-number_of And = 4
-number_of Subtract = 5
-number_of Xor = 6
-number_of Compare = 7
+number_of op = (row_of op).0
 
 abbrev pub result_of : WordOperation → (a b : ℕ) → ℕ
-result_of Add a b = word_sum a b
-result_of Or a b = bit_or a b
-result_of And a b = bit_and a b
-result_of Subtract a b = word_difference a b
-result_of Xor a b = bit_xor a b
-result_of Compare a b = word_difference a b
+result_of op = (row_of op).1
 
 abbrev pub overflow_of : WordOperation → (a b : ℕ) → Bool
 overflow_of Add a b = sum_overflows a b
@@ -79,20 +78,20 @@ pub data Shifting : Type 0 where
   Down : Shifting
   DownSigned : Shifting
 
-abbrev pub shift_number : Shifting → ℕ
-shift_number Up = 4
-shift_number Down = 5
-shift_number DownSigned = 7
+-- the number in the opcode, the shift that sets the flags, and the result
+abbrev pub shift_row_of : Shifting → ℕ × ShiftOp × ((a n : ℕ) → ℕ)
+shift_row_of Up = (4, Shl, word_up)
+shift_row_of Down = (5, Shr, word_down)
+shift_row_of DownSigned = (7, Sar, word_down_signed)
 
-abbrev pub shifted_word : Shifting → (a n : ℕ) → ℕ
-shifted_word Up a n = word_up a n
-shifted_word Down a n = word_down a n
-shifted_word DownSigned a n = word_down_signed a n
+abbrev pub shift_number : Shifting → ℕ
+shift_number op = (shift_row_of op).0
 
 abbrev pub flags_shifted : Shifting → (a n : ℕ) → Flags → Flags
-flags_shifted Up a n flags = shift_flags Shl 32768 a n flags
-flags_shifted Down a n flags = shift_flags Shr 32768 a n flags
-flags_shifted DownSigned a n flags = shift_flags Sar 32768 a n flags
+flags_shifted op a n flags = shift_flags (shift_row_of op).1 32768 a n flags
+
+abbrev pub shifted_word : Shifting → (a n : ℕ) → ℕ
+shifted_word op = (shift_row_of op).2
 
 -- by one place, or by as many as CL says
 abbrev pub places_of : (by_cl : Bool) → View → ℕ

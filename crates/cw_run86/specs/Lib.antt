@@ -3,3 +3,4 @@ pub mod Fetching
 pub mod Processor
 pub mod Reaching
 pub mod Views
+pub mod Several

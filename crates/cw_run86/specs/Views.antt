@@ -184,21 +184,20 @@ pub data Comparison : Type 0 where
   AtMost : Comparison
   Greater : Comparison
 
+-- the number of the condition, and what it says of two numbers
+abbrev pub condition_for : Comparison → ℕ × (ℤ → ℤ → Bool)
+condition_for Equal = (4, λ x y. int_le x y && int_le y x)
+condition_for Unequal = (5, λ x y. not (int_le x y && int_le y x))
+condition_for Less = (12, int_lt)
+condition_for NotLess = (13, λ x y. int_le y x)
+condition_for AtMost = (14, int_le)
+condition_for Greater = (15, λ x y. int_lt y x)
+
 abbrev pub condition_of : Comparison → ℕ
-condition_of Equal = 4
-condition_of Unequal = 5
-condition_of Less = 12
-condition_of NotLess = 13
-condition_of AtMost = 14
-condition_of Greater = 15
+condition_of c = (condition_for c).0
 
 abbrev pub compares : Comparison → ℤ → ℤ → Bool
-compares Equal x y = int_le x y && int_le y x
-compares Unequal x y = not (int_le x y && int_le y x)
-compares Less x y = int_lt x y
-compares NotLess x y = int_le y x
-compares AtMost x y = int_le x y
-compares Greater x y = int_lt y x
+compares c = (condition_for c).1
 
 abbrev pub words_compare : Comparison → ℕ → ℕ → Bool
 words_compare c a b = compares c (signed 32768 a) (signed 32768 b)

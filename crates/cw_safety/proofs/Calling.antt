@@ -16,7 +16,7 @@ use Rattle.cw_unit.specs.Work.{Work}
 use Rattle.cw_unit.specs.Configuration.{Activation, segment_of, control_at, procedure_in, procedure_at, frame_size_of, frame_top}
 use Rattle.cw_unit.specs.StackBound.{body_depth}
 use Rattle.cw_unit.specs.Step.{after, procedure_of_def, Writing, Calling, callee_of_place, callee_of_control, callee_of, Bound, bind_word, bind_control, bind_all, reversed_onto, first_operands, begun, handed, come_back, come_back_with, read_step, enter_framed, enter_procedure, enter_step}
-use Rattle.cw_safety.specs.Kinds.{Taken, TakesWord, TakesLabel, TakesSwitch, TakesProcedure, Kind, WordKind, LabelKind, SwitchKind, ProcedureKind, weigh as weigh_kinds, kind_of_param, parameter_kinds, control_kinds, procedure_kind, taken_of, same_taken, all_same_taken, same_kind, same_kinds, suits_one, suits}
+use Rattle.cw_safety.specs.Kinds.{Taken, TakesWord, TakesLabel, TakesSwitch, TakesProcedure, Kind, WordKind, LabelKind, SwitchKind, ProcedureKind, weigh as weigh_kinds, kind_of_param, parameter_kinds, control_kinds, procedure_kind, taken_of, same_taken, all_so, same_kind, same_kinds, suits_one, suits}
 use Rattle.cw_safety.specs.WellFormed.{WellFormed, takes_arguments, parameter_takes, procedure_of_place, controls_of, is_call}
 use Rattle.cw_safety.specs.Depth.{owner_of, depth_at, depth_of_procedure}
 use Rattle.cw_safety.proofs.Truth.{no, both}
@@ -33,26 +33,21 @@ taken-same TakesSwitch TakesSwitch h = refl
 taken-same TakesProcedure TakesProcedure h = refl
 taken-same _ _ h = no h
 
-all_taken-same : (ts us : List Taken) → IsTrue (all_same_taken ts us) → ts ≡ us
-all_taken-same [] [] h = refl
-all_taken-same [] (u ∷ us) h = no h
-all_taken-same (t ∷ ts) [] h = no h
-all_taken-same (t ∷ ts) (u ∷ us) h =
-    let parts = both (same_taken t u) (all_same_taken ts us) h in ap₂ (λ x xs. x ∷ xs) (taken-same t u parts.0) (all_taken-same ts us parts.1)
+all-equal : {A : Type 0} (is : A → A → Bool) → ((x y : A) → IsTrue (is x y) → x ≡ y) → (xs ys : List A) → IsTrue (all_so is xs ys) → xs ≡ ys
+all-equal is equal [] [] h = refl
+all-equal is equal [] (y ∷ ys) h = no h
+all-equal is equal (x ∷ xs) [] h = no h
+all-equal is equal (x ∷ xs) (y ∷ ys) h = let parts = both (is x y) (all_so is xs ys) h in ap₂ (λ z zs. z ∷ zs) (equal x y parts.0) (all-equal is equal xs ys parts.1)
 
 kind-same : (k m : Kind) → IsTrue (same_kind k m) → k ≡ m
 kind-same WordKind WordKind h = refl
 kind-same LabelKind LabelKind h = refl
 kind-same SwitchKind SwitchKind h = refl
-kind-same (ProcedureKind ts) (ProcedureKind us) h = ap ProcedureKind (all_taken-same ts us h)
+kind-same (ProcedureKind ts) (ProcedureKind us) h = ap ProcedureKind (all-equal same_taken taken-same ts us h)
 kind-same _ _ h = no h
 
 pub kinds-same : (ks ms : List Kind) → IsTrue (same_kinds ks ms) → ks ≡ ms
-kinds-same [] [] h = refl
-kinds-same [] (m ∷ ms) h = no h
-kinds-same (k ∷ ks) [] h = no h
-kinds-same (k ∷ ks) (m ∷ ms) h =
-    let parts = both (same_kind k m) (same_kinds ks ms) h in ap₂ (λ x xs. x ∷ xs) (kind-same k m parts.0) (kinds-same ks ms parts.1)
+kinds-same = all-equal same_kind kind-same
 
 one-suits : (k m : Kind) → IsTrue (suits_one k (taken_of m)) → k ≡ m
 one-suits WordKind WordKind h = refl
@@ -75,19 +70,18 @@ conjoined : (a b : Bool) → IsTrue a → IsTrue b → IsTrue (a && b)
 conjoined true b h k = k
 conjoined false b h k = h
 
-all-same_taken : (ts : List Taken) → IsTrue (all_same_taken ts ts)
-all-same_taken [] = refl
-all-same_taken (t ∷ ts) = conjoined (same_taken t t) (all_same_taken ts ts) (same-taken t) (all-same_taken ts)
+all-same : {A : Type 0} (is : A → A → Bool) → ((x : A) → IsTrue (is x x)) → (xs : List A) → IsTrue (all_so is xs xs)
+all-same is same [] = refl
+all-same is same (x ∷ xs) = conjoined (is x x) (all_so is xs xs) (same x) (all-same is same xs)
 
 same-kind : (k : Kind) → IsTrue (same_kind k k)
 same-kind WordKind = refl
 same-kind LabelKind = refl
 same-kind SwitchKind = refl
-same-kind (ProcedureKind ts) = all-same_taken ts
+same-kind (ProcedureKind ts) = all-same same_taken same-taken ts
 
 same-kinds : (ks : List Kind) → IsTrue (same_kinds ks ks)
-same-kinds [] = refl
-same-kinds (k ∷ ks) = conjoined (same_kind k k) (same_kinds ks ks) (same-kind k) (same-kinds ks)
+same-kinds = all-same same_kind same-kind
 
 -- ---- operands in order
 

@@ -87,23 +87,22 @@ same_taken TakesSwitch TakesSwitch = true
 same_taken TakesProcedure TakesProcedure = true
 same_taken _ _ = false
 
-abbrev pub all_same_taken : List Taken → List Taken → Bool
-all_same_taken [] [] = true
-all_same_taken (t ∷ ts) (u ∷ us) = same_taken t u && all_same_taken ts us
-all_same_taken _ _ = false
+-- two lists are of one length, and each of one stands so to the one of the other at its place
+abbrev pub all_so : {A B : Type 0} → (A → B → Bool) → List A → List B → Bool
+all_so is [] [] = true
+all_so is (x ∷ xs) (y ∷ ys) = is x y && all_so is xs ys
+all_so is _ _ = false
 
 abbrev pub same_kind : Kind → Kind → Bool
 same_kind WordKind WordKind = true
 same_kind LabelKind LabelKind = true
 same_kind SwitchKind SwitchKind = true
-same_kind (ProcedureKind ts) (ProcedureKind us) = all_same_taken ts us
+same_kind (ProcedureKind ts) (ProcedureKind us) = all_so same_taken ts us
 same_kind _ _ = false
 
 -- the arguments of a call are as the parameters take them
 abbrev pub same_kinds : List Kind → List Kind → Bool
-same_kinds [] [] = true
-same_kinds (k ∷ ks) (m ∷ ms) = same_kind k m && same_kinds ks ms
-same_kinds _ _ = false
+same_kinds = all_so same_kind
 
 -- the same of a call of a procedure parameter, which takes no procedures
 abbrev pub suits_one : Kind → Taken → Bool
@@ -113,6 +112,4 @@ suits_one SwitchKind TakesSwitch = true
 suits_one _ _ = false
 
 abbrev pub suits : List Kind → List Taken → Bool
-suits [] [] = true
-suits (k ∷ ks) (t ∷ ts) = suits_one k t && suits ks ts
-suits _ _ = false
+suits = all_so suits_one

@@ -1,10 +1,7 @@
 //! Laws of the faults of types: each is a function without a body, whose contract is the law.
 ghost use Rattle.std.specs.Prelude.{List, [], ◌∷◌, ◌++◌};
 ghost use Rattle.cw_tree.specs.declared.leaf.Position.{Position};
-ghost use Rattle.cw_scale.specs.declared.fault.Fault.{Fault};
-ghost use Rattle.cw_scale.specs.declared.fault.Rule.{Rule};
-ghost use Rattle.cw_scale.specs.Faults.{Judgement, fine, wrong, both};
-ghost use Rattle.cw_scale.specs.Telling.{Tells};
+ghost use Rattle.cw_scale.specs.{declared.fault.Fault.Fault, declared.fault.Rule.Rule, Faults.Judgement, Faults.fine, Faults.wrong, Faults.both, Telling.Tells};
 
 /// A judgement answers the earliest of its faults, by token and then number, whatever the order in which its parts are judged.
 #[tactic(auto, using(crate::proofs::Telling::laws))]

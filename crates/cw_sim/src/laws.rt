@@ -1,20 +1,12 @@
 //! The joined law.
 ghost use Rattle.std.specs.Prelude.{◌≡◌, ◌<◌, ℕ, ℤ, List, [], All};
-ghost use Rattle.cw_track.specs.Machine.{shown_after};
-ghost use Rattle.cw_track.specs.Watching.{watched};
-ghost use Rattle.cw_i86.specs.State.{State};
-ghost use Rattle.cw_i86.specs.MachineRun.{Observed, Shows};
-ghost use Rattle.cw_unit.specs.declared.unit.Unit.{Unit as SourceUnit};
-ghost use Rattle.cw_unit.specs.declared.layout.Limits.{Limits};
-ghost use Rattle.cw_unit.specs.declared.layout.Map.{Map};
-ghost use Rattle.cw_unit.specs.Program.{program_at};
-ghost use Rattle.cw_unit.specs.Begun.{Begun};
+ghost use Rattle.cw_track.specs.{Machine.shown_after, Watching.watched};
+ghost use Rattle.cw_i86.specs.{State.State, MachineRun.Observed, MachineRun.Shows};
+ghost use Rattle.cw_unit.specs.{declared.unit.Unit.Unit as SourceUnit, declared.layout.Limits.Limits, declared.layout.Map.Map, Program.program_at, Begun.Begun};
 ghost use Rattle.cw_run86.specs.Processor.{processor_machine, processor_start};
 ghost use Rattle.cw_image.specs.Begun.{StatementPlace, Begins};
-ghost use Rattle.cw_follow.specs.Showing.{shown_as};
-ghost use Rattle.cw_follow.specs.Passing.{passes};
-ghost use Rattle.cw_sim.specs.Preservation.{IsLoaded, Preserves, Completes};
-ghost use Rattle.cw_sim.specs.Statements.{image_places, BeginsStatements};
+ghost use Rattle.cw_follow.specs.{Showing.shown_as, Passing.passes};
+ghost use Rattle.cw_sim.specs.{Preservation.IsLoaded, Preservation.Preserves, Preservation.Completes, Statements.image_places, Statements.BeginsStatements};
 
 use cw_carry::laws::runs::orders_follow_meaning;
 use cw_cpu86::laws::one_observation;

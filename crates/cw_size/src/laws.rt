@@ -1,15 +1,10 @@
 //! The code of a unit is short by the tokens that a text of it has at least: each law is a function without a body, whose contract is the law.
 ghost use Rattle.std.specs.Prelude.{ℕ, ◌+◌, ◌*◌, ◌≤◌, Option, length};
-ghost use Rattle.cw_unit.specs.declared.unit.Unit.{Unit as SourceUnit};
-ghost use Rattle.cw_unit.specs.declared.unit.Expr.{Expr};
-ghost use Rattle.cw_unit.specs.declared.unit.Stmt.{Stmt};
-ghost use Rattle.cw_tokens.specs.LeastTokens.{expression_tokens, statement_tokens, least_tokens};
-ghost use Rattle.cw_tmpl.specs.Sizes.{listed_sizes};
-ghost use Rattle.cw_tmpl.specs.ReferenceCode.{orders_code, switch_sizes};
+ghost use Rattle.cw_unit.specs.{declared.unit.Unit.Unit as SourceUnit, declared.unit.Expr.Expr, declared.unit.Stmt.Stmt};
+ghost use Rattle.cw_tokens.specs.{LeastTokens.expression_tokens, LeastTokens.statement_tokens, LeastTokens.least_tokens, SetLabels.set_labels, SetLabels.LabelsStand};
+ghost use Rattle.cw_tmpl.specs.{Sizes.listed_sizes, ReferenceCode.orders_code, ReferenceCode.switch_sizes};
 ghost use Rattle.cw_gen_expr.specs.ReferenceExpressions.{Scope, expression_piece};
-ghost use Rattle.cw_gen_unit.specs.ReferenceStatements.{statement_piece};
-ghost use Rattle.cw_gen_unit.specs.ReferenceUnits.{unit_orders};
-ghost use Rattle.cw_tokens.specs.SetLabels.{set_labels, LabelsStand};
+ghost use Rattle.cw_gen_unit.specs.{ReferenceStatements.statement_piece, ReferenceUnits.unit_orders};
 
 use cw_tmpl::laws::sizes;
 

@@ -7,8 +7,8 @@ use Rattle.cw_grammar.specs.Grammar.{Sort, a_stmt, a_raw, Rule, bracketed, subsc
 use Rattle.cw_grammar.specs.Statements.{text}
 use Rattle.cw_grammar.specs.Table.{rule, again_rule}
 use Rattle.cw_grammar.specs.Derives.{Derives}
-use Rattle.cw_tokens.specs.TreeTokens.{expr_tokens, felem_tokens, decl_tokens, stmt_tokens, text_tokens}
-use Rattle.cw_tokens.proofs.Counting.{b_one, b_none, b_then, b_left, b_right, b_map, b_opens, b_again, token_counts, built, length_numbered}
+use Rattle.cw_tokens.specs.TreeTokens.{expr_tokens, ref_tokens, felem_tokens, decl_tokens, stmt_tokens, text_tokens}
+use Rattle.cw_tokens.proofs.Counting.{b_one, b_none, b_then, b_left, b_right, b_map, b_opens, b_again, token_counts, closed_counts, built, length_numbered}
 use Rattle.cw_tokens.proofs.Built.{inside, again_tokens, Counts, many_counts, some_counts}
 use Rattle.cw_tokens.proofs.Expressions.{reference_counts, condition_counts, expr_counts}
 use Rattle.cw_tokens.proofs.Statements.{simple_counts, stmt_counts, felem_counts, decl_counts, text_counts}
@@ -20,12 +20,12 @@ stmt_again q x u (b_again h) = h
 
 rule_counts : (s : Sort) (r : Rule s) → Counts s (rule r) (inside s r)
 unfolding rule
-rule_counts _ bracketed x u (b_map (b_then {u = v} {x = e} d b_one)) = omega (arith, expr_counts e v d)
-rule_counts _ subscript x u (b_map (b_then {u = v} {x = e} d b_one)) = omega (arith, expr_counts e v d)
+rule_counts _ bracketed x u d = closed_counts expr_tokens expr_counts x u d
+rule_counts _ subscript x u d = closed_counts expr_tokens expr_counts x u d
 rule_counts _ indexed x u (b_then {u = v} {x = e} d (b_map (b_then (b_left (b_map (b_map (b_then {v = w} {y = f} b_one g)))) b_one))) = omega (arith, expr_counts e v d, expr_counts f w g)
 rule_counts _ indexed x u (b_then {u = v} {x = e} d (b_map (b_then (b_right b_none) b_one))) = omega (arith, expr_counts e v d)
 rule_counts _ called x u (b_map (b_then (b_map (b_then d l)) b_one)) = omega (arith, some_counts expr_tokens token_counts expr_counts d l)
-rule_counts _ located x u (b_map (b_then {u = v} {x = e} d b_one)) = omega (arith, reference_counts e v d)
+rule_counts _ located x u d = closed_counts ref_tokens reference_counts x u d
 rule_counts _ conditional x u (b_then {u = v} {x = c} d (b_then (b_map (b_then {v = w} {y = a} b_one e)) (b_map (b_then {v = z} {y = b} b_one f)))) = omega (arith, condition_counts c v d, expr_counts a w e, expr_counts b z f)
 rule_counts _ (if_rest q) x u (b_then {u = v} {x = c} d (b_then (b_map (b_then b_one (b_again h))) (b_left (b_map (b_map (b_opens k)))))) = omega (arith, condition_counts c v d, h, k)
 rule_counts _ (if_rest q) x u (b_then {u = v} {x = c} d (b_then (b_map (b_then b_one (b_again h))) (b_right b_none))) = omega (arith, condition_counts c v d, h)

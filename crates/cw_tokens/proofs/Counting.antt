@@ -5,7 +5,7 @@ use Rattle.cw_lex.specs.declared.token.Word.{Word}
 use Rattle.cw_lex.specs.Lexical.{Lexeme}
 use Rattle.cw_grammar.specs.Tokens.{Item, numbered}
 use Rattle.cw_grammar.specs.Grammar.{Sort, a_token, a_pair, a_list, a_position, a_name, a_number, a_sign, a_factor_sign, a_compare_sign, Value, Rule, Again, Grammar, one, none, ◌·◌, ◌∣◌, many, ◌⇒◌, opens, again}
-use Rattle.cw_grammar.specs.Rules.{◌*>◌, name, number, sign, factor_sign, comparator, operator}
+use Rattle.cw_grammar.specs.Rules.{◌*>◌, ◌<*◌, name, number, sign, factor_sign, comparator, operator}
 use Rattle.cw_grammar.specs.Table.{rule, again_rule}
 use Rattle.cw_grammar.specs.Derives.{Derives, is_one, is_none, is_then, is_left, is_right, is_end, is_more, is_map, is_opens, is_again}
 use Rattle.cw_tokens.specs.LeastTokens.{separated}
@@ -58,6 +58,10 @@ module _ {inside : (s : Sort) → Rule s → Value s → ℕ} {Within : (s : Sor
 
   pub token_counts : {k : TokenKind} → Counts inside Within a_token (one k) (λ y. 1)
   token_counts x u b_one = omega arith
+
+  -- what a token closes
+  pub closed_counts : {s : Sort} {g : Grammar s} {k : TokenKind} (f : Value s → ℕ) → Counts inside Within s g f → Counts inside Within s (g <* one k) (λ x. suc (f x))
+  closed_counts f counts x u (b_map (b_then {u = v} {x = y} d b_one)) = omega (arith, counts y v d)
 
   -- names, numbers and operators
 

@@ -98,21 +98,14 @@ prim_counts x u (b_map (b_then {v = v} {x = bits} {y = p} d e)) = omega (arith, 
 
 -- ---- operations
 
-mask_counts : Counts a_mask mask mask_tokens
-unfolding mask
-mask_counts x u d = operation_counts prim_tokens mask_tokens mask_most prim_counts operator_counts x u d
-
-union_counts : Counts a_union union union_tokens
-unfolding union
-union_counts x u d = operation_counts mask_tokens union_tokens union_most mask_counts operator_counts x u d
-
-differ_counts : Counts a_differ differ differ_tokens
-unfolding differ
-differ_counts x u d = operation_counts union_tokens differ_tokens differ_most union_counts operator_counts x u d
-
+-- each over the one before it
 term_counts : Counts a_term term term_tokens
-unfolding term
-term_counts x u d = operation_counts differ_tokens term_tokens term_most differ_counts factor_counts x u d
+unfolding mask union differ term
+term_counts =
+    let masks : Counts a_mask mask mask_tokens = λ x u d. operation_counts prim_tokens mask_tokens mask_most prim_counts operator_counts x u d in
+    let unions : Counts a_union union union_tokens = λ x u d. operation_counts mask_tokens union_tokens union_most masks operator_counts x u d in
+    let differs : Counts a_differ differ differ_tokens = λ x u d. operation_counts union_tokens differ_tokens differ_most unions operator_counts x u d in
+    λ x u d. operation_counts differ_tokens term_tokens term_most differs factor_counts x u d
 
 sum_counts : Counts a_sum sum sum_tokens
 unfolding sum

@@ -1,95 +1,39 @@
 -- A bracket that is not needed is gone, and what stood in it is counted as before.
-use Rattle.std.proofs.Common.{◌≡◌, ℕ, ◌+◌, ◌*◌, ◌≤◌, List, [], ◌∷◌, ◌++◌, length, length-append, map, Option, Some, None, refl, sym, ap, ◌∙◌, arith}
+use Rattle.std.proofs.Common.{◌≡◌, ℕ, ◌+◌, ◌*◌, ◌≤◌, List, ◌++◌, length, length-append, map, Option, Some, None, refl, sym, ◌∙◌, arith}
 use Rattle.cw_tree.specs.declared.leaf.Position.{Position}
 use Rattle.cw_tree.specs.declared.leaf.RawSign.{RawSign}
 use Rattle.cw_tree.specs.declared.leaf.RawFactorSign.{RawFactorSign}
 use Rattle.cw_tree.specs.declared.expression.RawBits.{RawBits}
 use Rattle.cw_tree.specs.declared.expression.RawExpr.TheOpen as layer
-use Rattle.cw_tree.specs.declared.expression.RawExpr.TheOpen.{RawPrimary-F}
-use Rattle.cw_tree.specs.declared.expression.RawExpr.{RawExpr, RawExpr-F, out-RawExpr}
-use Rattle.cw_tree.specs.declared.expression.RawPrimary.{RawPrimary, out-RawPrimary}
-use Rattle.cw_tree.specs.declared.expression.RawRef.{RawRef}
-use Rattle.cw_tree.specs.declared.expression.RawCand.{RawCand}
-use Rattle.cw_tree.specs.declared.expression.RawCmp.{RawCmp}
-use Rattle.cw_tree.specs.declared.expression.RawCond.{RawCond}
+use Rattle.cw_tree.specs.declared.expression.RawExpr.{RawExpr}
+use Rattle.cw_tree.specs.declared.expression.RawPrimary.{RawPrimary}
 use Rattle.cw_tree.specs.declared.expression.RawDiffer.{RawDiffer, out-RawDiffer}
 use Rattle.cw_tree.specs.declared.expression.RawMask.{RawMask, out-RawMask}
 use Rattle.cw_tree.specs.declared.expression.RawPrim.{RawPrim, out-RawPrim}
-use Rattle.cw_tree.specs.declared.expression.RawSum.{RawSum, out-RawSum}
+use Rattle.cw_tree.specs.declared.expression.RawSum.{RawSum}
 use Rattle.cw_tree.specs.declared.expression.RawTerm.{RawTerm, out-RawTerm}
 use Rattle.cw_tree.specs.declared.expression.RawUnion.{RawUnion, out-RawUnion}
-use Rattle.cw_grammar.specs.Trees.{◌>>-◌, sole, Operands, extended, first_of, as_sum, sole_term, as_term, as_differ, as_union, as_mask, as_prim, bracket_primary, bracket_prim, bracket_mask, bracket_union, bracket_differ, bracket_term, bracket_sum, mask_start, union_start, differ_start, term_start, mask_tree, union_tree, differ_tree, term_tree, Terms, sum_tree, terms_of, sum_start, more_terms, expr_or, expr_of, prim_or, prim_of}
+use Rattle.cw_grammar.specs.Trees.{◌>>-◌, Operands, extended, first_of, as_sum, as_term, as_differ, as_union, as_mask, as_prim, bracket_primary, bracket_prim, bracket_mask, bracket_union, bracket_differ, bracket_term, bracket_sum, mask_start, union_start, differ_start, term_start, mask_tree, union_tree, differ_tree, term_tree, Terms, sum_tree, terms_of, sum_start, more_terms, expr_or, expr_of, prim_or, prim_of}
 use Rattle.cw_tokens.specs.LeastTokens.{separated}
 use Rattle.cw_tokens.specs.TreeTokens.{between, sign, expr_tokens, primary_tokens, differ_tokens, mask_tokens, prim_tokens, sum_tokens, term_tokens, union_tokens}
-use Rattle.cw_tokens.proofs.Lists.{not_none, same_some, between_extended, sole_keeps, first_keeps}
+use Rattle.cw_tokens.proofs.Lists.{between_extended, first_keeps}
+use Rattle.cw_tokens.proofs.Alone.{alone_kept}
+use Rattle.cw_tokens.proofs.Passes.{differ_rolled, mask_rolled, term_rolled, union_rolled}
 use Rattle.cw_tokens.proofs.Narrowed.{Keeps, Kept, prim_keeps, mask_keeps, union_keeps, differ_keeps, term_keeps, sum_keeps, expr_keeps}
-use Rattle.cw_tokens.proofs.Passes.{expr_layered, primary_layered, expr_opened, primary_opened}
-use Rattle.cw_tokens.proofs.Layers.{expression_counts, differ-layer, mask-layer, union-layer, prim-layer, sum-layer, term-layer, mask-made, union-made, differ-made, term-made, sum-made, prim-made, expr-Sum}
+use Rattle.cw_tokens.proofs.Layers.{expression_counts, differ-layer, mask-layer, union-layer, prim-layer, sum-layer, term-layer, sum-made, prim-made, expr-Sum}
 
--- ---- an expression that is a tree of a narrower rule
-
-abbrev ExprLayer : Type 0
-ExprLayer = RawExpr-F RawExpr RawPrimary RawRef RawCand RawCmp RawCond RawDiffer RawMask RawPrim RawSum RawTerm RawUnion
-
-abbrev summed : ExprLayer → Option RawSum
-summed y = elim y [ layer.Choice at c a b ↦ None | layer.Sum s ↦ Some s ]
-
-sum_in_layer : (x : ExprLayer) (s : RawSum) → summed x ≡ Some s → sum_tokens s ≡ expr_layered expression_counts x
-sum_in_layer (layer.Choice at c a b) s e = absurd (not_none e)
-sum_in_layer (layer.Sum t) s e = ap sum_tokens (sym (same_some e))
-
-as_sum_keeps : Keeps expr_tokens sum_tokens as_sum
-as_sum_keeps e s q = sum_in_layer (out-RawExpr e) s q ∙ sym (expr_opened expression_counts e)
-
-abbrev unsigned : Option RawSign → List RawTerm → Option RawTerm
-unsigned o xs = elim o [ None ↦ sole xs | Some sign ↦ None ]
-
-unsigned_keeps : (o : Option RawSign) (xs : List RawTerm) (t : RawTerm) → unsigned o xs ≡ Some t → term_tokens t ≡ sign o + between (map term_tokens xs)
-unsigned_keeps None xs t e = omega (arith, sole_keeps term_tokens xs t e)
-unsigned_keeps (Some s) xs t e = absurd (not_none e)
-
-sole_term_keeps : Keeps sum_tokens term_tokens sole_term
-sole_term_keeps s t e = unsigned_keeps (out-RawSum s).sign (out-RawSum s).operands t e ∙ sym (sum-layer s)
-
-sole_differ_keeps : Keeps term_tokens differ_tokens (λ x. sole (out-RawTerm x).operands)
-sole_differ_keeps x y e = sole_keeps differ_tokens (out-RawTerm x).operands y e ∙ sym (term-layer x)
-
-sole_union_keeps : Keeps differ_tokens union_tokens (λ x. sole (out-RawDiffer x).operands)
-sole_union_keeps x y e = sole_keeps union_tokens (out-RawDiffer x).operands y e ∙ sym (differ-layer x)
-
-sole_mask_keeps : Keeps union_tokens mask_tokens (λ x. sole (out-RawUnion x).operands)
-sole_mask_keeps x y e = sole_keeps mask_tokens (out-RawUnion x).operands y e ∙ sym (union-layer x)
-
-sole_prim_keeps : Keeps mask_tokens prim_tokens (λ x. sole (out-RawMask x).operands)
-sole_prim_keeps x y e = sole_keeps prim_tokens (out-RawMask x).operands y e ∙ sym (mask-layer x)
-
--- ---- what a bracket alone holds
-
-abbrev PrimaryLayer : Type 0
-PrimaryLayer = RawPrimary-F RawExpr RawPrimary RawRef RawCand RawCmp RawCond RawDiffer RawMask RawPrim RawSum RawTerm RawUnion
-
-abbrev held : PrimaryLayer → Option RawExpr
-held y = elim y [ layer.Bracket at e ↦ Some e | _ ↦ None ]
-
-held_in_layer : (x : PrimaryLayer) (e : RawExpr) → held x ≡ Some e → expr_tokens e ≡ primary_layered expression_counts x
-held_in_layer (layer.Bracket at x) e q = ap expr_tokens (sym (same_some q))
-held_in_layer _ e q = absurd (not_none q)
-
-primary_held : Keeps primary_tokens expr_tokens bracket_primary
-primary_held x e q = held_in_layer (out-RawPrimary x) e q ∙ sym (primary_opened expression_counts x)
-
-abbrev bare_of : List RawBits → RawPrimary → Option RawExpr
-bare_of bits x = elim bits [ [] ↦ bracket_primary x | b ∷ bs ↦ None ]
-
-bare_held : (bits : List RawBits) (x : RawPrimary) (e : RawExpr) → bare_of bits x ≡ Some e → expr_tokens e ≡ 6 * length bits + primary_tokens x
-bare_held [] x e q = omega (arith, primary_held x e q)
-bare_held (b ∷ bits) x e q = absurd (not_none q)
-
-prim_held : Keeps prim_tokens expr_tokens bracket_prim
-prim_held x e q = bare_held (out-RawPrim x).bits (out-RawPrim x).primary e q ∙ sym (prim-layer x)
-
+-- what stands alone in a tree is counted as the tree
 counted : Kept (λ (a b : ℕ). a ≡ b) expr_tokens sum_tokens term_tokens differ_tokens union_tokens mask_tokens prim_tokens primary_tokens
-counted = record { itself = λ v. refl; through = λ a b c p q. p ∙ q; sums = as_sum_keeps; terms = sole_term_keeps; differs = sole_differ_keeps; unions = sole_union_keeps; masks = sole_mask_keeps; prims = sole_prim_keeps; held = prim_held; primary_held = primary_held }
+counted = alone_kept expression_counts (record {
+  expression = λ v. refl;
+  sum = λ v os. omega arith;
+  term = λ v os. omega arith;
+  differ = λ v os. omega arith;
+  union = λ v os. omega arith;
+  mask = λ v os. omega arith;
+  prim = λ v. omega arith;
+  bracket = λ at v. refl;
+})
 
 -- ---- operands: the first, and more behind their operators
 
@@ -104,16 +48,16 @@ joined_most {A = A} {B = B} inner outer parts tree bracket kept taken makes x mo
     omega (arith, makes ops.0 ops.1, between_extended inner start more, begun)
 
 pub mask_most : (x : RawPrim) (more : List (Position × RawPrim)) → mask_tokens (mask_tree (extended (mask_start x) more)) ≤ prim_tokens x + separated (map (λ z. prim_tokens z.1) more)
-mask_most = joined_most prim_tokens mask_tokens (λ m. ((out-RawMask m).operands, (out-RawMask m).operators)) mask_tree (λ x. bracket_prim x >>- as_mask) (mask_keeps counted) mask-layer mask-made
+mask_most = joined_most prim_tokens mask_tokens (λ m. ((out-RawMask m).operands, (out-RawMask m).operators)) mask_tree (λ x. bracket_prim x >>- as_mask) (mask_keeps counted) mask-layer (λ xs os. mask_rolled expression_counts (record { operands = xs; operators = os }))
 
 pub union_most : (x : RawMask) (more : List (Position × RawMask)) → union_tokens (union_tree (extended (union_start x) more)) ≤ mask_tokens x + separated (map (λ z. mask_tokens z.1) more)
-union_most = joined_most mask_tokens union_tokens (λ m. ((out-RawUnion m).operands, (out-RawUnion m).operators)) union_tree (λ x. bracket_mask x >>- as_union) (union_keeps counted) union-layer union-made
+union_most = joined_most mask_tokens union_tokens (λ m. ((out-RawUnion m).operands, (out-RawUnion m).operators)) union_tree (λ x. bracket_mask x >>- as_union) (union_keeps counted) union-layer (λ xs os. union_rolled expression_counts (record { operands = xs; operators = os }))
 
 pub differ_most : (x : RawUnion) (more : List (Position × RawUnion)) → differ_tokens (differ_tree (extended (differ_start x) more)) ≤ union_tokens x + separated (map (λ z. union_tokens z.1) more)
-differ_most = joined_most union_tokens differ_tokens (λ m. ((out-RawDiffer m).operands, (out-RawDiffer m).operators)) differ_tree (λ x. bracket_union x >>- as_differ) (differ_keeps counted) differ-layer differ-made
+differ_most = joined_most union_tokens differ_tokens (λ m. ((out-RawDiffer m).operands, (out-RawDiffer m).operators)) differ_tree (λ x. bracket_union x >>- as_differ) (differ_keeps counted) differ-layer (λ xs os. differ_rolled expression_counts (record { operands = xs; operators = os }))
 
 pub term_most : (x : RawDiffer) (more : List (RawFactorSign × RawDiffer)) → term_tokens (term_tree (extended (term_start x) more)) ≤ differ_tokens x + separated (map (λ z. differ_tokens z.1) more)
-term_most = joined_most differ_tokens term_tokens (λ m. ((out-RawTerm m).operands, (out-RawTerm m).operators)) term_tree (λ x. bracket_differ x >>- as_term) (term_keeps counted) term-layer term-made
+term_most = joined_most differ_tokens term_tokens (λ m. ((out-RawTerm m).operands, (out-RawTerm m).operators)) term_tree (λ x. bracket_differ x >>- as_term) (term_keeps counted) term-layer (λ xs os. term_rolled expression_counts (record { operands = xs; operators = os }))
 
 -- ---- sums
 

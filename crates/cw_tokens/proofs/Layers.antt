@@ -7,7 +7,6 @@ use Rattle.cw_tree.specs.declared.leaf.RawOctal.{RawOctal}
 use Rattle.cw_tree.specs.declared.leaf.RawLiteral.{RawLiteral}
 use Rattle.cw_tree.specs.declared.leaf.RawType.{RawType}
 use Rattle.cw_tree.specs.declared.leaf.RawSign.{RawSign}
-use Rattle.cw_tree.specs.declared.leaf.RawFactorSign.{RawFactorSign}
 use Rattle.cw_tree.specs.declared.leaf.RawCompareSign.{RawCompareSign}
 use Rattle.cw_tree.specs.declared.expression.RawBits.{RawBits}
 use Rattle.cw_tree.specs.declared.expression.RawExpr.TheVariants as expr_tree
@@ -20,12 +19,12 @@ use Rattle.cw_tree.specs.declared.expression.RawRef.{RawRef}
 use Rattle.cw_tree.specs.declared.expression.RawCand.{RawCand, roll-RawCand}
 use Rattle.cw_tree.specs.declared.expression.RawCmp.{RawCmp, roll-RawCmp}
 use Rattle.cw_tree.specs.declared.expression.RawCond.{RawCond, roll-RawCond}
-use Rattle.cw_tree.specs.declared.expression.RawDiffer.{RawDiffer, out-RawDiffer, roll-RawDiffer}
-use Rattle.cw_tree.specs.declared.expression.RawMask.{RawMask, out-RawMask, roll-RawMask}
+use Rattle.cw_tree.specs.declared.expression.RawDiffer.{RawDiffer, out-RawDiffer}
+use Rattle.cw_tree.specs.declared.expression.RawMask.{RawMask, out-RawMask}
 use Rattle.cw_tree.specs.declared.expression.RawPrim.{RawPrim, out-RawPrim, roll-RawPrim}
 use Rattle.cw_tree.specs.declared.expression.RawSum.{RawSum, out-RawSum, roll-RawSum}
-use Rattle.cw_tree.specs.declared.expression.RawTerm.{RawTerm, out-RawTerm, roll-RawTerm}
-use Rattle.cw_tree.specs.declared.expression.RawUnion.{RawUnion, out-RawUnion, roll-RawUnion}
+use Rattle.cw_tree.specs.declared.expression.RawTerm.{RawTerm, out-RawTerm}
+use Rattle.cw_tree.specs.declared.expression.RawUnion.{RawUnion, out-RawUnion}
 use Rattle.cw_tree.specs.declared.items.RawBase.{RawBase}
 use Rattle.cw_tree.specs.declared.items.RawData.{RawData}
 use Rattle.cw_tree.specs.declared.statement.RawFelem.{RawFelem}
@@ -44,7 +43,7 @@ use Rattle.cw_tree.proofs.Expressions.{expression_steps, of_differ-out, of_expre
 use Rattle.cw_tree.proofs.Statements.{StatementSteps, statement_steps, of_declaration-Data, of_declaration-Overlay, of_declaration-Proc, of_declaration-Switch, of_form-For, of_form-If-None, of_form-If-Some, of_form-Simple, of_simple-Answer, of_simple-Assign, of_simple-AssignBits, of_simple-Block, of_simple-Call, of_simple-Empty, of_simple-Goto, of_simple-GotoSwitch, of_statement-out}
 use Rattle.cw_tokens.specs.LeastTokens.{separated, arguments}
 use Rattle.cw_tokens.specs.TreeTokens.{between, total, sign, expr_step, primary_step, ref_step, cand_step, cmp_step, cond_step, differ_step, mask_step, prim_step, sum_step, term_step, union_step, expr_tokens, primary_tokens, ref_tokens, cand_tokens, cmp_tokens, cond_tokens, differ_tokens, mask_tokens, prim_tokens, sum_tokens, term_tokens, union_tokens, felem_tokens, param_tokens, decl_step, form_step, simple_step, block_step, proc_step, stmt_step, decl_tokens, form_tokens, simple_tokens, block_tokens, proc_tokens, stmt_tokens}
-use Rattle.cw_tokens.proofs.Passes.{Pass, cand_rolled, cmp_rolled, cond_rolled, differ_rolled, mask_rolled, prim_rolled, sum_rolled, term_rolled, union_rolled}
+use Rattle.cw_tokens.proofs.Passes.{Pass, cand_rolled, cmp_rolled, cond_rolled, prim_rolled, sum_rolled}
 
 abbrev pub expression_counts : Pass ℕ
 expression_counts = expression_steps expr_step primary_step ref_step cand_step cmp_step cond_step differ_step mask_step prim_step sum_step term_step union_step
@@ -79,18 +78,6 @@ cond-made xs os = cond_rolled expression_counts (record { operands = xs; operato
 
 pub cand-made : (xs : List RawCmp) (os : List Position) → cand_tokens (roll-RawCand (record { operands = xs; operators = os })) ≡ between (map cmp_tokens xs)
 cand-made xs os = cand_rolled expression_counts (record { operands = xs; operators = os })
-
-pub differ-made : (xs : List RawUnion) (os : List Position) → differ_tokens (roll-RawDiffer (record { operands = xs; operators = os })) ≡ between (map union_tokens xs)
-differ-made xs os = differ_rolled expression_counts (record { operands = xs; operators = os })
-
-pub mask-made : (xs : List RawPrim) (os : List Position) → mask_tokens (roll-RawMask (record { operands = xs; operators = os })) ≡ between (map prim_tokens xs)
-mask-made xs os = mask_rolled expression_counts (record { operands = xs; operators = os })
-
-pub union-made : (xs : List RawMask) (os : List Position) → union_tokens (roll-RawUnion (record { operands = xs; operators = os })) ≡ between (map mask_tokens xs)
-union-made xs os = union_rolled expression_counts (record { operands = xs; operators = os })
-
-pub term-made : (xs : List RawDiffer) (os : List RawFactorSign) → term_tokens (roll-RawTerm (record { operands = xs; operators = os })) ≡ between (map differ_tokens xs)
-term-made xs os = term_rolled expression_counts (record { operands = xs; operators = os })
 
 pub cmp-made : (a : RawSum) (op : RawCompareSign) (b : RawSum) → cmp_tokens (roll-RawCmp (record { left = a; operator = op; right = b })) ≡ suc (sum_tokens a + sum_tokens b)
 cmp-made a op b = cmp_rolled expression_counts (record { left = a; operator = op; right = b })

@@ -3,6 +3,7 @@ pub mod Narrowed
 pub mod Kept
 pub mod Codes
 pub mod Passes
+pub mod Alone
 pub mod Layers
 pub mod Held
 pub mod Counting

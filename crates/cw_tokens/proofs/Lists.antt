@@ -1,7 +1,7 @@
 -- Counts of lists, and of what one step or two steps give.
-use Rattle.std.proofs.Common.{◌≡◌, ℕ, suc, ◌+◌, ◌*◌, ◌≤◌, List, [], ◌∷◌, ◌++◌, length, map, Option, Some, None, refl, sym, ap, ◌∙◌, arith}
+use Rattle.std.proofs.Common.{◌≡◌, ℕ, suc, ◌+◌, ◌*◌, ◌≤◌, List, [], ◌∷◌, ◌++◌, length, map, Option, Some, None, refl, sym, ◌∙◌, arith}
 use Rattle.std.proofs.lemmas.Option.{none-some, same_Some}
-use Rattle.cw_grammar.specs.Trees.{sole, Operands, extended, first_of}
+use Rattle.cw_grammar.specs.Trees.{Operands, extended, first_of}
 use Rattle.cw_tokens.specs.LeastTokens.{separated, arguments}
 use Rattle.cw_tokens.specs.TreeTokens.{between, total}
 
@@ -31,11 +31,6 @@ arguments_most [] = omega arith
 arguments_most (n ∷ ns) = omega arith
 
 -- ---- steps
-
-pub sole_keeps : {A : Type 0} (f : A → ℕ) (xs : List A) (x : A) → sole xs ≡ Some x → f x ≡ between (map f xs)
-sole_keeps f [] x e = absurd (not_none e)
-sole_keeps f (y ∷ []) x e = ap f (sym (same_some e)) ∙ omega arith
-sole_keeps f (y ∷ z ∷ zs) x e = absurd (not_none e)
 
 -- A first operand, or those of the tree in its bracket.
 pub first_keeps : {A B C : Type 0} (f : A → ℕ) (h : C → ℕ) (parts : C → Operands A B) (o : Option C) (x : A) → ((c : C) → o ≡ Some c → h c ≡ f x) → ((c : C) → h c ≡ between (map f (parts c).0)) → between (map f (first_of parts o x).0) ≡ f x

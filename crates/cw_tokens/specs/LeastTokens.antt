@@ -33,15 +33,7 @@ arguments (n ∷ ns) = suc (separated (n ∷ ns))
 abbrev pub argument_step : Arg-F ℕ ℕ ℕ (Option Field → ℕ) ℕ → ℕ
 argument_step (layer.Value e f) = e
 argument_step (layer.Place r) = r
-argument_step (layer.Array i l) = 1
-argument_step (layer.Same i) = 1
-argument_step (layer.Base i) = 1
-argument_step (layer.Goal g) = 1
-argument_step (layer.Switch n) = 1
-argument_step (layer.CommonSwitch d) = 1
-argument_step (layer.Proc q) = 1
-argument_step (layer.CommonProc d) = 1
-argument_step (layer.Special k) = 1
+argument_step _ = 1
 
 abbrev pub condition_step : Cond-F ℕ ℕ ℕ (Option Field → ℕ) ℕ → ℕ
 condition_step (layer.Cmp op a b) = suc (a + b)

@@ -42,12 +42,16 @@ total (n ∷ ns) = n + total ns
 
 -- ---- expressions
 
-abbrev pub expr_step : RawExpr-F ℕ ℕ ℕ ℕ ℕ ℕ ℕ ℕ ℕ ℕ ℕ ℕ → ℕ
+-- counts a layer whose parts are counted
+abbrev pub CountsLayer : (Type 0 → Type 0 → Type 0 → Type 0 → Type 0 → Type 0 → Type 0 → Type 0 → Type 0 → Type 0 → Type 0 → Type 0 → Type 0) → Type 0
+CountsLayer Layer = Layer ℕ ℕ ℕ ℕ ℕ ℕ ℕ ℕ ℕ ℕ ℕ ℕ → ℕ
+
+abbrev pub expr_step : CountsLayer RawExpr-F
 -- IF, THEN and ELSE
 expr_step (layer.Choice at c a b) = 3 + (c + (a + b))
 expr_step (layer.Sum s) = s
 
-abbrev pub primary_step : RawPrimary-F ℕ ℕ ℕ ℕ ℕ ℕ ℕ ℕ ℕ ℕ ℕ ℕ → ℕ
+abbrev pub primary_step : CountsLayer RawPrimary-F
 primary_step (layer.Number n) = 1
 primary_step (layer.Octal o) = 1
 primary_step (layer.Literal c) = 1
@@ -61,42 +65,42 @@ primary_step (layer.Ref r) = r
 primary_step (layer.Call f xs) = suc (arguments xs)
 
 -- a name, with its indexes in brackets
-abbrev pub ref_step : RawRef-F ℕ ℕ ℕ ℕ ℕ ℕ ℕ ℕ ℕ ℕ ℕ ℕ → ℕ
+abbrev pub ref_step : CountsLayer RawRef-F
 ref_step (layer.Name n) = 1
 ref_step (layer.One n e) = 3 + e
 ref_step (layer.Two n e d) = 4 + (e + d)
 ref_step (layer.Bare at e) = 2 + e
 
-abbrev pub cand_step : RawCand-F ℕ ℕ ℕ ℕ ℕ ℕ ℕ ℕ ℕ ℕ ℕ ℕ → ℕ
+abbrev pub cand_step : CountsLayer RawCand-F
 cand_step x = between x.operands
 
-abbrev pub cond_step : RawCond-F ℕ ℕ ℕ ℕ ℕ ℕ ℕ ℕ ℕ ℕ ℕ ℕ → ℕ
+abbrev pub cond_step : CountsLayer RawCond-F
 cond_step x = between x.operands
 
-abbrev pub differ_step : RawDiffer-F ℕ ℕ ℕ ℕ ℕ ℕ ℕ ℕ ℕ ℕ ℕ ℕ → ℕ
+abbrev pub differ_step : CountsLayer RawDiffer-F
 differ_step x = between x.operands
 
-abbrev pub mask_step : RawMask-F ℕ ℕ ℕ ℕ ℕ ℕ ℕ ℕ ℕ ℕ ℕ ℕ → ℕ
+abbrev pub mask_step : CountsLayer RawMask-F
 mask_step x = between x.operands
 
-abbrev pub union_step : RawUnion-F ℕ ℕ ℕ ℕ ℕ ℕ ℕ ℕ ℕ ℕ ℕ ℕ → ℕ
+abbrev pub union_step : CountsLayer RawUnion-F
 union_step x = between x.operands
 
-abbrev pub cmp_step : RawCmp-F ℕ ℕ ℕ ℕ ℕ ℕ ℕ ℕ ℕ ℕ ℕ ℕ → ℕ
+abbrev pub cmp_step : CountsLayer RawCmp-F
 cmp_step x = suc (x.left + x.right)
 
 -- BITS with two numbers
-abbrev pub prim_step : RawPrim-F ℕ ℕ ℕ ℕ ℕ ℕ ℕ ℕ ℕ ℕ ℕ ℕ → ℕ
+abbrev pub prim_step : CountsLayer RawPrim-F
 prim_step x = 6 * length x.bits + x.primary
 
 abbrev pub sign : Option RawSign → ℕ
 sign None = 0
 sign (Some s) = 1
 
-abbrev pub sum_step : RawSum-F ℕ ℕ ℕ ℕ ℕ ℕ ℕ ℕ ℕ ℕ ℕ ℕ → ℕ
+abbrev pub sum_step : CountsLayer RawSum-F
 sum_step x = sign x.sign + between x.operands
 
-abbrev pub term_step : RawTerm-F ℕ ℕ ℕ ℕ ℕ ℕ ℕ ℕ ℕ ℕ ℕ ℕ → ℕ
+abbrev pub term_step : CountsLayer RawTerm-F
 term_step x = between x.operands
 
 abbrev pub expr_tokens : RawExpr → ℕ

@@ -2,8 +2,7 @@
 ghost use Rattle.std.specs.Prelude.{ℕ, ◌≤◌, List, length};
 ghost use Rattle.cw_lex.specs.Lexical.{Lexeme};
 ghost use Rattle.cw_tree.specs.declared.segment.Raw.{Raw};
-ghost use Rattle.cw_tokens.specs.Texts.{IsTreeOf};
-ghost use Rattle.cw_tokens.specs.TreeTokens.{text_tokens};
+ghost use Rattle.cw_tokens.specs.{Texts.IsTreeOf, TreeTokens.text_tokens};
 
 /// A text has at least as many tokens as its tree counts.
 pub fn tokens_counted()

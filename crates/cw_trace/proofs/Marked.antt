@@ -3,6 +3,7 @@ use Rattle.std.proofs.Common.{◌≡◌, ℕ, ◌+◌, ◌<◌, List, take, leng
 use Rattle.std.specs.Prelude.{◌≢◌, slice_get, ◌==◌, ◌||◌, ◌&&◌}
 use Rattle.std.specs.List.{list_any}
 use Rattle.std.proofs.Math.ListN.{set}
+use Rattle.std.proofs.Math.Bool.{or-true, or-false}
 use Rattle.std.proofs.lemmas.Bool.{cases_eq, eq-eqb, ne_eqb}
 use Rattle.std.proofs.lemmas.List.{length-set, length-replicate, get_or-replicate, get_or-set_same, get_or-set_other}
 use Rattle.std.proofs.lemmas.List.Folds.{list_any_more}
@@ -19,14 +20,6 @@ pub nothing_marked : (n k : ℕ) → k < n → slice_get (replicate n false) k �
 nothing_marked n k less =
     slice_get-get_or (replicate n false) k true (omega (arith, length-replicate n false)) ∙ ap Some (get_or-replicate n k false true less)
 
-or_true : (b : Bool) → (b || true) ≡ true
-or_true true = refl
-or_true false = refl
-
-or_false : (b : Bool) → (b || false) ≡ b
-or_false true = refl
-or_false false = refl
-
 -- one place more is marked
 pub marks_more : (places : List ℕ) (table : List Bool) (i : ℕ) → i < length places → get_or places i 0 < 65536 → Marks (take i places) table
     → Marks (take (i + 1) places) (set table (get_or places i 0) true)
@@ -36,11 +29,11 @@ marks_more places table i within fits marks k less =
     let room : k < length table = slice_get_within table k _ (marks k less) in
     let room_then : k < length (set table place true) = omega (arith, room, length-set table place true) in
     slice_get-get_or (set table place true) k false room_then ∙ ap Some (elim (cases_eq place k) [
-      | inl e ↦ ap (λ j. get_or (set table j true) k false) e ∙ get_or-set_same table k true false room ∙ sym (more ∙ ap (λ b. list_any (λ p. p == k) (take i places) || b) (eq-eqb place k e) ∙ or_true _)
+      | inl e ↦ ap (λ j. get_or (set table j true) k false) e ∙ get_or-set_same table k true false room ∙ sym (more ∙ ap (λ b. list_any (λ p. p == k) (take i places) || b) (eq-eqb place k e) ∙ or-true _)
       | inr other ↦
           let apart : k ≢ place = λ e. other (sym e) in
           get_or-set_other table place k true false apart ∙ get_or_from_slice_get table k _ false (marks k less)
-          ∙ sym (more ∙ ap (λ b. list_any (λ p. p == k) (take i places) || b) (ne_eqb place k other) ∙ or_false _)
+          ∙ sym (more ∙ ap (λ b. list_any (λ p. p == k) (take i places) || b) (ne_eqb place k other) ∙ or-false _)
     ])
 
 marked : (places : List ℕ) (table : List Bool) (k : ℕ) → Marks places table → k < 65536 → get_or table k false ≡ list_any (λ p. p == k) places

@@ -5,21 +5,13 @@ use Rattle.cw_io.specs.Count.{Rose}
 use Rattle.cw_i86.specs.State.{State}
 use Rattle.cw_i86.specs.MachineRun.{Event}
 use Rattle.cw_cpu86.specs.Ports.{Device}
-use Rattle.cw_cpu86.specs.Answers.{Went, RunAnswers, RunCounts}
+use Rattle.cw_cpu86.specs.Answers.{Went, RunAnswers, RunCounts, events_of}
 use Rattle.cw_cpu86.specs.declared.cpu.RunEnd.{RunEnd}
 use Rattle.cw_cpu86.specs.declared.cpu.RunEnd.TheVariants as ends
 use Rattle.cw_trace.specs.Reports.{Reports, told_at}
 use Rattle.cw_trace.specs.declared.watch.Watch.{Watch}
 use Rattle.cw_trace.specs.declared.watch.WatchEnd.{WatchEnd}
 use Rattle.cw_trace.specs.declared.watch.WatchEnd.TheVariants.{Run, SayFault}
-
--- the events of the run that an answer tells of
-abbrev pub events_of : (end : RunEnd) (limit : ℕ) (s : State) (d : Device) (s' : State) (d' : Device) → RunAnswers end limit s d s' d' → List Event
-events_of ends.Limit limit s d s' d' went = went.events
-events_of (ends.Halted n) limit s d s' d' answer = answer.2.1.events
-events_of (ends.BadCode offset n) limit s d s' d' answer = answer.1.events
-events_of (ends.Divide offset n) limit s d s' d' answer = answer.1.events
-events_of (ends.PortFault n) limit s d s' d' answer = answer.1.1.events
 
 -- the instructions that an answer covers: as many as were allowed, or those up to the one whose port failed, with that one
 abbrev pub reach_of : RunEnd → (limit : ℕ) → ℕ

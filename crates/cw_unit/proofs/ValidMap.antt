@@ -93,14 +93,17 @@ homes-in ps g (t ∷ ss) (suc k) s e =
 
 -- ---- an item in its place
 
--- what is known of the family of an item: it is this one, of this segment
-record Stands (us : List SourceUnit) (x : StoredItem) : Type 0 where
+-- an item of a unit, and the root of its family
+record Rooted (us : List SourceUnit) (segment : ℕ) : Type 0 where
   n : ℕ
   u : SourceUnit
-  i : Item
   r : Root u n
-  unit : slice_get us x.segment ≡ Some u
-  item : slice_get u.items n ≡ Some i
+  unit : slice_get us segment ≡ Some u
+
+-- what is known of the family of an item: it is this one, of this segment
+record Stands (us : List SourceUnit) (x : StoredItem) : Type 0 where
+  rooted : Rooted us x.segment
+  open rooted use *
   frame_is : x.frame ≡ r.item.owner
   sort_is : x.sort ≡ sort_of u (root_of u n) r.item.owner r.item.home
   key_is : x.family ≡ key_of x.segment (storage_of u).names (family_of u n) x.sort
@@ -122,12 +125,7 @@ stands-there us g n u i e m ok =
     let at : 0 + family_of u n ≡ family_of u n = omega arith in
     let seg : 0 + g ≡ g = omega arith in
     record {
-      n = n;
-      u = u;
-      i = i;
-      r = r;
-      unit = e;
-      item = m;
+      rooted = record { n = n; u = u; r = r; unit = e };
       frame_is = ap owner_in r.found;
       sort_is = sorted;
       key_is = refl;

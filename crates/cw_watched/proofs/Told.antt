@@ -7,24 +7,20 @@ use Rattle.cw_io.specs.Count.{Rose}
 use Rattle.cw_i86.specs.State.{State}
 use Rattle.cw_i86.specs.MachineRun.{Event, End, Running, Observed, FitsInput}
 use Rattle.cw_cpu86.specs.Ports.{Device}
-use Rattle.cw_cpu86.specs.Answers.{Went, RunAnswers, steps_shown}
+use Rattle.cw_cpu86.specs.Answers.{Went, RunAnswers, events_of, steps_shown}
 use Rattle.cw_cpu86.specs.declared.cpu.RunEnd.{RunEnd}
 use Rattle.cw_cpu86.specs.declared.cpu.RunEnd.TheVariants as ends
 use Rattle.cw_ports.specs.Running.{Outside, Ran, TakenWithin, RunShows, reached}
-use Rattle.cw_ports.specs.Concluding.{said_of, EndsAlike, Concludes}
+use Rattle.cw_ports.specs.Concluding.{EndsAlike, Concludes}
 use Rattle.cw_ports.specs.declared.running.ImageEnd.{ImageEnd}
 use Rattle.cw_ports.specs.declared.running.ImageEnd.TheVariants.{Ended, Stopped, Unfinished, BadCode, Divided, InputFault, OutFault, TooLong}
 use Rattle.cw_trace.specs.Reports.{Reports, told_at}
-use Rattle.cw_trace.specs.Answers.{events_of, reach_of, Tells, TellsPart}
+use Rattle.cw_trace.specs.Answers.{reach_of, Tells, TellsPart}
 use Rattle.cw_trace.specs.declared.watch.Watch.{Watch}
 use Rattle.cw_watched.specs.Watched.{TellsOf, TellsRun, Said, WatchedTells, CutShort}
 use Rattle.cw_watched.specs.declared.running.WatchedEnd.TheVariants.{Image, SayFault}
 
 -- ---- a run that ended
-
-said_is : (end : RunEnd) (steps : ℕ) (s : State) (d : Device) (s' : State) (d' : Device) (answers : RunAnswers end steps s d s' d') → said_of end steps s d s' d' answers ≡ events_of end steps s d s' d' answers
-said_is ends.Limit steps s d s' d' answers = refl
-said_is _ steps s d s' d' answers = refl
 
 -- a run that was cut short stood at an instruction that a port refused
 reach_cut : (end : RunEnd) (n steps : ℕ) → n ≡ steps_shown end steps → n < steps → reach_of end steps ≡ n + 1
@@ -58,20 +54,19 @@ module _ (watch : Watch) (end : RunEnd) (steps : ℕ) (s : State) (d : Device) (
   tells_run _ shows behind = at steps (reach_all end steps s d s' d' answers behind)
 
 pub told_run : (watch : Watch) (end : RunEnd) (shown : End) (status : ImageEnd) (steps : ℕ) (s : State) (d : Device) (s' : State) (d' : Device) (a b : Outside) (said said' : Said) (answers : RunAnswers end steps s d s' d')
-    → Concludes end shown status s (said_of end steps s d s' d' answers) steps a b → Tells watch s (events_of end steps s d s' d' answers) (reach_of end steps) said.held said'.held → said'.faults ≡ said.faults
+    → Concludes end shown status s (events_of end steps s d s' d' answers) steps a b → Tells watch s (events_of end steps s d s' d' answers) (reach_of end steps) said.held said'.held → said'.faults ≡ said.faults
     → WatchedTells watch (Image status) s steps a b said said'
-told_run watch end shown status steps s d s' d' a b said said' answers k tells same =
-    let fits : FitsInput k.input (events_of end steps s d s' d' answers) = subst (FitsInput k.input) (said_is end steps s d s' d' answers) k.fits in (
-      k.input,
-      k.is_input,
-      record {
-        shows = k.shows;
-        text = tells.0;
-        tells = tells_run watch end steps s d s' d' answers a b k.input tells.0 fits tells.1 status k.shows k.behind;
-        writes = tells.2;
-        same = same;
-      },
-    )
+told_run watch end shown status steps s d s' d' a b said said' answers k tells same = (
+  k.input,
+  k.is_input,
+  record {
+    shows = k.shows;
+    text = tells.0;
+    tells = tells_run watch end steps s d s' d' answers a b k.input tells.0 k.fits tells.1 status k.shows k.behind;
+    writes = tells.2;
+    same = same;
+  },
+)
 
 -- ---- a run that was cut short where a report could not be written
 

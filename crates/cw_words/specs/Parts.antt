@@ -55,20 +55,21 @@ stop_of Trace names = option_map (λ stop. Some stop) (stop_in (slice_index_or n
 stop_of _ names = Some None
 
 -- how many WORDs an action takes, at least and at most
+abbrev pub numbers_of_names : Action → ℕ × ℕ
+numbers_of_names Go = (1, 200)
+numbers_of_names Link = (1, 200)
+numbers_of_names Map = (1, 200)
+numbers_of_names Depth = (1, 200)
+numbers_of_names Code = (1, 200)
+numbers_of_names Lib = (2, 201)
+numbers_of_names Trace = (2, 201)
+numbers_of_names _ = (1, 1)
+
 abbrev pub least_names : Action → ℕ
-least_names Lib = 2
-least_names Trace = 2
-least_names _ = 1
+least_names action = (numbers_of_names action).0
 
 abbrev pub most_names : Action → ℕ
-most_names Go = 200
-most_names Link = 200
-most_names Map = 200
-most_names Depth = 200
-most_names Code = 200
-most_names Lib = 201
-most_names Trace = 201
-most_names _ = 1
+most_names action = (numbers_of_names action).1
 
 -- what the words mean
 pub record Parts : Type 0 where

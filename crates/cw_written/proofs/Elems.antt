@@ -1,11 +1,11 @@
 -- The elements of a table and its presets: the rule that leads back to itself is alike a repetition.
-use Rattle.std.proofs.Common.{◌≡◌, ℕ, List, [], ◌∷◌, ◌++◌, Option, Some, None, sym, subst, ◌∙◌, append_assoc}
+use Rattle.std.proofs.Common.{ℕ, List, [], ◌∷◌, ◌++◌, Option, sym, subst, ◌∙◌, append_assoc}
 use Rattle.cw_lex.specs.declared.token.Symbol.TheVariants as symbols
 use Rattle.cw_tree.specs.declared.items.RawElem.{RawElem}
 use Rattle.cw_tree.specs.declared.items.RawPresets.{RawPresets}
 use Rattle.cw_grammar.specs.Tokens.{Item}
-use Rattle.cw_grammar.specs.Grammar.{Sort, a_token, a_pair, a_list, an_option, an_elem, a_presets, Grammar, ◌·◌, ◌∣◌, many, ◌⇒◌, again, more_elems}
-use Rattle.cw_grammar.specs.Rules.{symbol, ◌*>◌, optional}
+use Rattle.cw_grammar.specs.Grammar.{Sort, a_token, a_pair, a_list, an_option, an_elem, a_presets, Grammar, ◌·◌, many, again, more_elems}
+use Rattle.cw_grammar.specs.Rules.{symbol, ◌*>◌}
 use Rattle.cw_grammar.specs.Statements.{elem, preset, elems_behind, table_body}
 use Rattle.cw_grammar.specs.Table.{again_rule}
 use Rattle.cw_grammar.specs.Derives.{Derives, is_none, is_then, is_left, is_right, is_end, is_more, is_map, is_again, IsViablePrefix, no_token, of_first, of_second, of_left, of_right, of_item, of_more, of_map, of_again}
@@ -94,19 +94,34 @@ more_front (of_again (of_right (of_left no_token))) = no_token
 more_front (of_again (of_right (of_left (of_map q)))) = of_second is_end (of_left (of_map (of_map (of_second (is_right is_none) q))))
 more_front (of_again (of_right (of_right no_token))) = no_token
 
-none_front : (n : ℕ) {w : List Item} → IsViablePrefix n (an_option a_presets) table_presets w → IsViablePrefix n Body (again more_elems) w
+-- Such a front may be in a semicolon, or in presets, which may stand behind one.
+record MayBePresets (n : ℕ) (Front : List Item → Type 0) : Type 0 where
+  nothing : Front []
+  in_semicolon : {w : List Item} → IsViablePrefix n a_token (symbol symbols.Semicolon) w → Front w
+  alone : {w : List Item} → IsViablePrefix n a_presets preset w → Front w
+  behind : {u w : List Item} {t : Item} → Derives n a_token (symbol symbols.Semicolon) u t → IsViablePrefix n a_presets preset w → Front (u ++ w)
+
+in_presets : {n : ℕ} {Front : List Item → Type 0} → MayBePresets n Front → {w : List Item} → IsViablePrefix n (an_option a_presets) table_presets w → Front w
+in_presets may no_token = may.nothing
+in_presets may (of_left no_token) = may.nothing
+in_presets may (of_left (of_map no_token)) = may.nothing
+in_presets may (of_left (of_map (of_map no_token))) = may.nothing
+in_presets may (of_left (of_map (of_map (of_first no_token)))) = may.nothing
+in_presets may (of_left (of_map (of_map (of_first (of_left no_token))))) = may.nothing
+in_presets may (of_left (of_map (of_map (of_first (of_left (of_map q)))))) = may.in_semicolon q
+in_presets may (of_left (of_map (of_map (of_first (of_right no_token))))) = may.nothing
+in_presets may (of_left (of_map (of_map (of_second (is_left (is_map s)) q)))) = may.behind s q
+in_presets may (of_left (of_map (of_map (of_second (is_right is_none) q)))) = may.alone q
+in_presets may (of_right no_token) = may.nothing
+
+behind_elems : (n : ℕ) → MayBePresets n (λ (w : List Item). IsViablePrefix n Body (again more_elems) w)
 unfolding again_rule elems_behind
-none_front n no_token = no_token
-none_front n (of_left no_token) = no_token
-none_front n (of_left (of_map no_token)) = no_token
-none_front n (of_left (of_map (of_map no_token))) = no_token
-none_front n (of_left (of_map (of_map (of_first no_token)))) = no_token
-none_front n (of_left (of_map (of_map (of_first (of_left no_token))))) = no_token
-none_front n (of_left (of_map (of_map (of_first (of_left (of_map q)))))) = of_again (of_left (of_map (of_first q)))
-none_front n (of_left (of_map (of_map (of_first (of_right no_token))))) = no_token
-none_front n (of_left (of_map (of_map (of_second (is_left (is_map s)) q)))) = of_again (of_left (of_map (of_second s (of_right (of_map q)))))
-none_front n (of_left (of_map (of_map (of_second (is_right is_none) q)))) = of_again (of_right (of_left (of_map q)))
-none_front n (of_right no_token) = no_token
+behind_elems n = record {
+  nothing = no_token;
+  in_semicolon = λ q. of_again (of_left (of_map (of_first q)));
+  alone = λ q. of_again (of_right (of_left (of_map q)));
+  behind = λ s q. of_again (of_left (of_map (of_second s (of_right (of_map q)))));
+}
 
 front_elem : (n : ℕ) (c a v : List Item) (t : Item) (x : RawElem) → Derives n a_token (symbol symbols.Semicolon) c t → Derives n an_elem elem a x → IsViablePrefix n Body (again more_elems) v → IsViablePrefix n Body (again more_elems) ((c ++ a) ++ v)
 unfolding again_rule elems_behind
@@ -122,7 +137,7 @@ front_elems n (of_item (of_map (of_second s q))) = of_again (of_left (of_map (of
 front_elems n (of_more {v = v} (is_map (is_then {u = c} {v = a} {x = t} {y = x} s e)) q) = front_elem n c a v t x s e (front_elems n q)
 
 front_after : (n : ℕ) {u v : List Item} {xs : List RawElem} → Derives n (a_list an_elem) (many more) u xs → IsViablePrefix n (an_option a_presets) table_presets v → IsViablePrefix n Body (again more_elems) (u ++ v)
-front_after n is_end q = none_front n q
+front_after n is_end q = in_presets (behind_elems n) q
 front_after n {v = v} (is_more {v = w} (is_map (is_then {u = c} {v = a} {x = t} {y = x} s e)) ls) q =
     subst (λ (z : List Item). IsViablePrefix n Body (again more_elems) z) (sym (append_assoc (c ++ a) w v)) (front_elem n c a (w ++ v) t x s e (front_after n ls q))
 
@@ -149,19 +164,14 @@ body_front (of_right (of_right (of_left (of_map (of_second s no_token))))) = of_
 body_front (of_right (of_right (of_left (of_map (of_second s (of_map q)))))) = of_second (is_right is_none) (of_left (of_map (of_map (of_second (is_left (is_map s)) q))))
 body_front (of_right (of_right (of_right no_token))) = no_token
 
-presets_front : (n : ℕ) {w : List Item} → IsViablePrefix n (an_option a_presets) table_presets w → IsViablePrefix n Body table_body w
+without_elems : (n : ℕ) → MayBePresets n (λ (w : List Item). IsViablePrefix n Body table_body w)
 unfolding table_body
-presets_front n no_token = no_token
-presets_front n (of_left no_token) = no_token
-presets_front n (of_left (of_map no_token)) = no_token
-presets_front n (of_left (of_map (of_map no_token))) = no_token
-presets_front n (of_left (of_map (of_map (of_first no_token)))) = no_token
-presets_front n (of_left (of_map (of_map (of_first (of_left no_token))))) = no_token
-presets_front n (of_left (of_map (of_map (of_first (of_left (of_map q)))))) = of_right (of_right (of_left (of_map (of_first q))))
-presets_front n (of_left (of_map (of_map (of_first (of_right no_token))))) = no_token
-presets_front n (of_left (of_map (of_map (of_second (is_left (is_map s)) q)))) = of_right (of_right (of_left (of_map (of_second s (of_map q)))))
-presets_front n (of_left (of_map (of_map (of_second (is_right is_none) q)))) = of_right (of_left (of_map q))
-presets_front n (of_right no_token) = no_token
+without_elems n = record {
+  nothing = no_token;
+  in_semicolon = λ q. of_right (of_right (of_left (of_map (of_first q))));
+  alone = λ q. of_right (of_left (of_map q));
+  behind = λ s q. of_right (of_right (of_left (of_map (of_second s (of_map q)))));
+}
 
 front_body : (n : ℕ) {w : List Item} → IsViablePrefix n Body written_body w → IsViablePrefix n Body table_body w
 unfolding table_body
@@ -173,7 +183,7 @@ front_body n (of_first (of_left (of_map (of_first q)))) = of_left (of_map (of_fi
 front_body n (of_first (of_left (of_map (of_second e q)))) = of_left (of_map (of_second e (front_elems n q)))
 front_body n (of_first (of_right no_token)) = no_token
 front_body n (of_second {v = m} (is_left (is_map (is_then {u = a} {v = l} e ls))) q) = subst (λ (z : List Item). IsViablePrefix n Body table_body z) (sym (append_assoc a l m)) (of_left (of_map (of_second e (front_after n ls q))))
-front_body n (of_second (is_right is_none) q) = presets_front n q
+front_body n (of_second (is_right is_none) q) = in_presets (without_elems n) q
 
 pub table_body_alike : IsAlike Body written_body table_body
 table_body_alike = record {

@@ -3,20 +3,22 @@ use Rattle.std.proofs.Common.{◌≡◌, ℕ, Bool, List, [], ◌∷◌, ◌++�
 use Rattle.cw_lex.specs.declared.token.Symbol.TheVariants as symbols
 use Rattle.cw_tree.specs.declared.leaf.RawName.{RawName}
 use Rattle.cw_tree.specs.declared.statement.RawForm.{RawForm}
+use Rattle.cw_tree.specs.declared.statement.RawForm.TheVariants as form_tree
 use Rattle.cw_tree.specs.declared.statement.RawStmt.{RawStmt}
 use Rattle.cw_grammar.specs.Tokens.{Item}
-use Rattle.cw_grammar.specs.Grammar.{a_token, a_pair, a_list, a_name, a_form, a_stmt, Grammar, ◌·◌, ◌∣◌, many, ◌⇒◌, again, labelled}
-use Rattle.cw_grammar.specs.Rules.{symbol, ◌<*◌, name}
-use Rattle.cw_grammar.specs.Statements.{stmt, stmt_tree, with_label}
+use Rattle.cw_grammar.specs.Grammar.{a_token, a_list, a_name, a_form, a_from, a_stmt, Grammar, ◌·◌, ◌∣◌, many, ◌⇒◌, again, labelled}
+use Rattle.cw_grammar.specs.Rules.{symbol, ◌*>◌, name}
+use Rattle.cw_grammar.specs.Statements.{simple_behind, simple_stmt, stmt, stmt_tree, with_label}
 use Rattle.cw_grammar.specs.Labels.{unlabelled}
 use Rattle.cw_grammar.specs.Table.{again_rule}
 use Rattle.cw_grammar.specs.Derives.{Derives, is_then, is_left, is_right, is_end, is_more, is_map, is_again, IsViablePrefix, no_token, of_first, of_second, of_left, of_right, of_item, of_more, of_map, of_again}
 use Rattle.cw_written.specs.Alike.{IsAlike}
 use Rattle.cw_written.specs.Written.{stmt as written_stmt}
 use Rattle.cw_written.proofs.Rules.{form_alike}
-use Rattle.cw_written.proofs.Fronts.{label, MayHaveLabels, in_labels, behind_labels}
+use Rattle.cw_written.proofs.Alike.{alike_behind, alike_mapped, alike_through}
+use Rattle.cw_written.proofs.Fronts.{label, MayHaveLabels, in_labels, behind_labels, led_by_labels, name_front}
 
-abbrev pub repeated : Bool → Grammar a_stmt
+abbrev repeated : Bool → Grammar a_stmt
 repeated p = many label · unlabelled p ⇒ (λ x. stmt_tree x.0 x.1)
 
 -- a label, and a statement with the labels before it
@@ -50,7 +52,7 @@ labelled_more n p a c v t x y d e k =
 bare : (n : ℕ) (p : Bool) (w : List Item) (f : RawForm) → Derives n a_form (unlabelled p) w f → Derives n a_stmt (repeated p) w (stmt_tree [] f)
 bare n p w f d = is_map {f = λ x. stmt_tree x.0 x.1} (is_then is_end d)
 
-pub stmt_there : {n : ℕ} (p : Bool) {w : List Item} {x : RawStmt} → Derives n a_stmt (again (labelled p)) w x → Derives n a_stmt (repeated p) w x
+stmt_there : {n : ℕ} (p : Bool) {w : List Item} {x : RawStmt} → Derives n a_stmt (again (labelled p)) w x → Derives n a_stmt (repeated p) w x
 unfolding again_rule stmt unlabelled
 stmt_there {n = n} p (is_again (is_left (is_map (is_then {u = a} {x = x} d (is_left (is_map (is_map (is_then {u = c} {v = v} {x = t} {y = y} e k)))))))) = labelled_more n p a c v t x y d e (stmt_there p k)
 stmt_there {n = n} p (is_again (is_left (is_map (is_then {u = a} {v = v} d (is_right (is_map e)))))) = bare n p (a ++ v) _ (is_left (is_map (is_then d (is_map e))))
@@ -73,7 +75,7 @@ stmt_labels n p {v = v} {f = f} (is_more {v = w} {xs = ns} (is_map (is_then {u =
     let parts : a ++ (c ++ (w ++ v)) ≡ ((a ++ c) ++ w) ++ v = sym (append_assoc (a ++ c) w v ∙ append_assoc a c (w ++ v)) in
     subst W parts (is_again (is_left (is_map (is_then d (is_left (is_map (is_map (is_then e (stmt_labels n p ls k)))))))))
 
-pub stmt_back : (n : ℕ) (p : Bool) {w : List Item} {x : RawStmt} → Derives n a_stmt (repeated p) w x → Derives n a_stmt (again (labelled p)) w x
+stmt_back : (n : ℕ) (p : Bool) {w : List Item} {x : RawStmt} → Derives n a_stmt (repeated p) w x → Derives n a_stmt (again (labelled p)) w x
 stmt_back n p (is_map (is_then d e)) = stmt_labels n p d e
 
 -- ---- fronts
@@ -91,7 +93,7 @@ labelled_front n p a c t x {v = v} d e (of_map (of_first q)) = subst (λ (z : Li
 labelled_front n p a c t x d e (of_map (of_second {u = l} {v = m} ls q)) =
     subst (λ (z : List Item). IsViablePrefix n a_stmt (repeated p) z) (append_assoc (a ++ c) l m ∙ append_assoc a c (l ++ m)) (of_map {f = λ x. stmt_tree x.0 x.1} (of_second (is_more (is_map (is_then d e)) ls) q))
 
-pub front_there : {n : ℕ} (p : Bool) {w : List Item} → IsViablePrefix n a_stmt (again (labelled p)) w → IsViablePrefix n a_stmt (repeated p) w
+front_there : {n : ℕ} (p : Bool) {w : List Item} → IsViablePrefix n a_stmt (again (labelled p)) w → IsViablePrefix n a_stmt (repeated p) w
 unfolding again_rule stmt unlabelled
 front_there p no_token = no_token
 front_there p (of_again no_token) = no_token
@@ -115,14 +117,16 @@ front_there {n = n} p (of_again (of_right (of_right (of_left (of_map q))))) = ba
 front_there p (of_again (of_right (of_right (of_right no_token)))) = no_token
 front_there {n = n} p (of_again (of_right (of_right (of_right (of_map q))))) = bare_form n p (of_right (of_right (of_right (of_map q))))
 
+-- the rest of a statement without labels, behind a name
+behind_name : {n : ℕ} {p : Bool} {v : List Item} → IsViablePrefix n (a_from a_name a_form) (simple_behind ⇒ (λ f x. form_tree.Simple (f x))) v
+    → IsViablePrefix n (a_from a_name a_stmt) (symbol symbols.Colon *> again (labelled p) ⇒ (λ s x. with_label x s) ∣ simple_behind ⇒ (λ f x. simple_stmt (f x))) v
+behind_name no_token = no_token
+behind_name (of_map q) = of_right (of_map q)
+
 front_bare : (n : ℕ) (p : Bool) {w : List Item} → IsViablePrefix n a_form (unlabelled p) w → IsViablePrefix n a_stmt (again (labelled p)) w
 unfolding again_rule stmt unlabelled
 front_bare n p no_token = no_token
-front_bare n p (of_left no_token) = no_token
-front_bare n p (of_left (of_map no_token)) = no_token
-front_bare n p (of_left (of_map (of_first q))) = of_again (of_left (of_map (of_first q)))
-front_bare n p (of_left (of_map (of_second d no_token))) = of_again (of_left (of_map (of_second d no_token)))
-front_bare n p (of_left (of_map (of_second d (of_map q)))) = of_again (of_left (of_map (of_second d (of_right (of_map q)))))
+front_bare n p (of_left q) = of_again (of_left (name_front q (λ v r. behind_name {p = p} r)))
 front_bare n p (of_right no_token) = no_token
 front_bare n p (of_right (of_left no_token)) = no_token
 front_bare n p (of_right (of_left (of_map q))) = of_again (of_right (of_left (of_map q)))
@@ -134,14 +138,9 @@ front_bare n p (of_right (of_right (of_right (of_map q)))) = of_again (of_right 
 
 may_have_labels : (n : ℕ) (p : Bool) → MayHaveLabels n (λ (w : List Item). IsViablePrefix n a_stmt (again (labelled p)) w)
 unfolding again_rule stmt
-may_have_labels n p = record {
-  nothing = no_token;
-  in_name = λ q. of_again (of_left (of_map (of_first q)));
-  in_colon = λ d e. of_again (of_left (of_map (of_second d (of_left (of_map (of_map (of_first e)))))));
-  labelled = λ d e k. of_again (of_left (of_map (of_second d (of_left (of_map (of_map (of_second e k)))))));
-}
+may_have_labels n p = led_by_labels (labelled p) (λ w q. of_again (of_left q))
 
-pub front_back : (n : ℕ) (p : Bool) {w : List Item} → IsViablePrefix n a_stmt (repeated p) w → IsViablePrefix n a_stmt (again (labelled p)) w
+front_back : (n : ℕ) (p : Bool) {w : List Item} → IsViablePrefix n a_stmt (repeated p) w → IsViablePrefix n a_stmt (again (labelled p)) w
 front_back n p no_token = no_token
 front_back n p (of_map no_token) = no_token
 front_back n p (of_map (of_first q)) = in_labels (may_have_labels n p) q
@@ -149,28 +148,10 @@ front_back n p (of_map (of_second ls q)) = behind_labels (may_have_labels n p) l
 
 -- ---- the statement's form with its alternatives written out
 
-then_alike : (n : ℕ) (p : Bool) {w : List Item} {x : RawStmt} → Derives n a_stmt (written_stmt p) w x → Derives n a_stmt (repeated p) w x
-then_alike n p (is_map (is_then {v = v} {y = y} d e)) = is_map {f = λ x. stmt_tree x.0 x.1} (is_then d ((form_alike p).derives n v y e))
-
-alike_then : (n : ℕ) (p : Bool) {w : List Item} {x : RawStmt} → Derives n a_stmt (repeated p) w x → Derives n a_stmt (written_stmt p) w x
-alike_then n p (is_map (is_then {v = v} {y = y} d e)) = is_map {f = λ x. stmt_tree x.0 x.1} (is_then d ((form_alike p).derived n v y e))
-
-then_front : (n : ℕ) (p : Bool) {w : List Item} → IsViablePrefix n a_stmt (written_stmt p) w → IsViablePrefix n a_stmt (repeated p) w
-then_front n p no_token = no_token
-then_front n p (of_map no_token) = no_token
-then_front n p (of_map (of_first q)) = of_map {f = λ x. stmt_tree x.0 x.1} (of_first q)
-then_front n p (of_map (of_second {v = v} d q)) = of_map {f = λ x. stmt_tree x.0 x.1} (of_second d ((form_alike p).front n v q))
-
-front_then : (n : ℕ) (p : Bool) {w : List Item} → IsViablePrefix n a_stmt (repeated p) w → IsViablePrefix n a_stmt (written_stmt p) w
-front_then n p no_token = no_token
-front_then n p (of_map no_token) = no_token
-front_then n p (of_map (of_first q)) = of_map {f = λ x. stmt_tree x.0 x.1} (of_first q)
-front_then n p (of_map (of_second {v = v} d q)) = of_map {f = λ x. stmt_tree x.0 x.1} (of_second d ((form_alike p).is_front n v q))
-
 pub stmt_alike : (p : Bool) → IsAlike a_stmt (written_stmt p) (again (labelled p))
-stmt_alike p = record {
-  derives = λ n u x d. stmt_back n p (then_alike n p d);
-  derived = λ n u x d. alike_then n p (stmt_there p d);
-  front = λ n u q. front_back n p (then_front n p q);
-  is_front = λ n u q. front_then n p (front_there p q);
-}
+stmt_alike p = alike_through (alike_mapped (alike_behind (form_alike p))) (record {
+  derives = λ n u x d. stmt_back n p d;
+  derived = λ n u x d. stmt_there p d;
+  front = λ n u q. front_back n p q;
+  is_front = λ n u q. front_there p q;
+})

@@ -1,5 +1,6 @@
 mod Chains
 mod Expand
+mod Alike
 pub mod Rules
 pub mod Fronts
 pub mod Labels

@@ -1,21 +1,13 @@
 //! What is so of built units, and of orders that have code.
 ghost use Rattle.std.specs.Prelude.{◌≡◌, ◌≢◌, ℕ, ◌<◌, ◌≤◌, List, [], All, IsTrue, Some, slice_get};
-ghost use Rattle.cw_unit.specs.declared.unit.Unit.{Unit as SourceUnit};
-ghost use Rattle.cw_unit.specs.declared.unit.Def.{Def};
-ghost use Rattle.cw_unit.specs.declared.layout.Limits.{Limits};
-ghost use Rattle.cw_unit.specs.declared.layout.Map.{Map};
-ghost use Rattle.cw_unit.specs.HasLayout.{HasLayout};
+ghost use Rattle.cw_unit.specs.{declared.unit.Unit.Unit as SourceUnit, declared.unit.Def.Def, declared.layout.Limits.Limits, declared.layout.Map.Map, HasLayout.HasLayout};
 ghost use Rattle.cw_unit.specs.Program.{program_at};
 ghost use Rattle.cw_safety.specs.WellFormed.{WellFormed};
-ghost use Rattle.cw_order.specs.declared.order.Orders.{Orders};
-ghost use Rattle.cw_order.specs.HasCode.{HasCode};
-ghost use Rattle.cw_gen_unit.specs.BuiltUnits.{AllBuilt, Suits};
-ghost use Rattle.cw_gen_unit.specs.ReferenceUnits.{unit_orders, orders_program};
+ghost use Rattle.cw_order.specs.{declared.order.Orders.Orders, HasCode.HasCode};
+ghost use Rattle.cw_gen_unit.specs.{BuiltUnits.AllBuilt, BuiltUnits.Suits, ReferenceUnits.unit_orders, ReferenceUnits.orders_program};
 ghost use Rattle.cw_follow.specs.Placing.{Codable};
 ghost use Rattle.cw_comm.specs.Clashes.{Agree};
-ghost use Rattle.cw_built.specs.Shared.{faces_of, Defines};
-ghost use Rattle.cw_built.specs.Built.{is_built};
-ghost use Rattle.cw_built.specs.Coded.{have_code};
+ghost use Rattle.cw_built.specs.{Shared.faces_of, Shared.Defines, Built.is_built, Coded.have_code};
 
 use cw_carry::laws::runs::{order_beginnings, order_spans, order_words, tested};
 

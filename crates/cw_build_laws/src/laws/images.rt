@@ -1,19 +1,14 @@
 //! Laws of units that can be compiled.
 ghost use Rattle.std.specs.Prelude.{◌≡◌, ◌≢◌, ◌↔◌, ◌<◌, ◌≤◌, ℕ, List, [], length, map, All};
-ghost use Rattle.cw_i86.specs.State.{State};
-ghost use Rattle.cw_i86.specs.MachineRun.{IsStart};
-ghost use Rattle.cw_unit.specs.declared.unit.Unit.{Unit as SourceUnit};
-ghost use Rattle.cw_unit.specs.declared.layout.Limits.{Limits};
-ghost use Rattle.cw_unit.specs.Allocation.{storage_map};
-ghost use Rattle.cw_unit.specs.ValidStorage.{ValidStorageMap};
+ghost use Rattle.cw_i86.specs.{State.State, MachineRun.IsStart};
+ghost use Rattle.cw_unit.specs.{declared.unit.Unit.Unit as SourceUnit, declared.layout.Limits.Limits, Allocation.storage_map, ValidStorage.ValidStorageMap};
 ghost use Rattle.cw_place.specs.Placement.{IsLimits};
 ghost use Rattle.cw_sim.specs.Preservation.{IsLoaded};
 ghost use Rattle.cw_view.specs.ObjectFormat.{IsObject};
 ghost use Rattle.cw_link.specs.LinkedImage.{linked_image};
 ghost use Rattle.cw_object.specs.ObjectContents.{contents_in};
 ghost use Rattle.cw_obj.specs.Migration.{IsMigrated};
-ghost use Rattle.cw_build.specs.Compiled.{IsCompilable, object_of};
-ghost use Rattle.cw_build.specs.Linking.{AreLinked, Links, image_of};
+ghost use Rattle.cw_build.specs.{Compiled.IsCompilable, Compiled.object_of, Linking.AreLinked, Linking.Links, Linking.image_of};
 
 use crate::laws::built::{built_units, codable};
 use cw_build::laws::linked_units;

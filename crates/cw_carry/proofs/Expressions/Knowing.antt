@@ -79,6 +79,12 @@ module _ (c : Compiled) (t : Moment c) where
       operand : (a : Expr) (x : ℤ) → (value_of sc a).known (value_of sc a).operand ≡ Some x → (value_of sc a).known (operand_scale t.unit a) ≡ Some x
       operand a x e = subst (λ g. (value_of sc a).known g ≡ Some x) (operand-is sc a) e
 
+      both_operands : (a b : Expr) → IsTrue (whole (built_of c t a) (built_of c t a).operand && whole (built_of c t b) (built_of c t b).operand)
+          → IsTrue (whole (built_of c t a) (operand_scale t.unit a)) × IsTrue (whole (built_of c t b) (operand_scale t.unit b))
+      both_operands a b built =
+          let bs = both (whole (built_of c t a) (built_of c t a).operand) (whole (built_of c t b) (built_of c t b).operand) built in
+          (operand_built c t a bs.0, operand_built c t b bs.1)
+
       computed : (e : Expr) (x : Expr-F Arg Cond Expr Spot Ref) (f levels : ℕ) (k : Work) (w : Words) (z : ℤ) → out-Expr e ≡ x → expression_size_layer x ≤ n → IsTrue (nat_le f 15) → IsTrue ((built_value_layer t.unit (has_words c t) x).at f levels)
           → known_layer sc x f ≡ Some z → Comes c t (Eval e f line k) k w (put z w)
       computed e (layer.Num m) f levels k w z is le small b known =
@@ -101,7 +107,7 @@ module _ (c : Compiled) (t : Moment c) where
           (one_comes a g (Extract d b') behind w x.0 y.0 (let lt : expression_size a < n = omega (arith, le) in lt) (operand_built c t a b) (operand a x.0 x.1) (bits_put c.limits.area w d b' x.0 y.0 x.2))
           (done (Rescale 0 f) k (put y.0 w) (put z w) (rescaled_put c.limits.area w 0 f y.0 z y.2)))
       computed e (layer.Logic op a a') f levels k w z is le small b known =
-          let bs = both (whole (built_of c t a) (built_of c t a).operand) (whole (built_of c t a') (built_of c t a').operand) b in
+          let (ba, bb) = both_operands a a' b in
           let v = of_one (known_rescaled 0 f) _ z known in
           let xy = of_two (known_logic op) ((value_of sc a).known (value_of sc a).operand) ((value_of sc a').known (value_of sc a').operand) v.0 v.1 in
           let g = operand_scale t.unit a in
@@ -109,7 +115,7 @@ module _ (c : Compiled) (t : Moment c) where
           let behind = Do (Rescale 0 f) line k in
           step_then (evaluates c t e (layer.Logic op a a') f line k w is) refl refl
           (then_come (Eval a g line (Eval a' h line (Do (Combine op) line behind))) behind k w (put v.0 w) (put z w) refl
-          (two_come a a' g h (Combine op) behind w xy.0 xy.1 v.0 (let lt : expression_size a < n = omega (arith, le) in lt) (let lt : expression_size a' < n = omega (arith, le) in lt) (operand_built c t a bs.0) (operand_built c t a' bs.1)
+          (two_come a a' g h (Combine op) behind w xy.0 xy.1 v.0 (let lt : expression_size a < n = omega (arith, le) in lt) (let lt : expression_size a' < n = omega (arith, le) in lt) ba bb
           (operand a xy.0 xy.2) (operand a' xy.1 xy.3) (combined_put c.limits.area w op xy.0 xy.1 v.0 xy.4))
           (done (Rescale 0 f) k (put v.0 w) (put z w) (rescaled_put c.limits.area w 0 f v.0 z v.2)))
       computed e (layer.Sum a a') f levels k w z is le small b known =
@@ -127,9 +133,7 @@ module _ (c : Compiled) (t : Moment c) where
           step_then (evaluates c t e (layer.Minus a) f line k w is) refl refl
           (one_comes a f Negate k w x.0 z (let lt : expression_size a < n = omega (arith, le) in lt) b x.1 (negative_put c.limits.area w x.0 z x.2))
       computed e (layer.Times a a') f levels k w z is le small b known =
-          let bs = both (whole (built_of c t a) (built_of c t a).operand) (whole (built_of c t a') (built_of c t a').operand) b in
-          let ba = operand_built c t a bs.0 in
-          let bb = operand_built c t a' bs.1 in
+          let (ba, bb) = both_operands a a' b in
           let g = operand_scale t.unit a in
           let h = operand_scale t.unit a' in
           let s = pos f -ℤ pos ((value_of sc a).operand + (value_of sc a').operand) in
@@ -140,9 +144,7 @@ module _ (c : Compiled) (t : Moment c) where
           (two_come a a' g h (Multiply (pos f -ℤ pos (g + h))) k w xy.0 xy.1 z (let lt : expression_size a < n = omega (arith, le) in lt) (let lt : expression_size a' < n = omega (arith, le) in lt) ba bb (operand a xy.0 xy.2) (operand a' xy.1 xy.3)
           (ap (λ p. perform c.limits.area (Multiply p) (put xy.1 (put xy.0 w))) (sym whole_power) ∙ product_put c.limits.area w (narrow s) xy.0 xy.1 z xy.4))
       computed e (layer.Over a a') f levels k w z is le small b known =
-          let bs = both (whole (built_of c t a) (built_of c t a).operand) (whole (built_of c t a') (built_of c t a').operand) b in
-          let ba = operand_built c t a bs.0 in
-          let bb = operand_built c t a' bs.1 in
+          let (ba, bb) = both_operands a a' b in
           let g = operand_scale t.unit a in
           let h = operand_scale t.unit a' in
           let s = pos (f + (value_of sc a').operand) -ℤ pos (value_of sc a).operand in

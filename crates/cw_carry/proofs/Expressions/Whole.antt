@@ -363,6 +363,9 @@ module _ (c : Compiled) where
       pub sound : AllSound x
       pub words_fit : StateFits t
 
+    matching : {x : Configuration} {t : OrderState} → Belong c x t → AllSound x → StateFits t → Matches x t
+    matching belongs sound fits = record { belongs = belongs; sound = sound; words_fit = fits }
+
     module _ (keeps : (t : OrderState) → StateFits t → StateFits ((orders c).step t)) where
       path-fits : (Allowed : Observation × List Begun → Type 0) (n : ℕ) (t v : OrderState) → Path Allowed (B c) n t v → StateFits t → StateFits v
       path-fits Allowed n t v (stay e z) fits = subst StateFits e fits
@@ -414,37 +417,31 @@ module _ (c : Compiled) where
       sound-behind (only_step e none) sound = λ n. subst (λ z. SoundAt (Rattle.cw_unit.specs.Step.steps (source c) n z)) e (sound (suc n))
       sound-behind (step_then e none same way) sound = sound-behind way (λ n. subst (λ z. SoundAt (Rattle.cw_unit.specs.Step.steps (source c) n z)) e (sound (suc n)))
 
+      followed : (x : Configuration) (t : OrderState) → Matches x t → GoesNoting c x t → FollowedNoting (A c) (orders c) begins (starts (target c)) Matches (rank c) x t
+      followed x t match goes = record {
+        spent = goes.spent;
+        reached = goes.reached;
+        notes = goes.notes;
+        within = goes.within;
+        matched = matching goes.belongs (λ n. match.sound (suc n)) (notes-fit x goes.spent t goes.reached goes.notes match.words_fit);
+        progress = goes.progress;
+      }
+
+      leapt : {x : Configuration} {t : OrderState} → Matches x t → Leaps c x t → LeaptNoting (A c) (orders c) begins (starts (target c)) Matches (rank c) x t
+      leapt {t = t} match leaps = record {
+        to = leaps.to;
+        way = leaps.way;
+        spent = leaps.spent;
+        reached = leaps.reached;
+        path = leaps.path;
+        within = leaps.within;
+        matched = matching leaps.belongs (sound-behind leaps.way match.sound) (path-fits _ leaps.spent t leaps.reached leaps.path match.words_fit);
+        progress = leaps.progress;
+      }
+
       follows : (x : Configuration) (t : OrderState) → Matches x t → is_running ((A c).shown x) ≡ true → FollowedNoting (A c) (orders c) begins (starts (target c)) Matches (rank c) x t ⊎ LeaptNoting (A c) (orders c) begins (starts (target c)) Matches (rank c) x t
       follows x t match on =
-          ⊎_elim
-          (λ (goes : GoesNoting c x t).
-          inl (record {
-            spent = goes.spent;
-            reached = goes.reached;
-            notes = goes.notes;
-            within = goes.within;
-            matched = record {
-              belongs = goes.belongs;
-              sound = λ n. match.sound (suc n);
-              words_fit = notes-fit x goes.spent t goes.reached goes.notes match.words_fit;
-            };
-            progress = goes.progress;
-          }))
-          (λ (leaps : Leaps c x t).
-          inr (record {
-            to = leaps.to;
-            way = leaps.way;
-            spent = leaps.spent;
-            reached = leaps.reached;
-            path = leaps.path;
-            within = leaps.within;
-            matched = record {
-              belongs = leaps.belongs;
-              sound = sound-behind leaps.way match.sound;
-              words_fit = path-fits _ leaps.spent t leaps.reached leaps.path match.words_fit;
-            };
-            progress = leaps.progress;
-          }))
+          ⊎_elim (λ (goes : GoesNoting c x t). inl (followed x t match goes)) (λ (leaps : Leaps c x t). inr (leapt match leaps))
           (going_on x t match.belongs on match.words_fit match.sound)
 
       simulation : SimulationNoting is_running (A c) (orders c) begins (starts (target c)) Matches (rank c)

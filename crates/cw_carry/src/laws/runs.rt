@@ -1,21 +1,11 @@
 //! The orders of a program do what its source means.
 ghost use Rattle.std.specs.Prelude.{◌<◌, ℕ, List, [], All, IsTrue};
-ghost use Rattle.cw_track.specs.Tracking.{Tracks};
-ghost use Rattle.cw_track.specs.Watching.{watched};
-ghost use Rattle.cw_unit.specs.declared.unit.Unit.{Unit as SourceUnit};
-ghost use Rattle.cw_unit.specs.declared.layout.Limits.{Limits};
-ghost use Rattle.cw_unit.specs.declared.layout.Map.{Map};
-ghost use Rattle.cw_unit.specs.Program.{program_at};
-ghost use Rattle.cw_unit.specs.Behaviour.{is_running, initial_configuration};
-ghost use Rattle.cw_unit.specs.Begun.{begins};
-ghost use Rattle.cw_order.specs.OrderMachine.{order_machine};
-ghost use Rattle.cw_order.specs.Starting.{starts};
-ghost use Rattle.cw_order.specs.FittingWords.{ConstantsFit};
-ghost use Rattle.cw_order.specs.Spans.{SpansInside};
-ghost use Rattle.cw_order.specs.BeginsStatement.{StatementsBegin};
+ghost use Rattle.cw_track.specs.{Tracking.Tracks, Watching.watched};
+ghost use Rattle.cw_unit.specs.{declared.unit.Unit.Unit as SourceUnit, declared.layout.Limits.Limits, declared.layout.Map.Map, Program.program_at, Behaviour.is_running};
+ghost use Rattle.cw_unit.specs.{Behaviour.initial_configuration, Begun.begins};
+ghost use Rattle.cw_order.specs.{OrderMachine.order_machine, Starting.starts, FittingWords.ConstantsFit, Spans.SpansInside, BeginsStatement.StatementsBegin};
 ghost use Rattle.cw_safety.specs.WellFormed.{WellFormed};
-ghost use Rattle.cw_gen_unit.specs.BuiltUnits.{AllBuilt, Suits, are_built};
-ghost use Rattle.cw_gen_unit.specs.ReferenceUnits.{meaning, orders_program, first_order};
+ghost use Rattle.cw_gen_unit.specs.{BuiltUnits.AllBuilt, BuiltUnits.Suits, BuiltUnits.are_built, ReferenceUnits.meaning, ReferenceUnits.orders_program, ReferenceUnits.first_order};
 
 use cw_order::laws::words;
 use cw_safety::{coherent, never_stuck, words_within_need};

@@ -1,15 +1,9 @@
 //! Laws of units that are linked: each is a function without a body, whose contract is the law.
 ghost use Rattle.std.specs.Prelude.{◌≢◌, ◌≤◌, ℕ, List, [], length, All, IsTrue};
-ghost use Rattle.cw_unit.specs.declared.unit.Unit.{Unit as SourceUnit};
-ghost use Rattle.cw_unit.specs.declared.layout.Limits.{Limits};
-ghost use Rattle.cw_unit.specs.Program.{program_of};
-ghost use Rattle.cw_unit.specs.Stop.{Stopped, DepthReached};
-ghost use Rattle.cw_unit.specs.Behaviour.{observed};
+ghost use Rattle.cw_unit.specs.{declared.unit.Unit.Unit as SourceUnit, declared.layout.Limits.Limits, Program.program_of, Stop.Stopped, Stop.DepthReached, Behaviour.observed};
 ghost use Rattle.cw_comm.specs.Clashes.{Agree};
-ghost use Rattle.cw_built.specs.Built.{is_built};
-ghost use Rattle.cw_built.specs.Shared.{faces_of};
-ghost use Rattle.cw_depth.specs.declared.depth_report.Report.TheVariants.{Bound};
-ghost use Rattle.cw_depth.specs.Told.{IsReport};
+ghost use Rattle.cw_built.specs.{Built.is_built, Shared.faces_of};
+ghost use Rattle.cw_depth.specs.{declared.depth_report.Report.TheVariants.Bound, Told.IsReport};
 ghost use Rattle.cw_deepest.specs.Linked.UnitFits.{UnitFits};
 
 /// Where units are built and agree, and the calls of each fit by what its descriptors say: if their depth report tells a longest chain, no run at a

@@ -35,14 +35,14 @@ use Rattle.cw_show.specs.Spelling.{word, symbol}
 use Rattle.cw_show.specs.Canonical.{Tokens, name, number, literal, string, octal_tokens, add_symbol, multiply_symbol, compare_symbol, sign_tokens, type_tokens, between, operation, joined, comma, bracketed, indexed}
 use Rattle.cw_show.specs.ExpressionTokens.{bits_tokens, expr_step, primary_step, ref_step, cand_step, cmp_step, cond_step, differ_step, mask_step, prim_step, sum_step, term_step, union_step, expr_tokens, primary_tokens, ref_tokens, cand_tokens, cmp_tokens, cond_tokens, differ_tokens, mask_tokens, prim_tokens, sum_tokens, term_tokens, union_tokens}
 use Rattle.cw_tokens.proofs.Passes.{Pass, expr_layered, primary_layered, ref_layered, expr_rolled, primary_rolled, ref_rolled, cand_rolled, cmp_rolled, cond_rolled, differ_rolled, mask_rolled, prim_rolled, sum_rolled, term_rolled, union_rolled}
-use Rattle.cw_read_back.specs.Expressions.Unplaced.{unplaced_sign, unplaced_factor, unplaced_compare, unplaced_bits, unplaced_all, unplaced_expr_step, unplaced_primary_step, unplaced_ref_step, unplaced_cand_step, unplaced_cmp_step, unplaced_cond_step, unplaced_differ_step, unplaced_mask_step, unplaced_prim_step, unplaced_sum_step, unplaced_term_step, unplaced_union_step, unplaced_expr, unplaced_primary, unplaced_ref, unplaced_cand, unplaced_cmp, unplaced_cond, unplaced_differ, unplaced_mask, unplaced_prim, unplaced_sum, unplaced_term, unplaced_union}
+use Rattle.cw_read_back.specs.Expressions.Unplaced.{unplaced_sign, unplaced_factor, unplaced_compare, unplaced_bits, unplaced_all, unplaced_expr_step, unplaced_primary_step, unplaced_ref_step, unplaced_cand_step, unplaced_cmp_step, unplaced_cond_step, unplaced_differ_step, unplaced_mask_step, unplaced_prim_step, unplaced_sum_step, unplaced_term_step, unplaced_union_step, unplaced_expr, unplaced_primary, unplaced_ref, unplaced_cmp, unplaced_differ, unplaced_mask, unplaced_prim, unplaced_sum, unplaced_term, unplaced_union}
 
 -- what is made of each part: its canonical tokens, and the part with all positions as one
 
 abbrev written : Pass Tokens
 written = expression_steps expr_step primary_step ref_step cand_step cmp_step cond_step differ_step mask_step prim_step sum_step term_step union_step
 
-abbrev bare : ExpressionSteps RawExpr RawPrimary RawRef RawCand RawCmp RawCond RawDiffer RawMask RawPrim RawSum RawTerm RawUnion
+abbrev pub bare : ExpressionSteps RawExpr RawPrimary RawRef RawCand RawCmp RawCond RawDiffer RawMask RawPrim RawSum RawTerm RawUnion
 bare = expression_steps unplaced_expr_step unplaced_primary_step unplaced_ref_step unplaced_cand_step unplaced_cmp_step unplaced_cond_step unplaced_differ_step unplaced_mask_step unplaced_prim_step unplaced_sum_step unplaced_term_step unplaced_union_step
 
 -- ---- the tokens of a tree
@@ -97,17 +97,11 @@ bare-tokens at x = of_reference-Bare written at x
 abbrev pub expr_bare : ExprLayer → RawExpr
 expr_bare = expr_layered bare
 
-pub expr_unplaced : (l : ExprLayer) → unplaced_expr (roll-RawExpr l) ≡ expr_bare l
-expr_unplaced = expr_rolled bare
-
 pub same_expr : (k l : ExprLayer) {d x : RawExpr} → roll-RawExpr k ≡ d → roll-RawExpr l ≡ x → expr_bare k ≡ expr_bare l → unplaced_expr d ≡ unplaced_expr x
 same_expr k l p q e = ap unplaced_expr (sym p) ∙ expr_rolled bare k ∙ e ∙ sym (expr_rolled bare l) ∙ ap unplaced_expr q
 
 abbrev pub primary_bare : PrimaryLayer → RawPrimary
 primary_bare = primary_layered bare
-
-pub primary_unplaced : (l : PrimaryLayer) → unplaced_primary (roll-RawPrimary l) ≡ primary_bare l
-primary_unplaced = primary_rolled bare
 
 pub same_primary : (k l : PrimaryLayer) {d x : RawPrimary} → roll-RawPrimary k ≡ d → roll-RawPrimary l ≡ x → primary_bare k ≡ primary_bare l → unplaced_primary d ≡ unplaced_primary x
 same_primary k l p q e = ap unplaced_primary (sym p) ∙ primary_rolled bare k ∙ e ∙ sym (primary_rolled bare l) ∙ ap unplaced_primary q
@@ -123,14 +117,8 @@ same_ref k l p q e = ap unplaced_ref (sym p) ∙ ref_rolled bare k ∙ e ∙ sym
 pub cand-tokens : (xs : List RawCmp) (ops : List Position) → cand_tokens (roll-RawCand (record { operands = xs; operators = ops })) ≡ between (word words.And) (map cmp_tokens xs)
 cand-tokens xs ops = cand_rolled written (record { operands = xs; operators = ops })
 
-pub cand-bare : (xs : List RawCmp) (ops : List Position) → unplaced_cand (roll-RawCand (record { operands = xs; operators = ops })) ≡ roll-RawCand (record { operands = map unplaced_cmp xs; operators = unplaced_all ops })
-cand-bare xs ops = cand_rolled bare (record { operands = xs; operators = ops })
-
 pub cond-tokens : (xs : List RawCand) (ops : List Position) → cond_tokens (roll-RawCond (record { operands = xs; operators = ops })) ≡ between (word words.Or) (map cand_tokens xs)
 cond-tokens xs ops = cond_rolled written (record { operands = xs; operators = ops })
-
-pub cond-bare : (xs : List RawCand) (ops : List Position) → unplaced_cond (roll-RawCond (record { operands = xs; operators = ops })) ≡ roll-RawCond (record { operands = map unplaced_cand xs; operators = unplaced_all ops })
-cond-bare xs ops = cond_rolled bare (record { operands = xs; operators = ops })
 
 pub differ-tokens : (xs : List RawUnion) (ops : List Position) → differ_tokens (roll-RawDiffer (record { operands = xs; operators = ops })) ≡ between (word words.Differ) (map union_tokens xs)
 differ-tokens xs ops = differ_rolled written (record { operands = xs; operators = ops })

@@ -46,7 +46,8 @@ use Rattle.cw_read_back.proofs.Expressions.Leaves.{string_back, literal_back}
 use Rattle.cw_read_back.proofs.Expressions.Reading.{Reads, Back, Each, IsSome, word_is, symbol_is, ◌&◌, left, right, mapped, opened, opened_word, second, first, respelled, nothing, absent_read, present_read, no_more_read, more_read, between_read, joined_read}
 use Rattle.cw_read_back.proofs.Expressions.Simple.{number_tokens, plain_sign, plain_factor, plain_compare, literal_read, string_read}
 use Rattle.cw_read_back.proofs.Expressions.Stays.{bracket_differ_kept, bracket_mask_kept, bracket_prim_kept, bracket_primary_kept, bracket_term_kept, bracket_union_kept, differ_kept, mask_kept, prim_kept, sum_kept, term_kept, union_kept, stays, sum_stays}
-use Rattle.cw_read_back.proofs.Expressions.ExpressionLayers.{same_expr, same_primary, same_ref, mask_parts, union_parts, differ_parts, term_parts, choice-tokens, sum_expr-tokens, number-tokens, octal-tokens, literal-tokens, string-tokens, location-tokens, forced-tokens, bracket-tokens, referred-tokens, call-tokens, named-tokens, one_index-tokens, two_indexes-tokens, bare-tokens, cand-tokens, cand-bare, cond-tokens, cond-bare, differ-tokens, differ-bare, mask-tokens, mask-bare, union-tokens, union-bare, cmp-tokens, cmp-bare, prim-tokens, prim-bare, sum-tokens, sum-bare, term-tokens, term-bare}
+use Rattle.cw_read_back.proofs.Expressions.ExpressionLayers.{bare, same_expr, same_primary, same_ref, mask_parts, union_parts, differ_parts, term_parts, choice-tokens, sum_expr-tokens, number-tokens, octal-tokens, literal-tokens, string-tokens, location-tokens, forced-tokens, bracket-tokens, referred-tokens, call-tokens, named-tokens, one_index-tokens, two_indexes-tokens, bare-tokens, cand-tokens, cond-tokens, differ-tokens, differ-bare, mask-tokens, mask-bare, union-tokens, union-bare, cmp-tokens, cmp-bare, prim-tokens, prim-bare, sum-tokens, sum-bare, term-tokens, term-bare}
+use Rattle.cw_tokens.proofs.Passes.{cand_rolled, cond_rolled}
 
 abbrev Expr : ℕ → RawExpr → Type 0
 Expr n x = Back n an_expr expr expr_tokens unplaced_expr x
@@ -265,11 +266,11 @@ cond_parts x = ((out-RawCond x).operands, (out-RawCond x).operators)
 
 pub cand_read : {n : ℕ} (x : RawCmp) (rest : List (Position × RawCmp)) → Back n a_cmp cmp cmp_tokens unplaced_cmp x → Words n a_cmp cmp cmp_tokens unplaced_cmp rest → Back n a_cand cand cand_tokens unplaced_cand (cand_tree (extended (x ∷ [], []) rest))
 unfolding cand
-cand_read x rest h k = worded_operation a_cmp a_cand cmp_tokens unplaced_cmp cand_tokens unplaced_cand words.And cand_tree cand_parts (λ z. None) refl cand-tokens cand-bare x rest h (λ d e. refl) k
+cand_read x rest h k = worded_operation a_cmp a_cand cmp_tokens unplaced_cmp cand_tokens unplaced_cand words.And cand_tree cand_parts (λ z. None) refl cand-tokens (λ xs ops. cand_rolled bare (record { operands = xs; operators = ops })) x rest h (λ d e. refl) k
 
 pub cond_read : {n : ℕ} (x : RawCand) (rest : List (Position × RawCand)) → Back n a_cand cand cand_tokens unplaced_cand x → Words n a_cand cand cand_tokens unplaced_cand rest → Back n a_cond condition cond_tokens unplaced_cond (cond_tree (extended (x ∷ [], []) rest))
 unfolding condition
-cond_read x rest h k = worded_operation a_cand a_cond cand_tokens unplaced_cand cond_tokens unplaced_cond words.Or cond_tree cond_parts (λ z. None) refl cond-tokens cond-bare x rest h (λ d e. refl) k
+cond_read x rest h k = worded_operation a_cand a_cond cand_tokens unplaced_cand cond_tokens unplaced_cond words.Or cond_tree cond_parts (λ z. None) refl cond-tokens (λ xs ops. cond_rolled bare (record { operands = xs; operators = ops })) x rest h (λ d e. refl) k
 
 -- ---- terms, sums and comparisons
 

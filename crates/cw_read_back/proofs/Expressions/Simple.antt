@@ -75,29 +75,26 @@ unfolding int
 int_octal_read x h = right (mapped h (λ z e. ap (λ v. int_tree.Octal v) e))
 
 pub sign_read : {n : ℕ} (x : RawSign) → Back n a_sign sign plain_sign unplaced_sign x
-sign_read {n = n} x = at x.at x.op
-  where
-    at : (p : Position) (op : AddOp) → Back n a_sign sign plain_sign unplaced_sign (record { at = p; op = op })
-    at p adds.Plus = left (mapped (symbol_is symbols.Plus) (λ z h. refl))
-    at p adds.Minus = right (mapped (symbol_is symbols.Minus) (λ z h. refl))
+sign_read {n = n} x = elim x.op as (λ op. Back n a_sign sign plain_sign unplaced_sign (record { at = x.at; op = op })) [
+  | adds.Plus ↦ left (mapped (symbol_is symbols.Plus) (λ z h. refl))
+  | adds.Minus ↦ right (mapped (symbol_is symbols.Minus) (λ z h. refl))
+]
 
 pub factor_read : {n : ℕ} (x : RawFactorSign) → Back n a_factor_sign factor_sign plain_factor unplaced_factor x
-factor_read {n = n} x = at x.at x.op
-  where
-    at : (p : Position) (op : MulOp) → Back n a_factor_sign factor_sign plain_factor unplaced_factor (record { at = p; op = op })
-    at p muls.Times = left (mapped (symbol_is symbols.Times) (λ z h. refl))
-    at p muls.Divide = right (mapped (symbol_is symbols.Divide) (λ z h. refl))
+factor_read {n = n} x = elim x.op as (λ op. Back n a_factor_sign factor_sign plain_factor unplaced_factor (record { at = x.at; op = op })) [
+  | muls.Times ↦ left (mapped (symbol_is symbols.Times) (λ z h. refl))
+  | muls.Divide ↦ right (mapped (symbol_is symbols.Divide) (λ z h. refl))
+]
 
 pub compare_read : {n : ℕ} (x : RawCompareSign) → Back n a_compare_sign comparator plain_compare unplaced_compare x
-compare_read {n = n} x = at x.at x.op
-  where
-    at : (p : Position) (op : CompareOp) → Back n a_compare_sign comparator plain_compare unplaced_compare (record { at = p; op = op })
-    at p compares.Less = left (mapped (symbol_is symbols.Less) (λ z h. refl))
-    at p compares.LessOrEqual = right (left (mapped (symbol_is symbols.LessOrEqual) (λ z h. refl)))
-    at p compares.Equal = right (right (left (mapped (symbol_is symbols.Equal) (λ z h. refl))))
-    at p compares.GreaterOrEqual = right (right (right (left (mapped (symbol_is symbols.GreaterOrEqual) (λ z h. refl)))))
-    at p compares.Greater = right (right (right (right (left (mapped (symbol_is symbols.Greater) (λ z h. refl))))))
-    at p compares.NotEqual = right (right (right (right (right (mapped (symbol_is symbols.NotEqual) (λ z h. refl))))))
+compare_read {n = n} x = elim x.op as (λ op. Back n a_compare_sign comparator plain_compare unplaced_compare (record { at = x.at; op = op })) [
+  | compares.Less ↦ left (mapped (symbol_is symbols.Less) (λ z h. refl))
+  | compares.LessOrEqual ↦ right (left (mapped (symbol_is symbols.LessOrEqual) (λ z h. refl)))
+  | compares.Equal ↦ right (right (left (mapped (symbol_is symbols.Equal) (λ z h. refl))))
+  | compares.GreaterOrEqual ↦ right (right (right (left (mapped (symbol_is symbols.GreaterOrEqual) (λ z h. refl)))))
+  | compares.Greater ↦ right (right (right (right (left (mapped (symbol_is symbols.Greater) (λ z h. refl))))))
+  | compares.NotEqual ↦ right (right (right (right (right (mapped (symbol_is symbols.NotEqual) (λ z h. refl))))))
+]
 
 pub sint_read : {n : ℕ} (o : Option RawSign) (x : RawInt) → Held (Back n a_sign sign plain_sign unplaced_sign) o → Back n an_int int int_tokens unplaced_int x → Back n a_sint sint sint_tokens unplaced_sint (record { sign = o; value = x })
 unfolding sint

@@ -9,16 +9,17 @@ use Rattle.cw_tree.specs.declared.expression.RawExpr.TheViews.{out-roll-RawExpr,
 use Rattle.cw_tree.specs.declared.expression.RawExpr.TheViews.{roll-out-RawExpr, roll-out-RawPrimary, roll-out-RawPrim, roll-out-RawMask, roll-out-RawUnion, roll-out-RawDiffer, roll-out-RawTerm, roll-out-RawSum}
 use Rattle.cw_tree.specs.declared.expression.RawExpr.{RawExpr, out-RawExpr}
 use Rattle.cw_tree.specs.declared.expression.RawPrimary.{RawPrimary, out-RawPrimary}
-use Rattle.cw_tree.specs.declared.expression.RawDiffer.{RawDiffer, out-RawDiffer}
-use Rattle.cw_tree.specs.declared.expression.RawMask.{RawMask, out-RawMask}
-use Rattle.cw_tree.specs.declared.expression.RawPrim.{RawPrim, out-RawPrim}
+use Rattle.cw_tree.specs.declared.expression.RawDiffer.{out-RawDiffer}
+use Rattle.cw_tree.specs.declared.expression.RawMask.{out-RawMask}
+use Rattle.cw_tree.specs.declared.expression.RawPrim.{out-RawPrim}
 use Rattle.cw_tree.specs.declared.expression.RawSum.{RawSum, out-RawSum}
 use Rattle.cw_tree.specs.declared.expression.RawTerm.{RawTerm, out-RawTerm}
-use Rattle.cw_tree.specs.declared.expression.RawUnion.{RawUnion, out-RawUnion}
+use Rattle.cw_tree.specs.declared.expression.RawUnion.{out-RawUnion}
 use Rattle.cw_grammar.specs.Trees.{sole, ◌>>-◌, Operands, as_sum, sole_term, as_term, as_differ, as_union, as_mask, as_prim, bracket_primary, bracket_prim, bracket_mask, bracket_union, bracket_differ, bracket_term, bracket_sum, mask_tree, union_tree, differ_tree, term_tree}
 use Rattle.cw_derived.proofs.Layers.{ExprLayer, PrimaryLayer, PrimLayer, MaskLayer, UnionLayer, DifferLayer, TermLayer, SumLayer, held}
 use Rattle.cw_read_back.specs.Expressions.Unplaced.{nowhere, unplaced_number, unplaced_octal, unplaced_literal, unplaced_type, unplaced_name, unplaced_sign, unplaced_factor, unplaced_bits, unplaced_expr, unplaced_primary, unplaced_ref, unplaced_cond, unplaced_differ, unplaced_mask, unplaced_prim, unplaced_sum, unplaced_term, unplaced_union}
-use Rattle.cw_read_back.proofs.Expressions.ExpressionLayers.{expr_bare, expr_unplaced, primary_bare, primary_unplaced, mask_parts, union_parts, differ_parts, term_parts, differ-bare, mask-bare, union-bare, prim-bare, sum-bare, term-bare}
+use Rattle.cw_read_back.proofs.Expressions.ExpressionLayers.{expr_bare, bare, primary_bare, mask_parts, union_parts, differ_parts, term_parts, differ-bare, mask-bare, union-bare, prim-bare, sum-bare, term-bare}
+use Rattle.cw_tokens.proofs.Passes.{expr_rolled, primary_rolled}
 
 -- What is taken out of a tree without positions is what is taken out of the tree, without its positions.
 abbrev Keeps : {A B : Type 0} → (A → A) → (B → B) → (A → Option B) → Type 0
@@ -46,7 +47,7 @@ summed y = elim y [ layer.Choice at c a b ↦ None | layer.Sum s ↦ Some s ]
 
 pub sum_kept : Keeps unplaced_expr unplaced_sum as_sum
 sum_kept e =
-    ap (λ z. as_sum (unplaced_expr z)) (sym (roll-out-RawExpr e)) ∙ ap as_sum (expr_unplaced (out-RawExpr e))
+    ap (λ z. as_sum (unplaced_expr z)) (sym (roll-out-RawExpr e)) ∙ ap as_sum (expr_rolled bare (out-RawExpr e))
     ∙ elim (out-RawExpr e) as (λ (y : ExprLayer). as_sum (expr_bare y) ≡ option_map unplaced_sum (summed y)) [
       | layer.Choice at c a b ↦ ap summed (out-roll-RawExpr (layer.Choice nowhere (unplaced_cond c) (unplaced_expr a) (unplaced_expr b)))
       | layer.Sum s ↦ ap summed (out-roll-RawExpr (layer.Sum (unplaced_sum s)))
@@ -104,7 +105,7 @@ prim_kept = then_kept _ _ _ as_mask (λ t. sole (out-RawMask t).operands) mask_k
 
 pub bracket_primary_kept : Keeps unplaced_primary unplaced_expr bracket_primary
 bracket_primary_kept p =
-    ap (λ z. bracket_primary (unplaced_primary z)) (sym (roll-out-RawPrimary p)) ∙ ap bracket_primary (primary_unplaced (out-RawPrimary p))
+    ap (λ z. bracket_primary (unplaced_primary z)) (sym (roll-out-RawPrimary p)) ∙ ap bracket_primary (primary_rolled bare (out-RawPrimary p))
     ∙ elim (out-RawPrimary p) as (λ (y : PrimaryLayer). bracket_primary (primary_bare y) ≡ option_map unplaced_expr (held y)) [
       | layer.Number n ↦ ap held (out-roll-RawPrimary (layer.Number (unplaced_number n)))
       | layer.Octal n ↦ ap held (out-roll-RawPrimary (layer.Octal (unplaced_octal n)))

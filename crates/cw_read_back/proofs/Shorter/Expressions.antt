@@ -151,21 +151,14 @@ prim_counts x u (b_map (b_then {v = v} {x = bits} {y = p} d e)) = omega (arith, 
 
 -- ---- operations
 
-mask_counts : Counts a_mask mask (λ x. length (mask_tokens x))
-unfolding mask
-mask_counts x u d = operation_counts (λ z. length (prim_tokens z)) (λ z. length (mask_tokens z)) mask_most prim_counts operator_counts x u d
-
-union_counts : Counts a_union union (λ x. length (union_tokens x))
-unfolding union
-union_counts x u d = operation_counts (λ z. length (mask_tokens z)) (λ z. length (union_tokens z)) union_most mask_counts operator_counts x u d
-
-differ_counts : Counts a_differ differ (λ x. length (differ_tokens x))
-unfolding differ
-differ_counts x u d = operation_counts (λ z. length (union_tokens z)) (λ z. length (differ_tokens z)) differ_most union_counts operator_counts x u d
-
+-- each over the one before it
 term_counts : Counts a_term term (λ x. length (term_tokens x))
-unfolding term
-term_counts x u d = operation_counts (λ z. length (differ_tokens z)) (λ z. length (term_tokens z)) term_most differ_counts factor_counts x u d
+unfolding mask union differ term
+term_counts =
+    let masks : Counts a_mask mask (λ x. length (mask_tokens x)) = λ x u d. operation_counts (λ z. length (prim_tokens z)) (λ z. length (mask_tokens z)) mask_most prim_counts operator_counts x u d in
+    let unions : Counts a_union union (λ x. length (union_tokens x)) = λ x u d. operation_counts (λ z. length (mask_tokens z)) (λ z. length (union_tokens z)) union_most masks operator_counts x u d in
+    let differs : Counts a_differ differ (λ x. length (differ_tokens x)) = λ x u d. operation_counts (λ z. length (union_tokens z)) (λ z. length (differ_tokens z)) differ_most unions operator_counts x u d in
+    λ x u d. operation_counts (λ z. length (differ_tokens z)) (λ z. length (term_tokens z)) term_most differs factor_counts x u d
 
 sum_counts : Counts a_sum sum (λ x. length (sum_tokens x))
 unfolding sum

@@ -42,11 +42,7 @@ multiply_right muls.Divide = tt
 
 pub compare_right : (op : CompareOp) → IsRight (compare_symbol op)
 compare_right compares.Less = tt
-compare_right compares.LessOrEqual = tt
-compare_right compares.Equal = tt
-compare_right compares.GreaterOrEqual = tt
-compare_right compares.Greater = tt
-compare_right compares.NotEqual = tt
+compare_right _ = tt
 
 pub sign_spelled : (o : Option RawSign) → Spelled (sign_tokens o)
 sign_spelled None = nothing

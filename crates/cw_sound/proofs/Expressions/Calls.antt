@@ -28,7 +28,7 @@ use Rattle.cw_unit.specs.Program.{definition_of}
 use Rattle.cw_unit.specs.Scales.{answer_scale}
 use Rattle.cw_unit.specs.Step.{procedure_of_def}
 use Rattle.cw_unit.specs.Configuration.{procedure_at}
-use Rattle.cw_safety.specs.Kinds.{Kind, WordKind, LabelKind, SwitchKind, ProcedureKind, Taken, TakesWord, TakesLabel, TakesSwitch, TakesProcedure, same_taken, all_same_taken, same_kind, same_kinds, suits_one, suits}
+use Rattle.cw_safety.specs.Kinds.{Kind, WordKind, LabelKind, SwitchKind, ProcedureKind, Taken, TakesWord, TakesLabel, TakesSwitch, TakesProcedure, same_taken, all_so, same_kind, same_kinds, suits_one, suits}
 use Rattle.cw_safety.specs.WellFormed as formed
 use Rattle.cw_safety.specs.WellFormed.{takes_arguments, parameter_takes, controls_of, procedure_of_place, is_call, kinds_of}
 use Rattle.cw_gen_expr.specs.NamedItems.{has_words}
@@ -51,9 +51,9 @@ taken_same TakesLabel = refl
 taken_same TakesSwitch = refl
 taken_same TakesProcedure = refl
 
-all_taken_same : (ts : List Taken) → IsTrue (all_same_taken ts ts)
+all_taken_same : (ts : List Taken) → IsTrue (all_so same_taken ts ts)
 all_taken_same [] = refl
-all_taken_same (t ∷ ts) = both (same_taken t t) (all_same_taken ts ts) (taken_same t) (all_taken_same ts)
+all_taken_same (t ∷ ts) = both (same_taken t t) (all_so same_taken ts ts) (taken_same t) (all_taken_same ts)
 
 kind_same : (k : Kind) → IsTrue (same_kind k k)
 kind_same WordKind = refl

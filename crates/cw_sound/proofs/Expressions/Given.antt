@@ -1,5 +1,5 @@
 -- Arguments are built, and of the kinds that the parameters take.
-use Rattle.std.proofs.Common.{◌≡◌, ℕ, ◌≤◌, List, [], ◌∷◌, map, Bool, true, false, IsTrue, ◌==◌, nat_le, Option, Some, None, refl, sym, ap, ap₂, subst, ◌∙◌, arith}
+use Rattle.std.proofs.Common.{◌≡◌, ℕ, ◌≤◌, List, [], ◌∷◌, map, Bool, IsTrue, Option, Some, None, refl, sym, ap, ap₂, subst, ◌∙◌, arith}
 use Rattle.cw_tree.specs.declared.leaf.RawName.{RawName}
 use Rattle.cw_tree.specs.declared.leaf.RawType.{RawType}
 use Rattle.cw_tree.specs.declared.leaf.RawSize.{RawSize}
@@ -15,12 +15,12 @@ use Rattle.cw_facts.specs.Signatures.{plain}
 use Rattle.cw_scope.specs.declared.resolve.Named.{Named}
 use Rattle.cw_scope.specs.NameRules.{is_label, is_switch}
 use Rattle.cw_scope.specs.Same.{same_answer, same_plain}
-use Rattle.cw_scale.specs.Arguments.{is_array, is_table, is_passed, is_passed_if, takes_these, specified_so, kind_fits, kind_fits_if, takes_name, takes_procedure, takes}
-use Rattle.cw_scale.specs.Kinds.{kind_of, signature_of, fraction_of}
+use Rattle.cw_scale.specs.Arguments.{is_array, is_table, is_passed, is_passed_if, takes_these, specified_so, kind_fits, kind_fits_if, takes_name, takes_procedure}
+use Rattle.cw_scale.specs.Kinds.{kind_of, signature_of}
 use Rattle.cw_number.specs.declared.numbered.Numbered.{Numbered}
 use Rattle.cw_number.specs.declared.numbered.Numbered.TheVariants as numbered
 use Rattle.cw_make_expr.specs.Nodes.{read, value_argument, place_in, place_argument}
-use Rattle.cw_make_expr.specs.Parts.{Numbers, number_of, bound, params_of, handed}
+use Rattle.cw_make_expr.specs.Parts.{Numbers, number_of, bound, handed}
 use Rattle.cw_unit.specs.declared.unit.Unit.{Unit as SourceUnit}
 use Rattle.cw_unit.specs.declared.unit.Proc.{Proc}
 use Rattle.cw_unit.specs.declared.unit.Goal.TheVariants as goal
@@ -41,20 +41,16 @@ use Rattle.cw_safety.specs.WellFormed as formed
 use Rattle.cw_safety.specs.WellFormed.{kind_if, kind_and, kinds_of, procedure_of_place}
 use Rattle.cw_gen_expr.specs.NamedItems.{has_words}
 use Rattle.cw_gen_expr.specs.BuiltExpressions as built
-use Rattle.cw_gen_expr.specs.BuiltExpressions.{BuiltValue, BuiltReference, most_levels, whole, all_built, is_argument, built_reference}
+use Rattle.cw_gen_expr.specs.BuiltExpressions.{BuiltValue, BuiltReference, most_levels, all_built, is_argument, built_reference}
 use Rattle.cw_gen_expr.proofs.Layers.{built_argument_layer}
 use Rattle.cw_built.specs.Built.{alone, at_work}
 use Rattle.cw_sound.specs.Uses.Stands.{kind_of_plain, taken_by_plain, kind_specified, IsItem, IsLabel, IsSwitch, Takes, IsProcedure, IsParameter, IsControl, StandsAs}
-use Rattle.cw_sound.proofs.Expressions.Truth.{no, both, parts, le_true}
+use Rattle.cw_sound.proofs.Expressions.Truth.{no, both, parts}
 use Rattle.cw_sound.proofs.Expressions.Parts.{EachGiven, none_given, more_given}
 use Rattle.cw_sound.proofs.Expressions.Built.{is_formed, built_well, BuiltAt, BuiltArgument, HandedOn, whole_at}
 use Rattle.cw_sound.proofs.Expressions.Nodes.{value_rolled, formed_rolled}
 
 -- ---- parameters of procedures that are arguments
-
-taken_plain : (p : RawIps) → taken_of (kind_of_plain p) ≡ taken_by_plain p
-taken_plain (inner.Value at t) = refl
-taken_plain _ = refl
 
 plain_same : (x y : RawIps) → IsTrue (same_plain x y) → taken_by_plain x ≡ taken_by_plain y
 plain_same (inner.Value p t) (inner.Value q v) h = refl
@@ -69,7 +65,7 @@ these_taken : (given : List RawPs) (params : List RawIps) → IsTrue (takes_thes
 these_taken [] [] h = refl
 these_taken (ps.Plain x ∷ xs) (y ∷ ys) h =
     let halves = parts (same_plain x y) (takes_these xs ys) h in
-    ap₂ (λ t ts. t ∷ ts) (taken_plain x ∙ plain_same x y halves.0) (these_taken xs ys halves.1)
+    ap₂ (λ t ts. t ∷ ts) (plain_same x y halves.0) (these_taken xs ys halves.1)
 these_taken _ _ h = no h
 
 plains_taken : (given params : List RawIps) → IsTrue (takes_these (plain given) params) → map taken_by_plain given ≡ map taken_by_plain params

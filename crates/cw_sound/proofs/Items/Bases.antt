@@ -33,7 +33,7 @@ use Rattle.cw_items.specs.declared.thing.Owner.{Owner}
 use Rattle.cw_items.specs.declared.thing.Sort.TheVariants as sort
 use Rattle.cw_items.specs.declared.thing.Thing.{Thing}
 use Rattle.cw_items.specs.Things.{amount_or_none, moved, moved_past, named_things, group_words, groups_things, data_things, parameter_things, parameters_things, fact_texts, texts, felem_things, felems_things, base_at}
-use Rattle.cw_judge.specs.Declared.{declared_judged, overlaid_judged}
+use Rattle.cw_judge.specs.Declarations.{declared_judged, overlaid_judged}
 use Rattle.cw_sound.specs.Items.Derived.{IsRising, facts_tokens}
 use Rattle.cw_sound.proofs.Items.Lists.{In, each-append, from-in, each-in, within-in, stands-before}
 use Rattle.cw_sound.proofs.Items.Numbering.{token_of_thing, tokens_of_things}

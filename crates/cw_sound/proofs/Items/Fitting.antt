@@ -28,7 +28,7 @@ use Rattle.cw_items.specs.declared.thing.Owner.{Owner}
 use Rattle.cw_items.specs.declared.thing.Sort.TheVariants as sort
 use Rattle.cw_items.specs.declared.thing.Thing.{Thing}
 use Rattle.cw_items.specs.Things.{capped, thing, moved, moved_past, named_things, group_words, groups_things, words_of_table, data_things, fact_texts, texts}
-use Rattle.cw_judge.specs.Declared.{presets_judged, declared_judged}
+use Rattle.cw_judge.specs.Declarations.{presets_judged, declared_judged}
 use Rattle.cw_make_items.specs.Types.{within, width_of}
 use Rattle.cw_preset.specs.Strings.{Words, Rows, characters_from, string_words}
 use Rattle.cw_preset.specs.Lists.{place_word, word_if, places_words, named_rows, groups_rows, word_in, element_put, element_word, stored, entry_words, entries_words, elements_words, singles_preset, groups_preset, table_preset, data_rows}

@@ -22,7 +22,7 @@ use Rattle.cw_items.specs.declared.families.Site.{Site}
 use Rattle.cw_items.specs.declared.thing.Owner.{Owner}
 use Rattle.cw_items.specs.declared.thing.Sort.TheVariants as sort
 use Rattle.cw_items.specs.Things.{Things, joined as joined_things, thing, texts, base_at, data_things, parameters_things, felem_things, felems_things, is_recursive, declaration_things, form_things, simple_things, block_things, procedure_things, statement_things}
-use Rattle.cw_judge.specs.Declared.{declared_judged, overlaid_judged}
+use Rattle.cw_judge.specs.Declarations.{declared_judged, overlaid_judged}
 use Rattle.cw_judge.specs.Judged.{condition_judged, reference_judged, felems_judged, scale_of, all_judged, declaration_judged, form_judged, simple_judged, block_judged, procedure_judged, statement_judged}
 use Rattle.cw_preset.specs.Strings.{Rows, joined, expression_rows, condition_rows, reference_rows}
 use Rattle.cw_preset.specs.Lists.{data_rows}

@@ -16,7 +16,7 @@ use Rattle.cw_scope.specs.declared.resolve.Named.{Named}
 use Rattle.cw_items.specs.declared.families.Site.{Site}
 use Rattle.cw_items.specs.declared.thing.Thing.{Thing}
 use Rattle.cw_items.specs.Things.{base_at, data_things, citem_things, citems_things, communicator_things, communicators_things, block_things, text_things}
-use Rattle.cw_judge.specs.Declared.{declared_judged, common_base_judged, common_overlaid_judged}
+use Rattle.cw_judge.specs.Declarations.{declared_judged, common_base_judged, common_overlaid_judged}
 use Rattle.cw_judge.specs.Judged.{sites_of, absolute_addresses, citem_judged, citems_judged, communicator_judged, communicators_judged}
 use Rattle.cw_preset.specs.Strings.{Words, Rows}
 use Rattle.cw_preset.specs.Lists.{data_rows}

@@ -46,7 +46,7 @@ use Rattle.cw_data.specs.Overlays.{indexes_judged, can_be_laid_on, stands_before
 use Rattle.cw_data.specs.Presets.{number_fits, octal_fits, fits_room, begins, place_position, whole_word, element_room, behind_each, behind_groups, table_words, table_entries, place_judged, places_judged, left_over, entry_judged, entries_preset}
 use Rattle.cw_data.specs.Specifications.{few, few_if, plain_judged, plains_judged, procedure_judged, param_judged, params_judged, heading_judged, switch_judged, specified_judged, each_specified_judged, spec_judged, specs_judged, is_address, address_judged, bounds_judged, aitem_judged, aitems_judged}
 use Rattle.cw_items.specs.declared.families.Site.{Site}
-use Rattle.cw_judge.specs.Declared.{is_framed, names_framed, groups_framed, places_of, frame_judged, one_kind, presets_judged, declared_judged, overlaid_judged, stands_in_common, common_overlaid_judged}
+use Rattle.cw_judge.specs.Declarations.{is_framed, names_framed, groups_framed, places_of, frame_judged, one_kind, presets_judged, declared_judged, overlaid_judged, stands_in_common, common_overlaid_judged}
 use Rattle.cw_judge.specs.Judged.{citem_judged, citems_judged, communicator_judged, communicators_judged}
 use Rattle.cw_judge.specs.Operators.{Places, few_operators, few_each, too_many_if}
 use Rattle.cw_sound.proofs.Expressions.Judging.{Keeps, keeps_fine, keeps_wrong, keeps_unless, keeps_both, keeps_int, keeps_scale, keeps_type}
@@ -164,8 +164,7 @@ keeps_plain n (inner.Value at t) = keeps_type t
 keeps_plain n (inner.Location at t) = keeps_type t
 keeps_plain n (inner.Array t) = keeps_type t
 keeps_plain n (inner.Table at s) = keeps_size n s
-keeps_plain n (inner.Label at) = keeps_fine
-keeps_plain n (inner.Switch at) = keeps_fine
+keeps_plain n _ = keeps_fine
 
 pub keeps_plains : (n : RawName) (ps : List RawIps) → Keeps (plains_judged n ps)
 keeps_plains n [] = keeps_fine
@@ -179,9 +178,8 @@ keeps_param (param.Value at t ns) = keeps_type t
 keeps_param (param.Location at t ns) = keeps_type t
 keeps_param (param.Array t ns) = keeps_type t
 keeps_param (param.Table t) = keeps_table t
-keeps_param (param.Label at ns) = keeps_fine
-keeps_param (param.Switch at ns) = keeps_fine
 keeps_param (param.Proc answer at n ps) = keeps_procedure answer n ps
+keeps_param _ = keeps_fine
 
 pub keeps_params : (ps : List RawParam) → Keeps (params_judged ps)
 keeps_params [] = keeps_fine

@@ -36,7 +36,7 @@ use Rattle.cw_items.specs.declared.thing.Thing.{Thing}
 use Rattle.cw_items.specs.Families.{frame_of, things_judged, nothing_known}
 use Rattle.cw_items.specs.Things.{amount_or_none, base_at, data_things, aitem_things, aitems_things, citem_things, citems_things, communicator_things, communicators_things, block_things, text_things}
 use Rattle.cw_number.specs.Listed.{listed_of}
-use Rattle.cw_judge.specs.Declared.{declared_judged, stands_in_common, common_base_judged, common_overlaid_judged}
+use Rattle.cw_judge.specs.Declarations.{declared_judged, stands_in_common, common_base_judged, common_overlaid_judged}
 use Rattle.cw_judge.specs.Judged.{sites_of, absolute_addresses, citem_judged, citems_judged, communicator_judged, communicators_judged, block_judged, first_type_fault}
 use Rattle.cw_make_items.specs.Lookup.{Numbers}
 use Rattle.cw_sound.specs.Items.Derived.{IsRising, facts_tokens, HasRisingTokens, HasPlainProcedures}

@@ -2,10 +2,11 @@
 use Rattle.std.proofs.Common.{Bool, true, false, [], Some, None}
 use Rattle.cw_tree.specs.declared.expression.RawRef.TheVariants as ref_tree
 use Rattle.cw_grammar.specs.Tokens.{position}
-use Rattle.cw_grammar.specs.Grammar.{Sort, Rule, located, if_rest, for_rest, block_rest, Again, labelled, labelled_simple, more_elems, places}
+use Rattle.cw_grammar.specs.Grammar.{Sort, Rule, located, if_rest, for_rest, block_rest, Again}
 use Rattle.cw_grammar.specs.Rules.{name, bits, indexed_name, reference, commas}
 use Rattle.cw_grammar.specs.Statements.{simple_behind, block_tree, unnamed, simple, if_tree, for_tree, stmt, proc_behind, worded_decl, decl, text}
 use Rattle.cw_grammar.specs.Table.{rule, again_rule}
+use Rattle.cw_grammar.proofs.Table.{each_again}
 use Rattle.cw_sound.proofs.Lines.Trees.{name_lined, index_lined, bare_lined, ref_lined, empty_lined, assign_lined, assign_bits_lined, jump_lined, call_lined, answer_lined, block_lined, if_lined, for_lined, form_alone, labelled_lined, simple_alone, whole_lined, data_lined, overlay_lined, switch_lined, proc_lined, fits}
 use Rattle.cw_sound.proofs.Lines.Good.{Keeps, given_good}
 
@@ -101,9 +102,7 @@ rule_keeps _ = tt
 
 pub again_keeps : {s : Sort} (a : Again s) → Keeps (again_rule a)
 unfolding again_rule
-again_keeps (labelled p) = stmt_keeps p
-again_keeps (labelled_simple p) = simple_keeps p
-again_keeps _ = tt
+again_keeps = each_again (λ s a. Keeps (again_rule a)) stmt_keeps simple_keeps tt tt
 
 pub text_keeps : Keeps text
 unfolding text

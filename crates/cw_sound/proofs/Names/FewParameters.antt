@@ -39,7 +39,7 @@ use Rattle.cw_scale.specs.Types.{bits_judged, answer_judged}
 use Rattle.cw_scale.specs.TypeRules.{expression, call_faults}
 use Rattle.cw_data.specs.Specifications.{few, few_if, heading_judged, plains_judged, param_judged, params_judged, switch_judged}
 use Rattle.cw_items.specs.declared.families.Site.{Site}
-use Rattle.cw_judge.specs.Declared.{declared_judged, overlaid_judged}
+use Rattle.cw_judge.specs.Declarations.{declared_judged, overlaid_judged}
 use Rattle.cw_judge.specs.Judged.{expression_judged, condition_judged, reference_judged, arguments_counted, scale_of, all_judged, felems_judged, declaration_judged, form_judged, simple_judged, block_judged, procedure_judged as proc_judged, statement_judged}
 use Rattle.cw_sound.specs.Uses.Mentions.{In}
 use Rattle.cw_sound.specs.Names.Placed.{tokens, Differ}

@@ -27,7 +27,7 @@ use Rattle.cw_items.specs.declared.thing.Sort.TheVariants as sort
 use Rattle.cw_items.specs.declared.thing.Thing.{Thing}
 use Rattle.cw_items.specs.Families.{frame_of}
 use Rattle.cw_items.specs.Things.{moved, moved_past, named_things, group_words, groups_things, data_things, fact_texts, texts}
-use Rattle.cw_judge.specs.Declared.{is_framed, names_framed, groups_framed, places_of, frame_judged, one_kind, presets_judged, declared_judged}
+use Rattle.cw_judge.specs.Declarations.{is_framed, names_framed, groups_framed, places_of, frame_judged, one_kind, presets_judged, declared_judged}
 use Rattle.cw_preset.specs.Strings.{Words, Rows}
 use Rattle.cw_preset.specs.Lists.{named_rows, groups_rows, singles_preset, groups_preset, table_preset, data_rows}
 use Rattle.cw_sound.proofs.Items.Lists.{each-append, each-left, each-right, each-in}

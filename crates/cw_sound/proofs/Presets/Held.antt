@@ -5,29 +5,23 @@ use Rattle.cw_tree.specs.declared.leaf.RawSign.{RawSign}
 use Rattle.cw_tree.specs.declared.leaf.RawFactorSign.{RawFactorSign}
 use Rattle.cw_tree.specs.declared.expression.RawBits.{RawBits}
 use Rattle.cw_tree.specs.declared.expression.RawExpr.TheOpen as layer
-use Rattle.cw_tree.specs.declared.expression.RawExpr.{RawExpr, out-RawExpr}
-use Rattle.cw_tree.specs.declared.expression.RawPrimary.{RawPrimary, out-RawPrimary}
+use Rattle.cw_tree.specs.declared.expression.RawExpr.{RawExpr}
+use Rattle.cw_tree.specs.declared.expression.RawPrimary.{RawPrimary}
 use Rattle.cw_tree.specs.declared.expression.RawDiffer.{RawDiffer, out-RawDiffer}
 use Rattle.cw_tree.specs.declared.expression.RawMask.{RawMask, out-RawMask}
 use Rattle.cw_tree.specs.declared.expression.RawPrim.{RawPrim, out-RawPrim}
-use Rattle.cw_tree.specs.declared.expression.RawSum.{RawSum, out-RawSum}
+use Rattle.cw_tree.specs.declared.expression.RawSum.{RawSum}
 use Rattle.cw_tree.specs.declared.expression.RawTerm.{RawTerm, out-RawTerm}
 use Rattle.cw_tree.specs.declared.expression.RawUnion.{RawUnion, out-RawUnion}
-use Rattle.cw_grammar.specs.Trees.{sole, ◌>>-◌, Operands, extended, first_of, as_sum, sole_term, as_term, as_differ, as_union, as_mask, as_prim, bracket_primary, bracket_prim, bracket_mask, bracket_union, bracket_differ, bracket_term, bracket_sum, mask_start, union_start, differ_start, term_start, mask_tree, union_tree, differ_tree, term_tree, Terms, sum_tree, terms_of, sum_start, more_terms, expr_or, expr_of, prim_or, prim_of}
+use Rattle.cw_grammar.specs.Trees.{◌>>-◌, Operands, extended, first_of, as_sum, as_term, as_differ, as_union, as_mask, as_prim, bracket_primary, bracket_prim, bracket_mask, bracket_union, bracket_differ, bracket_term, bracket_sum, mask_start, union_start, differ_start, term_start, mask_tree, union_tree, differ_tree, term_tree, Terms, sum_tree, terms_of, sum_start, more_terms, expr_or, expr_of, prim_or, prim_of}
 use Rattle.cw_preset.specs.Strings.{Rows, joined, expression_rows, primary_rows, differ_rows, mask_rows, prim_rows, sum_rows, term_rows, union_rows}
-use Rattle.cw_derived.proofs.Held.{not_none, same_some}
 use Rattle.cw_tokens.proofs.Narrowed.{Keeps, Kept, prim_keeps, mask_keeps, union_keeps, differ_keeps, term_keeps, sum_keeps, expr_keeps}
-use Rattle.cw_derived.proofs.Layers.{ExprLayer, PrimaryLayer, held}
+use Rattle.cw_tokens.proofs.Alone.{alone_kept}
 use Rattle.cw_tree.proofs.Expressions.{of_differ-out, of_expression-Sum, of_mask-out, of_prim-out, of_sum-out, of_term-out, of_union-out}
 use Rattle.cw_sound.proofs.Expressions.Folds.{rows_pass}
-use Rattle.cw_tokens.proofs.Passes.{expr_layered, primary_layered, expr_opened, primary_opened, differ_rolled, mask_rolled, prim_rolled, sum_rolled, term_rolled, union_rolled}
+use Rattle.cw_tokens.proofs.Passes.{differ_rolled, mask_rolled, prim_rolled, sum_rolled, term_rolled, union_rolled}
 
 -- ---- what one step or two steps give
-
-sole_keeps : {A : Type 0} (f : A → Rows) (xs : List A) (x : A) → sole xs ≡ Some x → f x ≡ joined (map f xs)
-sole_keeps f [] x e = absurd (not_none e)
-sole_keeps f (y ∷ []) x e = ap f (sym (same_some e)) ∙ sym (append-nil (f y))
-sole_keeps f (y ∷ z ∷ zs) x e = absurd (not_none e)
 
 -- A first operand, or those of the tree in its bracket.
 first_keeps : {A B C : Type 0} (f : A → Rows) (h : C → Rows) (parts : C → Operands A B) (o : Option C) (x : A) → ((c : C) → o ≡ Some c → h c ≡ f x) → ((c : C) → h c ≡ joined (map f (parts c).0)) → joined (map f (first_of parts o x).0) ≡ f x
@@ -45,61 +39,18 @@ joined_extended f ops (x ∷ more) =
     ∙ ap (λ (rs : Rows). rs ++ joined (map (λ z. f z.1) more)) (joined_append f ops.0 (x.1 ∷ []) ∙ ap (λ (rs : Rows). joined (map f ops.0) ++ rs) (append-nil (f x.1)))
     ∙ append_assoc (joined (map f ops.0)) (f x.1) (joined (map (λ z. f z.1) more))
 
--- ---- an expression that is a tree of a narrower rule
-
-abbrev summed : ExprLayer → Option RawSum
-summed y = elim y [ layer.Choice at c a b ↦ None | layer.Sum s ↦ Some s ]
-
-sum_in_layer : (x : ExprLayer) (s : RawSum) → summed x ≡ Some s → sum_rows s ≡ expr_layered rows_pass x
-sum_in_layer (layer.Choice at c a b) s e = absurd (not_none e)
-sum_in_layer (layer.Sum t) s e = ap sum_rows (sym (same_some e))
-
-as_sum_keeps : Keeps expression_rows sum_rows as_sum
-as_sum_keeps e s q = sum_in_layer (out-RawExpr e) s q ∙ sym (expr_opened rows_pass e)
-
-abbrev unsigned : Option RawSign → List RawTerm → Option RawTerm
-unsigned o xs = elim o [ None ↦ sole xs | Some sign ↦ None ]
-
-unsigned_keeps : (o : Option RawSign) (xs : List RawTerm) (t : RawTerm) → unsigned o xs ≡ Some t → term_rows t ≡ joined (map term_rows xs)
-unsigned_keeps None xs t e = sole_keeps term_rows xs t e
-unsigned_keeps (Some s) xs t e = absurd (not_none e)
-
-sole_term_keeps : Keeps sum_rows term_rows sole_term
-sole_term_keeps s t e = unsigned_keeps (out-RawSum s).sign (out-RawSum s).operands t e ∙ sym (of_sum-out rows_pass s)
-
-sole_differ_keeps : Keeps term_rows differ_rows (λ x. sole (out-RawTerm x).operands)
-sole_differ_keeps x y e = sole_keeps differ_rows (out-RawTerm x).operands y e ∙ sym (of_term-out rows_pass x)
-
-sole_union_keeps : Keeps differ_rows union_rows (λ x. sole (out-RawDiffer x).operands)
-sole_union_keeps x y e = sole_keeps union_rows (out-RawDiffer x).operands y e ∙ sym (of_differ-out rows_pass x)
-
-sole_mask_keeps : Keeps union_rows mask_rows (λ x. sole (out-RawUnion x).operands)
-sole_mask_keeps x y e = sole_keeps mask_rows (out-RawUnion x).operands y e ∙ sym (of_union-out rows_pass x)
-
-sole_prim_keeps : Keeps mask_rows prim_rows (λ x. sole (out-RawMask x).operands)
-sole_prim_keeps x y e = sole_keeps prim_rows (out-RawMask x).operands y e ∙ sym (of_mask-out rows_pass x)
-
--- ---- what a bracket alone holds
-
-held_in_layer : (x : PrimaryLayer) (e : RawExpr) → held x ≡ Some e → expression_rows e ≡ primary_layered rows_pass x
-held_in_layer (layer.Bracket at x) e q = ap expression_rows (sym (same_some q))
-held_in_layer _ e q = absurd (not_none q)
-
-primary_held : Keeps primary_rows expression_rows bracket_primary
-primary_held x e q = held_in_layer (out-RawPrimary x) e q ∙ sym (primary_opened rows_pass x)
-
-abbrev bare_of : List RawBits → RawPrimary → Option RawExpr
-bare_of bits x = elim bits [ [] ↦ bracket_primary x | b ∷ bs ↦ None ]
-
-bare_held : (bits : List RawBits) (x : RawPrimary) (e : RawExpr) → bare_of bits x ≡ Some e → expression_rows e ≡ primary_rows x
-bare_held [] x e q = primary_held x e q
-bare_held (b ∷ bits) x e q = absurd (not_none q)
-
-prim_held : Keeps prim_rows expression_rows bracket_prim
-prim_held x e q = bare_held (out-RawPrim x).bits (out-RawPrim x).primary e q ∙ sym (of_prim-out rows_pass x)
-
+-- what stands alone in a tree holds the strings of the tree
 strings : Kept (λ (a b : Rows). a ≡ b) expression_rows sum_rows term_rows differ_rows union_rows mask_rows prim_rows primary_rows
-strings = record { itself = λ v. refl; through = λ a b c p q. p ∙ q; sums = as_sum_keeps; terms = sole_term_keeps; differs = sole_differ_keeps; unions = sole_union_keeps; masks = sole_mask_keeps; prims = sole_prim_keeps; held = prim_held; primary_held = primary_held }
+strings = alone_kept rows_pass (record {
+  expression = λ v. refl;
+  sum = λ v os. append-nil v;
+  term = λ v os. append-nil v;
+  differ = λ v os. append-nil v;
+  union = λ v os. append-nil v;
+  mask = λ v os. append-nil v;
+  prim = λ v. refl;
+  bracket = λ at v. refl;
+})
 
 -- ---- operands: the first, or those in its bracket, and more behind their operators
 

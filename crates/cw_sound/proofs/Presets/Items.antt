@@ -10,7 +10,7 @@ use Rattle.cw_items.specs.declared.families.Site.{Site}
 use Rattle.cw_items.specs.declared.thing.Base.{Base}
 use Rattle.cw_items.specs.declared.thing.Thing.{Thing}
 use Rattle.cw_items.specs.Families.{frame_of, Known, nothing_known, all_known, with_thing, things_judged, site_by, site_on}
-use Rattle.cw_judge.specs.Declared.{is_framed}
+use Rattle.cw_judge.specs.Declarations.{is_framed}
 use Rattle.cw_judge.specs.Judged.{sites_of}
 use Rattle.cw_number.specs.Listed.{listed_of}
 use Rattle.cw_number.specs.Numbers.{numbers_of}

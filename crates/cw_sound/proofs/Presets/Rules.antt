@@ -16,16 +16,17 @@ use Rattle.cw_tree.specs.declared.segment.RawCitem.{RawCitem}
 use Rattle.cw_tree.specs.declared.segment.RawCitem.TheVariants as citem_tree
 use Rattle.cw_tree.specs.declared.segment.RawComm.{RawComm}
 use Rattle.cw_grammar.specs.Tokens.{Item, position}
-use Rattle.cw_grammar.specs.Grammar.{Sort, Value, Grammar, Rule, bracketed, subscript, indexed, called, located, conditional, if_rest, else_rest, for_rest, block_rest, proc_body, Again, labelled, labelled_simple, more_elems, places}
+use Rattle.cw_grammar.specs.Grammar.{Sort, Value, Grammar, Rule, bracketed, subscript, indexed, called, located, conditional, if_rest, else_rest, for_rest, block_rest, proc_body, Again}
 use Rattle.cw_grammar.specs.Rules.{commas, indexed_name, reference, condition, expr}
 use Rattle.cw_grammar.specs.Statements.{semicolons, group, data_table, singles, arrays, item_data, overlay, citem, comm, simple_behind, jump, block_tree, unnamed, simple, if_tree, for_tree, stmt, felem, proc_behind, worded_decl, decl, raw, text}
 use Rattle.cw_grammar.specs.Table.{rule, again_rule}
+use Rattle.cw_grammar.proofs.Table.{each_again}
 use Rattle.cw_scope.specs.declared.resolve.Named.{Named}
 use Rattle.cw_scale.specs.Faults.{Judgement, both}
 use Rattle.cw_items.specs.declared.families.Site.{Site}
 use Rattle.cw_items.specs.declared.thing.Thing.{Thing}
 use Rattle.cw_items.specs.Things.{base_at, citem_things, citems_things, communicator_things, communicators_things, block_things}
-use Rattle.cw_judge.specs.Declared.{declared_judged, common_base_judged, common_overlaid_judged}
+use Rattle.cw_judge.specs.Declarations.{declared_judged, common_base_judged, common_overlaid_judged}
 use Rattle.cw_judge.specs.Judged.{citem_judged, citems_judged, communicator_judged, communicators_judged}
 use Rattle.cw_preset.specs.Strings.{Rows, expression_rows, condition_rows}
 use Rattle.cw_preset.specs.Held.{citem_rows, citems_rows, communicator_rows, communicators_rows, block_rows}
@@ -280,9 +281,7 @@ module _ (names : Named) (sites : List (Row Site)) (absolute : List (Row ℕ)) w
 
   pub again_keeps : {s : Sort} (a : Again s) → Keep (again_rule a)
   unfolding again_rule
-  again_keeps (labelled p) = stmt_keeps p
-  again_keeps (labelled_simple p) = simple_keeps p
-  again_keeps _ = tt
+  again_keeps = each_again (λ s a. Keep (again_rule a)) stmt_keeps simple_keeps tt tt
 
   whole_held : (cs : List RawComm) (n : RawName) (b : Item × (List RawDecl × List RawStmt)) (finish : Item) → Each (CommHeld names sites absolute) cs → BlockHeld names sites (block_tree b.0 b.1.0 b.1.1) → TextHeld names sites absolute (raw cs n b finish)
   whole_held cs n b finish h k comms block told =

@@ -37,7 +37,7 @@ use Rattle.cw_items.specs.declared.families.Site.{Site}
 use Rattle.cw_items.specs.declared.thing.Owner.{Owner}
 use Rattle.cw_items.specs.Things as stores
 use Rattle.cw_items.specs.Things.{Things, texts, base_at, parameters_things, felem_things, felems_things, is_recursive}
-use Rattle.cw_judge.specs.Declared.{declared_judged, overlaid_judged}
+use Rattle.cw_judge.specs.Declarations.{declared_judged, overlaid_judged}
 use Rattle.cw_judge.specs.Judged as judges
 use Rattle.cw_judge.specs.Judged.{condition_judged, reference_judged, felems_judged, scale_of, all_judged}
 use Rattle.cw_preset.specs.Strings.{Rows, joined, expression_rows, condition_rows, reference_rows, argument_rows}

@@ -38,7 +38,7 @@ use Rattle.cw_data.specs.Overlays.{base_judged}
 use Rattle.cw_data.specs.Specifications.{param_judged, params_judged, address_judged, bounds_judged, aitem_judged, aitems_judged}
 use Rattle.cw_amount.specs.Amounts.{place_amount}
 use Rattle.cw_items.specs.declared.families.Site.{Site}
-use Rattle.cw_judge.specs.Declared.{presets_judged, declared_judged, overlaid_judged, common_base_judged, common_overlaid_judged}
+use Rattle.cw_judge.specs.Declarations.{presets_judged, declared_judged, overlaid_judged, common_base_judged, common_overlaid_judged}
 use Rattle.cw_judge.specs.Judged.{citem_judged, citems_judged, communicator_judged, communicators_judged}
 use Rattle.cw_make_expr.specs.Parts.{Numbers}
 use Rattle.cw_make.specs.Labels.{proc_within}

@@ -1,10 +1,6 @@
 -- The numbers of every statement are in range: each rule of statements, and the induction over them.
-use Rattle.std.proofs.Common.{ℕ, ◌≤◌, max, List, [], ◌∷◌, ◌++◌, length, map, Bool, IsTrue, ◌&&◌, nat_lt, Option, refl, arith, suc}
+use Rattle.std.proofs.Common.{ℕ, ◌≤◌, List, ◌∷◌, ◌++◌, map, Bool, IsTrue, ◌&&◌, Option, refl, arith}
 use Rattle.cw_table.specs.declared.table.Row.{Row}
-use Rattle.cw_tree.specs.declared.leaf.Position.{Position}
-use Rattle.cw_tree.specs.declared.leaf.RawName.{RawName}
-use Rattle.cw_tree.specs.declared.expression.RawBits.{RawBits}
-use Rattle.cw_tree.specs.declared.expression.RawExpr.{RawExpr}
 use Rattle.cw_tree.specs.declared.expression.RawRef.{RawRef}
 use Rattle.cw_tree.specs.declared.statement.RawBlock.{RawBlock}
 use Rattle.cw_tree.specs.declared.statement.RawStmt.{RawStmt}
@@ -12,40 +8,37 @@ use Rattle.cw_facts.specs.declared.fact.Fact.TheVariants as fact
 use Rattle.cw_facts.specs.declared.fact.Form.TheVariants as form
 use Rattle.cw_facts.specs.declared.fact.Reading.{Reading}
 use Rattle.cw_facts.specs.declared.fact.Reading.TheVariants as reading
-use Rattle.cw_facts.specs.Uses.{uses_of, expression_uses, condition_uses, reference_uses, argument_uses}
-use Rattle.cw_facts.specs.Facts.{felems_facts, answer_name, statement_facts, block_facts}
+use Rattle.cw_facts.specs.Uses.{uses_of, expression_uses, reference_uses}
+use Rattle.cw_facts.specs.Facts.{answer_name, statement_facts, block_facts}
 use Rattle.cw_scope.specs.declared.resolve.Named.{Named}
 use Rattle.cw_scale.specs.Faults.{Judgement, both}
 use Rattle.cw_scale.specs.Kinds.{kind_of, signature_of, fraction_of_kind}
 use Rattle.cw_scale.specs.Types.{bits_judged}
 use Rattle.cw_scale.specs.TypeRules.{expression, call_faults}
 use Rattle.cw_items.specs.declared.families.Site.{Site}
-use Rattle.cw_judge.specs.Judged.{expression_judged, condition_judged, reference_judged, arguments_counted, scale_of, felems_judged, statement_judged, block_judged}
+use Rattle.cw_judge.specs.Judged.{expression_judged, reference_judged, arguments_counted, scale_of, statement_judged, block_judged}
 use Rattle.cw_amount.specs.Amounts.{place_amount}
 use Rattle.cw_make_expr.specs.Parts.{Numbers, within, number_of, item_here}
-use Rattle.cw_make_expr.specs.Made.{expression_of, condition_of, call_of, reference_of}
-use Rattle.cw_make_stmt.specs.Made.{line_of, ref_position, goal_of, switch_of, felem_of, row, conditional, repetition, statement_of, block_of}
+use Rattle.cw_make_expr.specs.Made.{expression_of, condition_of, call_of}
+use Rattle.cw_make_stmt.specs.Made.{ref_position, goal_of, switch_of, row, conditional, repetition, statement_of, block_of}
 use Rattle.cw_make_stmt.specs.Made as made
 use Rattle.cw_unit.specs.declared.unit.Unit.{Unit as SourceUnit}
-use Rattle.cw_unit.specs.declared.unit.Stmt.{Stmt}
 use Rattle.cw_gen_expr.specs.BuiltExpressions.{most_levels}
 use Rattle.cw_sound.specs.Expressions.Levels.{largest, then_levels, condition_levels, reference_levels}
 use Rattle.cw_sound.specs.Expressions.Readings.{is_placed}
-use Rattle.cw_sound.specs.Expressions.Regular.{all, is_regular, is_regular_condition, is_regular_reference}
+use Rattle.cw_sound.specs.Expressions.Regular.{is_regular, is_regular_reference}
 use Rattle.cw_sound.proofs.Expressions.Truth.{parts}
 use Rattle.cw_sound.proofs.Expressions.Judging.{NoFault, keeps_both, both_free}
 use Rattle.cw_sound.proofs.Expressions.Numbers.{name_small}
 use Rattle.cw_sound.specs.Ranges.Declared.{DeclarationsInRange}
 use Rattle.cw_sound.proofs.Expressions.Operands.{bits_are_part}
 use Rattle.cw_sound.specs.Statements.Levels.{element_levels, statement_levels, block_levels}
-use Rattle.cw_sound.specs.Statements.Regular.{is_regular_element, is_regular_statement, is_regular_block}
+use Rattle.cw_sound.specs.Statements.Regular.{is_regular_statement, is_regular_block}
 use Rattle.cw_sound.proofs.Statements.Keeping.{counted_keeps, whole_keeps, place_keeps}
 use Rattle.cw_sound.proofs.Statements.Parts.{Stood, halves_of, answers_as, place_fit}
 use Rattle.cw_sound.proofs.Ranged.Parts.{jump_ranged, switch_ranged, expression_ranged, test_ranged, place_ranged, call_ranged, elements_ranged}
 use Rattle.cw_sound.proofs.Ranged.Nodes.{Good, GoodRow, no_row, row_more, row_good, marked_good, conditional_good, go_good, call_statement_good, PlaceFit, put_good, put_bits_good, answer_good, repetition_good}
-use Rattle.cw_tree.specs.declared.expression.RawCond.{RawCond}
-use Rattle.cw_tree.specs.declared.statement.RawFelem.{RawFelem}
-use Rattle.cw_sound.proofs.Statements.Induction.{AllGood, no_statement, one_more, Closed, each_statement, each_block}
+use Rattle.cw_sound.proofs.Statements.Induction.{row_right, Closed, each_statement, each_block}
 
 module _ (named : Named) (numbers : Numbers) (u : SourceUnit) (who : Option ℕ) (declared : DeclarationsInRange named) where
   -- ---- simple statements
@@ -57,16 +50,9 @@ module _ (named : Named) (numbers : Numbers) (u : SourceUnit) (who : Option ℕ)
 
   -- ---- statements with parts
 
-  rows : {ss : List Stmt} {l : ℕ} → AllGood (Good u who) ss l → GoodRow u who ss l
-  rows no_statement = no_row u who
-  rows (one_more {s = s} {ss = ss} {l = l} {k = k} g gs) = row_more u who s ss l k g (rows gs)
-
-  row_right : {ss : List Stmt} {l : ℕ} → AllGood (Good u who) ss l → Good u who (row ss) l
-  row_right {ss = ss} {l = l} gs = row_good u who ss l (rows gs)
-
   closed : Closed named numbers u who (Good u who)
   closed = record {
-    row = row_right;
+    row = row_right (Good u who) (GoodRow u who) (no_row u who) (row_more u who) (row_good u who);
     marked = λ ns s l g. marked_good u who numbers ns s l g;
     conditional = λ at test a b l k ok s free ga gb. conditional_good u who at (condition_of named numbers test) a b (condition_levels test) l k (test_ranged named numbers u who declared test ok s.0 free) ga gb;
     repetition = λ at variable elems s l ok few_elements oks loop place sides calm calms g.

@@ -1,5 +1,5 @@
 -- The nodes of a unit's expressions, by what their operands are.
-use Rattle.std.proofs.Common.{◌≡◌, ℕ, ◌≤◌, max, Bool, IsTrue, ◌&&◌, nat_le, Option, refl, sym, ap, ap₂, subst, ◌∙◌}
+use Rattle.std.proofs.Common.{◌≡◌, ℕ, max, Bool, IsTrue, ◌&&◌, refl, sym, ap, ap₂, subst, ◌∙◌}
 use Rattle.cw_word.specs.Number.{Number}
 use Rattle.cw_tree.specs.declared.leaf.AddOp.{AddOp}
 use Rattle.cw_tree.specs.declared.leaf.AddOp.TheVariants as add
@@ -93,7 +93,6 @@ module _ (u : SourceUnit) where
 
   part_of_number : (e : Expr) (n : Number) → value u e ≡ ranged_value_layer u (layer.Num n) → WholePart (in_ranges u) e (whole_number n.whole)
   part_of_number e n is =
-      let w : Expr = whole_number n.whole in
       let rolled = value_rolled (layer.Num (record { whole = n.whole; digits = 0; places = 0 })) in
       record {
         natural = ap (λ (v : RangedValue). v.natural) rolled ∙ sym (ap (λ (v : RangedValue). v.natural) is);

@@ -24,10 +24,11 @@ use Rattle.cw_tree.specs.declared.statement.RawDecl.{RawDecl}
 use Rattle.cw_tree.specs.declared.statement.RawDecl.TheVariants as decl_tree
 use Rattle.cw_tree.specs.declared.statement.RawDecl.TheOpen as layer
 use Rattle.cw_grammar.specs.Tokens.{Item, position}
-use Rattle.cw_grammar.specs.Grammar.{Sort, Rule, bracketed, subscript, indexed, called, located, conditional, if_rest, else_rest, for_rest, block_rest, proc_body, Again, labelled, labelled_simple, more_elems, places}
+use Rattle.cw_grammar.specs.Grammar.{Sort, Rule, bracketed, subscript, indexed, called, located, conditional, if_rest, else_rest, for_rest, block_rest, proc_body, Again}
 use Rattle.cw_grammar.specs.Rules.{indexed_name, reference, condition, expr}
 use Rattle.cw_grammar.specs.Statements.{simple_behind, jump, block_tree, unnamed, stmt_tree, simple_stmt, with_label, simple, if_tree, for_tree, stmt, felem, proc_tree, proc_behind, worded_decl, decl, text}
 use Rattle.cw_grammar.specs.Table.{rule, again_rule}
+use Rattle.cw_grammar.proofs.Table.{each_again}
 use Rattle.cw_tokens.specs.TreeTokens as tokens
 use Rattle.cw_tokens.specs.LeastTokens.{separated}
 use Rattle.cw_tree.proofs.Statements.{of_simple}
@@ -295,10 +296,7 @@ module _ (m : ℕ) where
 
   pub again_keeps : {s : Sort} (a : Again s) → Keeps m (again_rule a)
   unfolding again_rule
-  again_keeps (labelled p) = stmt_keeps p
-  again_keeps (labelled_simple p) = simple_keeps p
-  again_keeps more_elems = tt
-  again_keeps places = tt
+  again_keeps = each_again (λ s a. Keeps m (again_rule a)) stmt_keeps simple_keeps tt tt
 
   pub text_keeps : Keeps m text
   unfolding text

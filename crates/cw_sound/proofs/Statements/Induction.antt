@@ -59,6 +59,15 @@ pub data AllGood (Good : Stmt → ℕ → Type 0) : List Stmt → ℕ → Type 0
   no_statement : AllGood Good [] 0
   one_more : {s : Stmt} {ss : List Stmt} {l k : ℕ} → Good s l → AllGood Good ss k → AllGood Good (s ∷ ss) (max l k)
 
+module _ (Good : Stmt → ℕ → Type 0) (Row : List Stmt → ℕ → Type 0) (nothing : Row [] 0) (more : (s : Stmt) (ss : List Stmt) (l k : ℕ) → Good s l → Row ss k → Row (s ∷ ss) (max l k)) where
+  all_good : {ss : List Stmt} {l : ℕ} → AllGood Good ss l → Row ss l
+  all_good no_statement = nothing
+  all_good (one_more {s = s} {ss = ss} {l = l} {k = k} g gs) = more s ss l k g (all_good gs)
+
+  -- so it is of a row, by what is so of all its statements together
+  pub row_right : ((ss : List Stmt) (l : ℕ) → Row ss l → Good (made.row ss) l) → {ss : List Stmt} {l : ℕ} → AllGood Good ss l → Good (made.row ss) l
+  row_right whole {ss = ss} {l = l} gs = whole ss l (all_good gs)
+
 -- what is so of a statement that needs so many levels, wherever it is so of its parts
 pub record Closed (named : Named) (numbers : Numbers) (u : SourceUnit) (who : Option ℕ) (Good : Stmt → ℕ → Type 0) : Type 0 where
   pub row : {ss : List Stmt} {l : ℕ} → AllGood Good ss l → Good (made.row ss) l

@@ -5,7 +5,7 @@ use Rattle.cw_tree.specs.declared.segment.RawIps.TheVariants as inner
 use Rattle.cw_tree.specs.declared.segment.RawPs.{RawPs}
 use Rattle.cw_tree.specs.declared.segment.RawPs.TheVariants as ps
 use Rattle.cw_scope.specs.Same.{same_answer, same_plain, each_same_plain, same_param, each_same}
-use Rattle.cw_safety.specs.Kinds.{same_taken, all_same_taken, same_kind, same_kinds}
+use Rattle.cw_safety.specs.Kinds.{same_taken, all_so, same_kind, same_kinds}
 use Rattle.cw_sound.specs.Uses.Stands.{kind_of_plain, taken_by_plain, kind_specified}
 
 pub both_true : (a b : Bool) → IsTrue (a && b) → IsTrue a × IsTrue b
@@ -25,13 +25,13 @@ plain_same (inner.Label a) (inner.Label b) h = (refl, refl)
 plain_same (inner.Switch a) (inner.Switch b) h = (refl, refl)
 plain_same _ _ h = absurd (cc)
 
-all_taken : (xs ys : List RawIps) → IsTrue (each_same_plain xs ys) → IsTrue (all_same_taken (map taken_by_plain xs) (map taken_by_plain ys))
+all_taken : (xs ys : List RawIps) → IsTrue (each_same_plain xs ys) → IsTrue (all_so same_taken (map taken_by_plain xs) (map taken_by_plain ys))
 all_taken [] [] h = refl
 all_taken [] (y ∷ ys) h = absurd (cc)
 all_taken (x ∷ xs) [] h = absurd (cc)
 all_taken (x ∷ xs) (y ∷ ys) h =
     let both = both_true (same_plain x y) (each_same_plain xs ys) h in
-    and_true (same_taken (taken_by_plain x) (taken_by_plain y)) (all_same_taken (map taken_by_plain xs) (map taken_by_plain ys)) (plain_same x y both.0).1 (all_taken xs ys both.1)
+    and_true (same_taken (taken_by_plain x) (taken_by_plain y)) (all_so same_taken (map taken_by_plain xs) (map taken_by_plain ys)) (plain_same x y both.0).1 (all_taken xs ys both.1)
 
 param_same : (p q : RawPs) → IsTrue (same_param p q) → IsTrue (same_kind (kind_specified p) (kind_specified q))
 param_same (ps.Plain x) (ps.Plain y) h = (plain_same x y h).0

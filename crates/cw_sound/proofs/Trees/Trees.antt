@@ -42,7 +42,7 @@ use Rattle.cw_tree.specs.declared.statement.RawParam.{RawParam}
 use Rattle.cw_tree.specs.declared.statement.RawDecl.TheOpen as shape
 use Rattle.cw_tree.specs.declared.items.RawData.{RawData}
 use Rattle.cw_tree.specs.declared.items.RawBase.{RawBase}
-use Rattle.cw_grammar.specs.Grammar.{Sort, a_pair, a_list, an_option, a_name, a_literal, a_type, an_expr, a_cond, a_cand, a_cmp, a_sum, a_term, a_differ, a_union, a_mask, a_prim, a_primary, a_ref, a_data, a_base, a_stmt, a_form, a_simple, a_felem, a_block, a_decl, a_ptag, a_param, Value}
+use Rattle.cw_grammar.specs.Grammar.{Sort, a_pair, a_list, an_option, a_name, a_literal, a_type, a_data, a_base, a_stmt, a_form, a_simple, a_felem, a_block, a_decl, a_ptag, a_param, Value}
 use Rattle.cw_grammar.specs.Trees.{extended, mask_tree, union_tree, differ_tree, term_tree, cand_tree, cond_tree, comparison_tree, sum_tree, more_terms}
 use Rattle.cw_grammar.specs.Statements.{stmt_tree, proc_tree}
 use Rattle.cw_derived.specs.Marks.{mark, Within}
@@ -54,6 +54,8 @@ use Rattle.cw_tree.proofs.Statements.{of_declaration, of_form, of_simple, of_blo
 use Rattle.cw_tokens.proofs.Passes.{Pass, cand_rolled, cmp_rolled, cond_rolled, differ_rolled, expr_rolled, mask_rolled, prim_rolled, primary_rolled, ref_rolled, sum_rolled, term_rolled, union_rolled}
 use Rattle.cw_sound.proofs.Statements.Passes.{Pass as StatementPass, rolls}
 use Rattle.cw_sound.proofs.Trees.Many.{Many, none, more, PairOf, pair, many_map, gathered, evenly, same_lengths}
+use Rattle.cw_sound.proofs.Kept.{Ask, nothing, holds as asks, Asked, of_expressions}
+use Rattle.cw_sound.proofs.Expressions.Passes.{related}
 
 -- ---- what holds of each shape of an expression
 
@@ -120,28 +122,20 @@ pub record StatementsClosed (C : Type 0) (s : Pass C) (R : ℕ → C → List �
 -- ---- so of each tree
 
 module _ (C : Type 0) (s : Pass C) (R : ℕ → C → List ℕ → Type 0) (D B : Type 0) (t : StatementPass D B) (S : ℕ → Bool → D → List ℕ → Type 0) (K : ℕ → Bool → B → List ℕ → Type 0) where
+  -- of trees that are no expressions
+  abbrev others : ℕ → Bool → List ℕ → (z : Sort) → Ask (Value z)
+  others n p a a_decl = asks (λ x. S n p (of_declaration t x) a)
+  others n p a a_form = asks (λ x. S n p (of_form t x) a)
+  others n p a a_simple = asks (λ x. S n p (of_simple t x) a)
+  others n p a a_block = asks (λ x. K n p (of_block t x) a)
+  others n p a a_stmt = asks (λ x. S n p (of_statement t x) a)
+  others n p a a_felem = asks (λ x. Element C s (R n) x a)
+  others n p a _ = nothing
+
   abbrev pub Holds : ℕ → Bool → (z : Sort) → Value z → List ℕ → Type 0
   Holds n p (a_list z) x a = Many (Value z) (λ y b. Holds n p z y b) x a
   Holds n p (a_pair z w) x a = PairOf (Value z) (Value w) (λ y b. Holds n p z y b) (λ y b. Holds n p w y b) x a
-  Holds n p an_expr x a = R n (of_expression s x) a
-  Holds n p a_primary x a = R n (of_primary s x) a
-  Holds n p a_ref x a = R n (of_reference s x) a
-  Holds n p a_cand x a = R n (of_conjunction s x) a
-  Holds n p a_cmp x a = R n (of_comparison s x) a
-  Holds n p a_cond x a = R n (of_condition s x) a
-  Holds n p a_differ x a = R n (of_differ s x) a
-  Holds n p a_mask x a = R n (of_mask s x) a
-  Holds n p a_prim x a = R n (of_prim s x) a
-  Holds n p a_sum x a = R n (of_sum s x) a
-  Holds n p a_term x a = R n (of_term s x) a
-  Holds n p a_union x a = R n (of_union s x) a
-  Holds n p a_decl x a = S n p (of_declaration t x) a
-  Holds n p a_form x a = S n p (of_form t x) a
-  Holds n p a_simple x a = S n p (of_simple t x) a
-  Holds n p a_block x a = K n p (of_block t x) a
-  Holds n p a_stmt x a = S n p (of_statement t x) a
-  Holds n p a_felem x a = Element C s (R n) x a
-  Holds n p _ x a = Unit {0}
+  Holds n p z x a = Asked (of_expressions (related s s (λ c d. R n c a)) (others n p a) z) x
 
   -- a layer of each shape
 

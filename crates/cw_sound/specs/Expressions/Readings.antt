@@ -5,14 +5,11 @@ use Rattle.cw_facts.specs.declared.fact.Reading.TheVariants as reading
 
 -- its value or its place
 abbrev pub is_evaluated : Reading → Bool
-is_evaluated reading.Value = true
-is_evaluated reading.Target = true
-is_evaluated reading.Whole = true
 is_evaluated reading.Argument = false
+is_evaluated _ = true
 
 -- its place
 abbrev pub is_placed : Reading → Bool
-is_placed reading.Value = false
 is_placed reading.Target = true
 is_placed reading.Whole = true
-is_placed reading.Argument = false
+is_placed _ = false

@@ -8,7 +8,7 @@ use Rattle.cw_facts.specs.declared.fact.Kind.{Kind as NameKind}
 use Rattle.cw_facts.specs.declared.fact.Kind.TheVariants as kind
 use Rattle.cw_facts.specs.declared.fact.Signature.{Signature}
 use Rattle.cw_scope.specs.declared.resolve.Named.{Named}
-use Rattle.cw_scope.specs.NameRules.{is_own_label, is_own_switch, is_procedure}
+use Rattle.cw_scope.specs.NameRules.{is_data, is_own_label, is_own_switch, is_procedure}
 use Rattle.cw_facts.specs.declared.fact.Form.TheVariants as form
 use Rattle.cw_facts.specs.declared.fact.Use.{Use}
 use Rattle.cw_scale.specs.Arguments.{answers_alone}
@@ -22,20 +22,21 @@ use Rattle.cw_number.specs.Numbers.{item_rows, own_number, counted, none_counted
 use Rattle.cw_make_items.specs.Lookup.{Numbers}
 use Rattle.cw_unit.specs.declared.unit.Unit.{Unit as SourceUnit}
 use Rattle.cw_sound.specs.Uses.Stands.{StandsAs, IsItem}
-use Rattle.cw_sound.specs.Uses.Mentions.{In, Mention, Here, here, declares, uses, stores, listed_mentions, block_mentions, text_mentions}
+use Rattle.cw_sound.specs.Uses.Mentions.{In, Mention, Here, here, declares, uses, stores, block_mentions, text_mentions}
 use Rattle.cw_sound.specs.Names.Found.{Refers}
 
 -- ---- sorts of declarations
 
+-- a parameter that is a word
+abbrev pub is_word_param : NameKind → Bool
+is_word_param (kind.Value t) = true
+is_word_param (kind.Location t) = true
+is_word_param (kind.ArrayParam t) = true
+is_word_param (kind.TableParam s) = true
+is_word_param _ = false
+
 abbrev pub is_item : NameKind → Bool
-is_item (kind.Single t) = true
-is_item (kind.Array t b) = true
-is_item (kind.Table s) = true
-is_item (kind.Value t) = true
-is_item (kind.Location t) = true
-is_item (kind.ArrayParam t) = true
-is_item (kind.TableParam s) = true
-is_item _ = false
+is_item k = is_data k || is_word_param k
 
 -- what is declared at a name of its own, and is no item
 abbrev pub is_other : NameKind → Bool

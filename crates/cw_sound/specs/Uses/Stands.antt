@@ -1,6 +1,6 @@
 -- What the names that a text uses stand for in its unit, body by body: where this holds of all names of a text whose types have no fault,
 -- each tree of the unit is well formed, and its orders do what it means.
-use Rattle.std.specs.Prelude.{◌≡◌, ◌⊎◌, ℕ, List, [], ◌∷◌, map, IsTrue, Option, Some, None, slice_get}
+use Rattle.std.specs.Prelude.{◌≡◌, ◌⊎◌, ℕ, List, [], ◌∷◌, map, IsTrue, Option, Some, slice_get}
 use Rattle.cw_table.specs.Rows.{item_at}
 use Rattle.cw_tree.specs.declared.leaf.RawName.{RawName}
 use Rattle.cw_tree.specs.declared.leaf.RawSize.{RawSize}
@@ -12,7 +12,6 @@ use Rattle.cw_tree.specs.declared.segment.RawPs.TheVariants as ps
 use Rattle.cw_facts.specs.declared.fact.Fact.{Fact}
 use Rattle.cw_facts.specs.declared.fact.Kind.{Kind as NameKind}
 use Rattle.cw_facts.specs.declared.fact.Kind.TheVariants as kind
-use Rattle.cw_facts.specs.declared.fact.Signature.{Signature}
 use Rattle.cw_facts.specs.declared.fact.Use.{Use}
 use Rattle.cw_scope.specs.declared.resolve.Named.{Named}
 use Rattle.cw_facts.specs.Signatures.{plain}
@@ -29,7 +28,7 @@ use Rattle.cw_unit.specs.Program.{definition_of}
 use Rattle.cw_unit.specs.Scales.{answer_scale}
 use Rattle.cw_unit.specs.Configuration.{procedure_at}
 use Rattle.cw_unit.specs.Step.{label_of_goal, switch_of_def, procedure_of_def}
-use Rattle.cw_safety.specs.Kinds.{Kind, WordKind, LabelKind, SwitchKind, ProcedureKind, Taken, TakesWord, TakesLabel, TakesSwitch, parameter_kinds}
+use Rattle.cw_safety.specs.Kinds.{Kind, WordKind, LabelKind, SwitchKind, ProcedureKind, Taken, taken_of, parameter_kinds}
 use Rattle.cw_safety.specs.WellFormed.{reaches, reaches_switch, controls_of, procedure_of_place}
 use Rattle.cw_gen_expr.specs.NamedItems.{has_words}
 use Rattle.cw_built.specs.Built.{alone, at_work}
@@ -43,9 +42,7 @@ kind_of_plain (inner.Switch at) = SwitchKind
 kind_of_plain _ = WordKind
 
 abbrev pub taken_by_plain : RawIps → Taken
-taken_by_plain (inner.Label at) = TakesLabel
-taken_by_plain (inner.Switch at) = TakesSwitch
-taken_by_plain _ = TakesWord
+taken_by_plain p = taken_of (kind_of_plain p)
 
 abbrev pub kind_specified : RawPs → Kind
 kind_specified (ps.Plain p) = kind_of_plain p

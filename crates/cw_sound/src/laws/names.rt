@@ -2,19 +2,14 @@
 ghost use Rattle.std.specs.Prelude.{◌≡◌, true, None, IsTrue};
 ghost use Rattle.std.specs.declared.result.Result.TheVariants as results;
 ghost use Rattle.cw_facts.specs.Facts.{block_facts};
-ghost use Rattle.cw_scope.specs.declared.resolve.Named.{Named};
-ghost use Rattle.cw_scope.specs.Outcome.{Resolves};
-ghost use Rattle.cw_scope.specs.NameRules.{is_own_label, is_own_switch};
+ghost use Rattle.cw_scope.specs.{declared.resolve.Named.Named, Outcome.Resolves, NameRules.is_own_label, NameRules.is_own_switch};
 ghost use Rattle.cw_judge.specs.Judged.{first_type_fault};
 ghost use Rattle.cw_number.specs.Numbers.{numbers_of};
 ghost use Rattle.cw_make.specs.Made.{unit_of};
 ghost use Rattle.cw_built.specs.Listed.{are_named};
-ghost use Rattle.cw_sound.specs.Uses.Stands.{FactsStand};
-ghost use Rattle.cw_sound.specs.Uses.Mentions.{listed_mentions, block_mentions, text_mentions};
-ghost use Rattle.cw_sound.specs.Names.Placed.{Placed};
-ghost use Rattle.cw_sound.specs.Names.Found.{UsesFound};
-ghost use Rattle.cw_sound.specs.Names.Faultless.{WhereItemsStand};
-ghost use Rattle.cw_sound.specs.Names.Standing.{AnswersAreCalled, AnswersFit, CountsOwn, FewParameters, Stand, ItemsStand, is_element, is_own_procedure};
+ghost use Rattle.cw_sound.specs.{Uses.Stands.FactsStand, Uses.Mentions.listed_mentions, Uses.Mentions.block_mentions, Uses.Mentions.text_mentions, Names.Placed.Placed};
+ghost use Rattle.cw_sound.specs.{Names.Found.UsesFound, Names.Faultless.WhereItemsStand, Names.Standing.AnswersAreCalled, Names.Standing.AnswersFit, Names.Standing.CountsOwn};
+ghost use Rattle.cw_sound.specs.Names.Standing.{FewParameters, Stand, ItemsStand, is_element, is_own_procedure};
 ghost use Rattle.cw_sound.specs.Names.Standing.{is_control, is_built_in, is_common};
 ghost use Rattle.cw_tokens.specs.SetLabels.{LabelsStand};
 

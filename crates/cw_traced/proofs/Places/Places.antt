@@ -29,7 +29,7 @@ use Rattle.cw_trace.specs.Statements.{places_of}
 use Rattle.cw_watch.specs.Watching.{places_at, segment_places, stop_places}
 use Rattle.cw_watch.specs.Watching as watching
 use Rattle.cw_traced.specs.Places.Reported.{IsNamed}
-use Rattle.cw_traced.proofs.Places.Told.{ObjectLaws, IsTold, all-told}
+use Rattle.cw_traced.proofs.Places.Told.{IsTold, AreTold, all-told}
 use Rattle.cw_traced.proofs.Places.Named.{named-alone}
 
 -- ---- by units
@@ -141,11 +141,11 @@ module _ (us : List SourceUnit) (limits : Limits) (segment line : ℕ) (name : L
 
 -- ---- the laws
 
-module _ (laws : ObjectLaws) where
+module _ (units_told : AreTold) where
   pub places-told : (us : List SourceUnit) (limits : Limits) (segment : ℕ) (stop : Stop) → All IsCompilable us → Links us limits → IsNamed us segment stop.segment
       → stop_places stop (map object_of us) ≡ places_of segment stop.line (image_places us (storage_map us) limits)
   places-told us limits segment stop compiled links (k, u, at, number, name) =
-      let told = all-told laws us compiled in
+      let told = all-told units_told us compiled in
       of-objects (length library_bytes) stop.segment stop.line us told
       ∙ of-rest us limits segment stop.line stop.segment
       (λ g v there. ap (is_same_name v.name) (sym name) ∙ named-alone us limits links k u at g v there ∙ ap (λ n. g + 1 == n) (sym number))
@@ -153,7 +153,7 @@ module _ (laws : ObjectLaws) where
 
   pub some-unit : (us : List SourceUnit) (stop : Stop) → All IsCompilable us → 0 < length (stop_places stop (map object_of us)) → (segment : ℕ) × IsNamed us segment stop.segment
   some-unit us stop compiled some =
-      let told = all-told laws us compiled in
+      let told = all-told units_told us compiled in
       let (k, u, at, name) = some-named (length library_bytes) stop.segment stop.line us (by-units told) in
       (k + 1, (k, u, at, refl, name))
     where

@@ -1,25 +1,18 @@
 //! Laws of what a watched run of the image of units reports, each the contract of a function that does nothing.
 ghost use Rattle.std.specs.Prelude.{◌≡◌, ◌≢◌, ◌<◌, ◌≤◌, ℕ, List, [], length, map, All, Ok, nat_eq};
 ghost use Rattle.std.specs.List.{IsDistinct};
-ghost use Rattle.cw_i86.specs.State.{State};
-ghost use Rattle.cw_i86.specs.MachineRun.{Event, Observed, IsStart, FitsInput, Shows};
-ghost use Rattle.cw_unit.specs.declared.unit.Unit.{Unit as SourceUnit};
-ghost use Rattle.cw_unit.specs.declared.layout.Limits.{Limits};
-ghost use Rattle.cw_unit.specs.Allocation.{storage_map};
+ghost use Rattle.cw_i86.specs.{State.State, MachineRun.Event, MachineRun.Observed, MachineRun.IsStart, MachineRun.FitsInput, MachineRun.Shows};
+ghost use Rattle.cw_unit.specs.{declared.unit.Unit.Unit as SourceUnit, declared.layout.Limits.Limits, Allocation.storage_map};
 ghost use Rattle.cw_view.specs.Reading.{statement_in};
 ghost use Rattle.cw_place.specs.Placement.{IsLimits};
 ghost use Rattle.cw_link.specs.Contents.{values_in};
 ghost use Rattle.cw_object.specs.ObjectContents.{payloads_of};
-ghost use Rattle.cw_traced.specs.Lines.Lines.{unit_lines};
-ghost use Rattle.cw_build.specs.Compiled.{IsCompilable, object_of};
-ghost use Rattle.cw_build.specs.Linking.{Links, image_of};
+ghost use Rattle.cw_traced.specs.{Lines.Lines.unit_lines, Places.Reported.MeansInUnits, Places.Reported.IsNamed, Places.Reported.ReportsUnits};
+ghost use Rattle.cw_build.specs.{Compiled.IsCompilable, Compiled.object_of, Linking.Links, Linking.image_of};
 ghost use Rattle.cw_sim.specs.Statements.{image_places};
 ghost use Rattle.cw_stop.specs.declared.stopping.Stop.{Stop};
-ghost use Rattle.cw_trace.specs.Reports.{Reports};
-ghost use Rattle.cw_trace.specs.Statements.{places_of};
-ghost use Rattle.cw_trace.specs.declared.watch.Watch.{Watch};
+ghost use Rattle.cw_trace.specs.{Reports.Reports, Statements.places_of, declared.watch.Watch.Watch};
 ghost use Rattle.cw_watch.specs.Watching.{stop_places};
-ghost use Rattle.cw_traced.specs.Places.Reported.{MeansInUnits, IsNamed, ReportsUnits};
 
 use crate::laws::lines::lines_of_code;
 use cw_build_laws::laws::images::loaded;

@@ -28,7 +28,7 @@ use Rattle.cw_safety.specs.Kinds.{Kind, LabelKind, SwitchKind, WordKind, procedu
 use Rattle.cw_safety.specs.WellFormed as formed
 use Rattle.cw_safety.specs.WellFormed.{kind_if, kind_and, kinds_of, takes_arguments, reaches, reaches_switch, procedure_of_place, is_call, kind_of, is_expression, is_condition, is_reference}
 use Rattle.cw_safety.proofs.Expanding.{kinds, arg_kinds, cond_kinds, spot_kinds, formed-expression, formed-argument, formed-condition, formed-spot, formed-reference}
-use Rattle.cw_gen_expr.specs.Pieces.{Piece, plain, followed_by, sequence, with_end}
+use Rattle.cw_gen_expr.specs.Pieces.{Piece, plain, followed_by, sequence}
 use Rattle.cw_gen_expr.specs.NamedItems.{has_words}
 use Rattle.cw_gen_expr.specs.BuiltExpressions as built
 use Rattle.cw_gen_expr.specs.BuiltExpressions.{most_levels, within, whole, all_built, built_value, built_reference, is_argument}
@@ -39,7 +39,7 @@ use Rattle.cw_gen_expr.proofs.Layers.{value_layer, computed_layer, known_layer, 
 use Rattle.cw_gen_unit.specs.ReferenceStatements.{parted_piece}
 use Rattle.cw_built.specs.Listed.{are_named}
 use Rattle.cw_built.specs.Built.{alone}
-use Rattle.cw_writable.proofs.Coded.Fine.{no, both, parts}
+use Rattle.cw_writable.proofs.Coded.Fine.{no, both, parts, parted_kept}
 use Rattle.cw_writable.proofs.Back.Fit.{names_well, Good, plainly, both_good, ended_good, passed}
 use Rattle.cw_writable.proofs.Back.Names.{item-named, table-named, listed}
 
@@ -119,11 +119,7 @@ module _ (u : SourceUnit) (stored : IsStorable u) (few : length u.items ≤ 6553
     -- ---- trees
 
     pub parted_good : (c : ConditionPiece) (between : ℕ → List Order) (a b : Piece) → ((when : Bool) (mark : ℕ) → Fine (c when mark)) → ((end : ℕ) → IsTrue (list_all Names (between end))) → Fine a → Fine b → Fine (parted_piece c between a b)
-    parted_good c between a b hc well ha hb =
-        ended_good (λ end. followed_by (with_end (λ other. followed_by (c false other) (followed_by a (plain (between end))))) b)
-        (λ end. both_good
-        (ended_good (λ other. followed_by (c false other) (followed_by a (plain (between end)))) (λ other. both_good (hc false other) (both_good ha (plainly (between end) (well end)))))
-        hb)
+    parted_good c between a b hc well ha hb = parted_kept Fine ended_good (λ x y. both_good) c between a b hc (λ end. plainly (between end) (well end)) ha hb
 
     known_good : (k : Option ℤ) (p : Piece) → Fine p → Fine (known_or k p)
     known_good (Some z) p h = plainly (number_order (unsigned z) ∷ []) refl

@@ -1,5 +1,5 @@
 -- Places in the code of a unit: where statements begin, and where what is defined begins.
-use Rattle.std.proofs.Common.{◌≡◌, ℕ, zero, suc, ◌+◌, ◌<◌, ◌≤◌, nat_eq, nat_le, nat_lt, List, [], ◌∷◌, ◌++◌, map, length, Bool, true, false, IsTrue, ◌&&◌, ◌||◌, if◌then◌else◌, ℤ, Option, Some, None, slice_get, slice_index, refl, sym, ap, ◌∙◌, subst, arith, length-append, drop}
+use Rattle.std.proofs.Common.{◌≡◌, ℕ, zero, suc, ◌+◌, ◌<◌, ◌≤◌, nat_eq, nat_le, nat_lt, List, [], ◌∷◌, ◌++◌, map, length, Bool, true, false, IsTrue, ◌&&◌, ◌||◌, if◌then◌else◌, ℤ, Option, Some, None, slice_get, slice_index, refl, sym, ap, ◌∙◌, subst, arith, drop}
 use Rattle.std.proofs.lemmas.Bool.{eqb-true}
 use Rattle.std.proofs.lemmas.Option.{slice_get_within}
 use Rattle.std.specs.List.{list_all}
@@ -30,20 +30,18 @@ use Rattle.cw_tmpl.specs.declared.blocks.Use.{Use}
 use Rattle.cw_tmpl.specs.declared.blocks.Use.TheVariants as uses
 use Rattle.cw_tmpl.specs.declared.blocks.Block.{Block}
 use Rattle.cw_tmpl.specs.declared.blocks.Block.TheVariants as block
-use Rattle.cw_tmpl.specs.Pieces.{blanks}
 use Rattle.cw_tmpl.specs.Names.{Reach, mark_place, landing_start, has_landing, landing_bytes, switch_bytes, place_of_one}
 use Rattle.cw_tmpl.specs.Named.{is_named_label, is_named_switch}
 use Rattle.cw_tmpl.specs.Blocks.{address_orders, element_orders, operand_orders, order_of, count_order, block_at, orders_left, bounds_orders, form_order, column_orders, orders_in_row, orders_to_row, row_order}
 use Rattle.cw_tmpl.proofs.Shapes.{IsBlock, shape}
 use Rattle.cw_tmpl.specs.Mnemonics.{ax, at_si, load}
-use Rattle.cw_tmpl.specs.Templates.{block_size, entry_pieces}
+use Rattle.cw_tmpl.specs.Templates.{block_size}
 use Rattle.cw_tmpl.specs.ShortForms.{is_short, saved}
 use Rattle.cw_tmpl.specs.Sizes.{listed_size}
-use Rattle.cw_tmpl.specs.ReferenceCode.{templates, landings, switches, entry_size, reach_of, order_places, switch_places, landings_place, switches_place, names_of, mark_starts, label_starts, statement_at, statements_from, orders_code, landing_places, landing_sizes, routine_sizes}
-use Rattle.cw_tmpl.proofs.Growing.{blanks-append}
+use Rattle.cw_tmpl.specs.ReferenceCode.{switches, entry_size, reach_of, order_places, switch_places, landings_place, switches_place, names_of, mark_starts, label_starts, statement_at, statements_from, orders_code, landing_places, landing_sizes, routine_sizes}
 use Rattle.cw_tmpl.proofs.Endings.{saves}
 use Rattle.cw_tmpl.proofs.Sizes.{listed as size_alone, element_at_long, size_by, size_to, places_are, mark_start, size_of_templates, landings_at}
-use Rattle.cw_tmpl.proofs.Ways.{size_of_landings, size_of_switches}
+use Rattle.cw_tmpl.proofs.Ways.{parts_long, size_of_landings, size_of_switches}
 use Rattle.cw_obj.specs.ReferenceObject.{definition_of, definition_place}
 use Rattle.cw_object.specs.Fits.{is_word, is_long, fits_definition, fits_statement}
 use Rattle.cw_object.specs.IsWritable.{is_defined, are_defined, is_begun, are_begun}
@@ -334,13 +332,7 @@ module _ (o : Orders) where
   pub code-long : Whole ≡ entry_size + (size-to (reach_of o) 0 0 o.list (length o.list) + (landing_sizes (is_named_label o) 0 o.labels + routine_sizes (is_named_switch o) 0 o.switches))
   code-long =
       let N = names_of o in
-      let T = templates N entry_size 0 0 o.list in
-      let L = landings N (is_named_label o) (landings_place o) 0 o.labels in
-      let S = switches N (is_named_switch o) (switches_place o) 0 o.switches in
-      let first = ap length (blanks-append entry_pieces (T ++ (L ++ S))) ∙ length-append (blanks entry_pieces) (blanks (T ++ (L ++ S))) in
-      let second = ap length (blanks-append T (L ++ S)) ∙ length-append (blanks T) (blanks (L ++ S)) in
-      let third = ap length (blanks-append L S) ∙ length-append (blanks L) (blanks S) in
-      omega (arith, first, second, third, size_of_templates N entry_size 0 0 o.list, size_of_landings N (is_named_label o) (landings_place o) 0 o.labels, size_of_switches N (is_named_switch o) (switches_place o) 0 o.switches)
+      omega (arith, parts_long o, size_of_templates N entry_size 0 0 o.list, size_of_landings N (is_named_label o) (landings_place o) 0 o.labels, size_of_switches N (is_named_switch o) (switches_place o) 0 o.switches)
 
   pub statements : (n : ℕ) (fs : List Family) → Whole ≤ 2097120 → Fit n fs o.list → AreBegun o.list → IsTrue (list_all has_code o.list) → IsTrue (are_begun Whole 0 (orders_code o).statements)
   statements n fs small fit begin coded =

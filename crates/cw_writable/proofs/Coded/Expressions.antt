@@ -16,7 +16,7 @@ use Rattle.cw_unit.specs.declared.unit.Expr.{Expr, Expr-F, out-Expr}
 use Rattle.cw_unit.specs.declared.unit.Arg.TheOpen as layer
 use Rattle.cw_unit.specs.declared.unit.Arg.TheOpen.{Arg-F, Cond-F, Spot-F}
 use Rattle.cw_unit.specs.Scales.{answer_scale}
-use Rattle.cw_gen_expr.specs.Pieces.{Piece, plain, followed_by, sequence, with_end}
+use Rattle.cw_gen_expr.specs.Pieces.{Piece, plain, followed_by, sequence}
 use Rattle.cw_gen_expr.specs.ReferenceExpressions.{Scope, saved, two_values, Value, ConditionPiece, argument_words, control_place, item_order, item_span, row_order, table_span, table_orders, bounds_orders, load_orders, rescale_orders, logic_order, narrow, number_order, known_or, named_or, comparator_for, pick_mark, call_order, label_order, value_of, condition_piece, argument_piece, reference_of, expression_piece}
 use Rattle.cw_gen_expr.specs.KnownValues.{all_inside}
 use Rattle.cw_gen_expr.proofs.Layers.{value_layer, computed_layer, known_layer, value-made, argument_layer, argument-made, spot_layer, indexed_layer, word_item, word_layer, spot-made, reference-made, condition_layer, condition-made, total, expression_size, expression-size, expression_size_layer, argument_size, argument-size, argument_size_layer, spot-size, spot_size_layer, reference_size, reference-size, condition_size, condition-size, condition_size_layer}
@@ -24,16 +24,12 @@ use Rattle.cw_gen_unit.specs.ReferenceStatements.{parted_piece}
 use Rattle.cw_built.specs.Coded.{is_part, has_code}
 use Rattle.cw_writable.specs.Coded.RangedExpressions.{RangedValue, all_ranged, is_field, are_bounds, in_range, can_divide, ranged_value, is_ranged_condition, is_ranged_argument, ranged_reference, is_ranged_spot, is_ranged_expression}
 use Rattle.cw_writable.specs.Coded.RangedUnits.{is_line}
-use Rattle.cw_writable.proofs.Coded.Fine.{both, parts, passed, Good, plainly, both_good, ended_good}
+use Rattle.cw_writable.proofs.Coded.Fine.{both, parts, passed, Good, plainly, both_good, ended_good, parted_kept}
 use Rattle.cw_writable.proofs.Coded.Numbers.{lined, row-lined, first, first_by, item-first, saved-item, saved-table, bounds-coded, load-coded, rescale-coded, logic-coded, product-coded, quotient-coded, index-fits, control-coded, call-coded, label-coded}
 use Rattle.cw_writable.proofs.Coded.RangedLayers.{ranged_value_layer, value-ranged, ranged_argument_layer, argument-ranged, ranged_spot_layer, spot-ranged, reference-ranged, ranged_condition_layer, condition-ranged}
 
 pub parted_good : (c : ConditionPiece) (between : ℕ → List Order) (a b : Piece) → ((when : Bool) (mark : ℕ) → Good (c when mark)) → ((end : ℕ) → IsTrue (list_all has_code (between end))) → Good a → Good b → Good (parted_piece c between a b)
-parted_good c between a b hc coded ha hb =
-    ended_good (λ end. followed_by (with_end (λ other. followed_by (c false other) (followed_by a (plain (between end))))) b)
-    (λ end. both_good
-    (ended_good (λ other. followed_by (c false other) (followed_by a (plain (between end)))) (λ other. both_good (hc false other) (both_good ha (plainly (between end) (coded end)))))
-    hb)
+parted_good c between a b hc coded ha hb = parted_kept Good ended_good (λ x y. both_good) c between a b hc (λ end. plainly (between end) (coded end)) ha hb
 
 -- ---- scales
 

@@ -5,6 +5,8 @@ use Rattle.std.specs.List.{list_all}
 use Rattle.cw_order.specs.declared.order.Order.{Order}
 use Rattle.cw_order.specs.declared.order.Order.TheVariants as order
 use Rattle.cw_gen_expr.specs.Pieces.{Piece, MarkedOrders, plain, followed_by, with_end, with_labels}
+use Rattle.cw_gen_expr.specs.ReferenceExpressions.{ConditionPiece}
+use Rattle.cw_gen_unit.specs.ReferenceStatements.{parted_piece}
 use Rattle.cw_built.specs.Coded.{has_code, is_landing}
 
 -- ---- tests
@@ -118,6 +120,16 @@ both_good {a = a} {b = b} h k = record {
 
 pub ended_good : (body : ℕ → Piece) → ((mark : ℕ) → Good (body mark)) → Good (with_end body)
 ended_good body h = record { at = λ place next. fine-ended place (body next place (next + 1)) ((h next).at place (next + 1)) }
+
+-- what is kept by pieces one behind another and by a mark at their end is so of two pieces of which a condition tells one
+pub parted_kept : (Kept : Piece → Type 0) → ((body : ℕ → Piece) → ((mark : ℕ) → Kept (body mark)) → Kept (with_end body)) → ((a b : Piece) → Kept a → Kept b → Kept (followed_by a b))
+    → (c : ConditionPiece) (between : ℕ → List Order) (a b : Piece) → ((when : Bool) (mark : ℕ) → Kept (c when mark)) → ((end : ℕ) → Kept (plain (between end))) → Kept a → Kept b → Kept (parted_piece c between a b)
+parted_kept Kept ended behind c between a b hc jumps ha hb =
+    ended (λ end. followed_by (with_end (other end)) b)
+    (λ end. behind (with_end (other end)) b (ended (other end) (λ mark. behind (c false mark) (followed_by a (plain (between end))) (hc false mark) (behind a (plain (between end)) ha (jumps end)))) hb)
+  where
+    other : (end mark : ℕ) → Piece
+    other end mark = followed_by (c false mark) (followed_by a (plain (between end)))
 
 labels-stand : (ls : List ℕ) (place : ℕ) → AllStand is_landing (order.Mark ∷ []) place (places (map (λ l. (l, place)) ls))
 labels-stand [] place = tt

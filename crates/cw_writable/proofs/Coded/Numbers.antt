@@ -109,33 +109,28 @@ logic-coded logic.Differ = refl
 
 -- ---- products and quotients
 
-module _ (line : ℕ) where
-  product-up : (b : Bool) (n : ℕ) → n ≤ 15 → IsTrue (has_numbers (order.Mul (if b then pos n else pos 0) line))
-  product-up true n h = le_true n 15 h
-  product-up false n h = refl
+-- a number, or none in its place
+either-way : (P : ℤ → Type 0) (z : ℤ) → P z → P (pos 0) → (b : Bool) → P (if b then z else pos 0)
+either-way P z h none true = h
+either-way P z h none false = none
 
-  product-down : (b : Bool) (n : ℕ) → n < 30 → IsTrue (has_numbers (order.Mul (if b then negsuc n else pos 0) line))
-  product-down true n h = lt_true n 30 h
-  product-down false n h = refl
+module _ (line : ℕ) where
+  product : (z : ℤ) → IsTrue (has_numbers (order.Mul z line)) → (b : Bool) → IsTrue (has_numbers (order.Mul (if b then z else pos 0) line))
+  product z h = either-way (λ z. IsTrue (has_numbers (order.Mul z line))) z h refl
 
   product-by : (z : ℤ) (f g : ℕ) → pos f -ℤ pos g ≡ z → f ≤ 15 → g ≤ 30 → IsTrue (has_numbers (order.Mul (narrow z) line))
-  product-by (pos n) f g e hf hg = product-up (nat_lt n 128) n (let z : n ≤ 15 = omega (arith, ints, e, hf, hg) in z)
-  product-by (negsuc n) f g e hf hg = product-down (nat_lt n 128) n (let z : n < 30 = omega (arith, ints, e, hf, hg) in z)
+  product-by (pos n) f g e hf hg = product (pos n) (le_true n 15 (let z : n ≤ 15 = omega (arith, ints, e, hf, hg) in z)) (nat_lt n 128)
+  product-by (negsuc n) f g e hf hg = product (negsuc n) (lt_true n 30 (let z : n < 30 = omega (arith, ints, e, hf, hg) in z)) (nat_lt n 128)
 
   pub product-coded : (f a b : ℕ) → f ≤ 15 → a ≤ 15 → b ≤ 15 → IsTrue (has_numbers (order.Mul (narrow (pos f -ℤ pos (a + b))) line))
   product-coded f a b hf ha hb = product-by (pos f -ℤ pos (a + b)) f (a + b) refl hf (let z : a + b ≤ 30 = omega (arith, ha, hb) in z)
 
-  quotient-up : (b : Bool) (n : ℕ) → n ≤ 16 → IsTrue (has_numbers (order.Div (if b then pos n else pos 0) line))
-  quotient-up true n h = le_true n 16 h
-  quotient-up false n h = refl
-
-  quotient-down : (b : Bool) (n : ℕ) → n < 15 → IsTrue (has_numbers (order.Div (if b then negsuc n else pos 0) line))
-  quotient-down true n h = lt_true n 15 h
-  quotient-down false n h = refl
+  quotient : (z : ℤ) → IsTrue (has_numbers (order.Div z line)) → (b : Bool) → IsTrue (has_numbers (order.Div (if b then z else pos 0) line))
+  quotient z h = either-way (λ z. IsTrue (has_numbers (order.Div z line))) z h refl
 
   quotient-by : (z : ℤ) (f g : ℕ) → pos f -ℤ pos g ≡ z → g ≤ f + 15 → f ≤ g + 16 → IsTrue (has_numbers (order.Div (narrow z) line))
-  quotient-by (pos n) f g e hf hg = quotient-up (nat_lt n 128) n (let z : n ≤ 16 = omega (arith, ints, e, hf, hg) in z)
-  quotient-by (negsuc n) f g e hf hg = quotient-down (nat_lt n 128) n (let z : n < 15 = omega (arith, ints, e, hf, hg) in z)
+  quotient-by (pos n) f g e hf hg = quotient (pos n) (le_true n 16 (let z : n ≤ 16 = omega (arith, ints, e, hf, hg) in z)) (nat_lt n 128)
+  quotient-by (negsuc n) f g e hf hg = quotient (negsuc n) (lt_true n 15 (let z : n < 15 = omega (arith, ints, e, hf, hg) in z)) (nat_lt n 128)
 
   pub quotient-coded : (f a b : ℕ) → IsTrue (can_divide f a b) → IsTrue (has_numbers (order.Div (narrow (pos (f + b) -ℤ pos a)) line))
   quotient-coded f a b h =

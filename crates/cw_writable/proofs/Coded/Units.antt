@@ -224,25 +224,30 @@ switches-few [] h = refl
 switches-few (s ∷ ss) h = let p = parts (has_few s.list) (list_all (λ (s : Switch). has_few s.list) ss) h in both (has_few s.list) (list_all has_few (switch_lists ss)) p.0 (switches-few ss p.1)
 
 module _ (u : SourceUnit) where
+  -- the place and the mark behind the body
+  abbrev body_end : ℕ
+  body_end = 0 + length (body_piece u 0 (first_mark u)).orders
+
+  abbrev body_marks : ℕ
+  body_marks = first_mark u + length (body_piece u 0 (first_mark u)).marks
+
   pub entries : IsTrue (list_all (is_entry (unit_orders u).list (unit_orders u).marks) (unit_orders u).procedures)
   entries =
       let n = first_mark u in
       let b = body_piece u 0 n in
-      let place = 0 + length b.orders in
-      let next = n + length b.marks in
       let x = unit_piece u 0 n in
-      let y = procedures_piece u 0 u.procs place next in
-      let labels = label_places 0 u.labels b.labels (procedure_labels u 0 u.procs place next) in
-      let es = entries_of u 0 u.procs place next in
+      let y = procedures_piece u 0 u.procs body_end body_marks in
+      let labels = label_places 0 u.labels b.labels (procedure_labels u 0 u.procs body_end body_marks) in
+      let es = entries_of u 0 u.procs body_end body_marks in
       let ds = definition_places labels es u.defined in
       entries-listed x.orders u (unit_orders u).marks x.marks 0 u.procs es
-      (all-behind is_enter b.orders y.orders 0 es (entries-stand u 0 u.procs place next)) (entries-long u 0 u.procs place next)
+      (all-behind is_enter b.orders y.orders 0 es (entries-stand u 0 u.procs body_end body_marks)) (entries-long u 0 u.procs body_end body_marks)
       (λ k.
       let e : 0 + k ≡ k = omega arith in
       ap (λ j. slice_get (unit_orders u).marks (procedure_mark u j)) e
       ∙ ap (λ j. slice_get (unit_orders u).marks (j + (length u.labels + k))) (sym (definitions-long labels es u.defined))
       ∙ get-behind ds (labels ++ (es ++ x.marks)) (length u.labels + k)
-      ∙ ap (λ j. slice_get (labels ++ (es ++ x.marks)) (j + k)) (sym (labels-long 0 u.labels b.labels (procedure_labels u 0 u.procs place next)))
+      ∙ ap (λ j. slice_get (labels ++ (es ++ x.marks)) (j + k)) (sym (labels-long 0 u.labels b.labels (procedure_labels u 0 u.procs body_end body_marks)))
       ∙ get-behind labels (es ++ x.marks) k)
 
   marks-stand : Good (body_piece u) → ((place next : ℕ) → AllLists u (procedures_piece u 0 u.procs place next).orders place (procedure_labels u 0 u.procs place next)) → Good (unit_piece u)
@@ -250,18 +255,16 @@ module _ (u : SourceUnit) where
   marks-stand body lists whole =
       let n = first_mark u in
       let b = body_piece u 0 n in
-      let place = 0 + length b.orders in
-      let next = n + length b.marks in
       let x = unit_piece u 0 n in
-      let y = procedures_piece u 0 u.procs place next in
-      let lss = procedure_labels u 0 u.procs place next in
+      let y = procedures_piece u 0 u.procs body_end body_marks in
+      let lss = procedure_labels u 0 u.procs body_end body_marks in
       let labels = label_places 0 u.labels b.labels lss in
-      let es = entries_of u 0 u.procs place next in
+      let es = entries_of u 0 u.procs body_end body_marks in
       let ds = definition_places labels es u.defined in
       let in-body = stand-marks x.orders (places b.labels) (all-before is_landing b.orders y.orders 0 (places b.labels) (body.at 0 n).labels) in
-      let in-procedures = lists-marked x.orders u lss (lists-behind u b.orders y.orders 0 lss (lists place next)) in
+      let in-procedures = lists-marked x.orders u lss (lists-behind u b.orders y.orders 0 lss (lists body_end body_marks)) in
       let l = label-marks x.orders 0 u.labels b.labels lss in-body in-procedures in
-      let e = stand-marks x.orders es (entries-land x.orders 0 es (all-behind is_enter b.orders y.orders 0 es (entries-stand u 0 u.procs place next))) in
+      let e = stand-marks x.orders es (entries-land x.orders 0 es (all-behind is_enter b.orders y.orders 0 es (entries-stand u 0 u.procs body_end body_marks))) in
       let d = definition-marks x.orders labels es l e u.defined in
       let m = stand-marks x.orders x.marks (whole.at 0 n).marks in
       marks-both x.orders ds (labels ++ (es ++ x.marks)) d (marks-both x.orders labels (es ++ x.marks) l (marks-both x.orders es x.marks e m))

@@ -67,14 +67,7 @@ abbrev pub argument_step : Arg-F Bool Bool RangedValue Bool RangedReference → 
 argument_step (layer.Value e f) = in_range e f
 argument_step (layer.Place r) = r.good
 argument_step (layer.Array i l) = fits_word l
-argument_step (layer.Same i) = true
-argument_step (layer.Base i) = true
-argument_step (layer.Goal g) = true
-argument_step (layer.Switch n) = true
-argument_step (layer.CommonSwitch d) = true
-argument_step (layer.Proc q) = true
-argument_step (layer.CommonProc d) = true
-argument_step (layer.Special k) = true
+argument_step _ = true
 
 abbrev pub condition_step : Cond-F Bool Bool RangedValue Bool RangedReference → Bool
 condition_step (layer.Cmp op a b) = let f = max a.natural b.natural in in_range a f && in_range b f

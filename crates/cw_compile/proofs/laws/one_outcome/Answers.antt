@@ -3,12 +3,8 @@ use Rattle.cw_compile.proofs.laws.one_outcome.Goals as goal
 
 pub returns : goal.returns
 returns c =
-    let given : Given = record {
-      one_list = c.lexical_structure.ensures.one_list;
-      one_fault = c.lexical_structure.ensures.one_fault;
-      not_both = c.lexical_structure.ensures.not_both;
-      one_outcome = c.macro_expansion.ensures;
-    } in
+    let laws = c.lexical_structure.ensures in
+    let given : Given = record { one_list = laws.one_list; one_fault = laws.one_fault; not_both = laws.not_both; one_outcome = c.macro_expansion.ensures } in
     record {
       one_unit = has_one_unit given;
       one_refusal = has_one_refusal given;

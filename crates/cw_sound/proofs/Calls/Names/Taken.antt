@@ -128,10 +128,9 @@ module _ (numbers : Numbers) where
   one_param (raw.Value at t ns) = values at t ns ns
   one_param (raw.Location at t ns) = locations at t ns ns
   one_param (raw.Array t ns) = arrays t ns ns
-  one_param (raw.Table t) = refl
   one_param (raw.Label at ns) = labels at ns ns
   one_param (raw.Switch at ns) = switches at ns ns
-  one_param (raw.Proc answer at n qs) = refl
+  one_param _ = refl
 
   all_params : (params : List RawParam) → map taken_by (params_of numbers params) ≡ each_taken (flattened params)
   all_params [] = refl

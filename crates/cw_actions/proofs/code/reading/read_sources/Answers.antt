@@ -1,4 +1,4 @@
-use Rattle.std.proofs.Common.{◌≡◌, ◌∙◌, ℕ, ◌+◌, List, [], length, refl, ap, sym, arith, Bor, slice_get}
+use Rattle.std.proofs.Common.{◌≡◌, ◌∙◌, ℕ, ◌+◌, List, length, refl, ap, sym, arith, slice_get}
 use Rattle.cw_io.specs.File.{Told}
 use Rattle.cw_unit.specs.declared.unit.Unit.{Unit as SourceUnit}
 use Rattle.cw_files.specs.Reading.{counts_at}
@@ -21,8 +21,7 @@ pub loop-name-preserved : goal.loop-name-preserved
 loop-name-preserved g c =
     let so_far = c.loop-name.invariant in
     let told : List Told = told_of (g.F.Store.file c.args.files.now) c.args.names.now in
-    let none : Bor (List ℕ) = record { ref_ptr = (0, 0); now = [] } in
-    let at = told_now (g.F.Store.file c.args.files.now) (g.F.Store.file c.loop-name.files) c.args.names.now c.loop-name.name-index c.loop-name.number none
+    let at = told_now (g.F.Store.file c.args.files.now) (g.F.Store.file c.loop-name.files) c.args.names.now c.loop-name.name-index c.loop-name.number
     c.loop-name-test.true so_far.stay so_far.number in
     let next = c.in_ok-source.ensures in
     let source = c.in_ok-source.source in
@@ -40,8 +39,7 @@ pub returns-in_err-source-clause-taken : goal.returns-in_err-source-clause-taken
 returns-in_err-source-clause-taken g c =
     let so_far = c.loop-name.invariant in
     let told : List Told = told_of (g.F.Store.file c.args.files.now) c.args.names.now in
-    let none : Bor (List ℕ) = record { ref_ptr = (0, 0); now = [] } in
-    let at = told_now (g.F.Store.file c.args.files.now) (g.F.Store.file c.loop-name.files) c.args.names.now c.loop-name.name-index c.loop-name.number none
+    let at = told_now (g.F.Store.file c.args.files.now) (g.F.Store.file c.loop-name.files) c.args.names.now c.loop-name.name-index c.loop-name.number
     c.loop-name-test.true so_far.stay so_far.number in
     stopped told (counts_at (g.F.Store.faults c.args.files.now) (g.F.Store.absences c.args.files.now))
     (counts_at (g.F.Store.faults c.loop-name.files) (g.F.Store.absences c.loop-name.files))

@@ -2,11 +2,11 @@
 use Rattle.std.proofs.Common.{rules, ◌≡◌, ℕ, ◌∙◌, refl, sym, Bool, false, true, not}
 use Rattle.cw_i86.specs.State.{State}
 use Rattle.cw_cpu86.specs.Ports.{Device}
-use Rattle.cw_cpu86.specs.Answers.{RunAnswers, RunCounts}
+use Rattle.cw_cpu86.specs.Answers.{RunAnswers, RunCounts, events_of}
 use Rattle.cw_cpu86.specs.declared.cpu.RunEnd.{RunEnd}
 use Rattle.cw_ports.specs.Pieces.{part}
 use Rattle.cw_ports.specs.Later.{InputSide, OutputSide, OutputLater, SidesLater, faults_of}
-use Rattle.cw_ports.specs.Concluding.{IsFresh, said_of}
+use Rattle.cw_ports.specs.Concluding.{IsFresh}
 use Rattle.cw_ports.specs.Sides.{side_of_outlet, written_by_program, device_of, input_of, output_of, gathered_in}
 use Rattle.cw_ports.specs.declared.outlet.Outlet.{Outlet}
 use Rattle.cw_ports.specs.declared.ports.ImagePorts.{ImagePorts}
@@ -33,7 +33,7 @@ keeps g q = record {
 abbrev came_to : (g : Over) (q : ImagePorts g.row.I.Denot g.row.O.Denot g.I.Source) (end : RunEnd) → Fitting → (s s' : State) (steps : ℕ) (d : Device) (a : InputSide) (o : OutputSide) (gathered : ℕ) → IsFresh d a o
     → (answers : RunAnswers end steps s d s' (device_of g.O.Sink q)) → RunCounts end (faults_of a.supply o.is_broken) (faults_of q.inlet.supply q.outlet.is_broken)
     → SidesLater a o gathered (input_of q) (output_of g.O.Sink q) (gathered_in q)
-    → Came end steps s (said_of end steps s d s' (device_of g.O.Sink q) answers) (device_of g.O.Sink q) a o (input_of q) (output_of g.O.Sink q) (gathered_in q)
+    → Came end steps s (events_of end steps s d s' (device_of g.O.Sink q) answers) (device_of g.O.Sink q) a o (input_of q) (output_of g.O.Sink q) (gathered_in q)
 came_to g q end fitting s s' steps d a o gathered fresh answers counts later =
     came fitting end steps s s' d (device_of g.O.Sink q) a o gathered (input_of q) (output_of g.O.Sink q) (gathered_in q)
     (part q.inlet.bytes q.inlet.from q.inlet.to) (part q.outlet.bytes q.outlet.from q.outlet.to) (keeps g q) fresh answers counts later

@@ -5,9 +5,10 @@ use Rattle.cw_traced.proofs.laws.places.reported.Goals as goal
 
 pub returns : goal.returns
 returns c =
+    let places = c.places_told.ensures in
     let laws : ReportLaws = record {
-      told = c.places_told.ensures.told;
-      named = c.places_told.ensures.named;
+      told = places.told;
+      named = places.named;
       loaded = c.loaded.ensures.started;
       statements = c.preservation.ensures.statements;
       begins = c.beginnings.ensures.some;
