@@ -160,7 +160,7 @@ fn primary_uses(e: &RawPrimary, reading: Reading, out: &mut List<Fact>) -> Resul
         RawPrimary::Bracket(_, e) => expression_uses(e.get(), Reading::Value, out),
         RawPrimary::Ref(reference) => reference_uses(reference, reading, out),
         RawPrimary::Call(name, arguments) => {
-            note(*name, Form::CallValue, out)?;
+            note(*name.get(), Form::CallValue, out)?;
             argument_uses(arguments.as_slice(), out)
         }
     }
@@ -189,7 +189,7 @@ pub fn reference_uses(r: &RawRef, reading: Reading, out: &mut List<Fact>) -> Res
             expression_uses(index.get(), Reading::Value, out)
         }
         RawRef::Two(name, first, second) => {
-            note(*name, Form::Reference(indexed(reading), 2), out)?;
+            note(*name.get(), Form::Reference(indexed(reading), 2), out)?;
             expression_uses(first.get(), Reading::Value, out)?;
             expression_uses(second.get(), Reading::Value, out)
         }

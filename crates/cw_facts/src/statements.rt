@@ -106,13 +106,13 @@ fn simple_facts(alloc: Global, s: &RawSimple, out: &mut List<Fact>) -> Result<()
             reference_uses(reference.get(), Reading::Whole, out)?;
             expression_uses(e.get(), Reading::Value, out)
         }
-        RawSimple::Goto(_, name) => note(*name, Form::Goto, out),
+        RawSimple::Goto(_, name) => note(*name.get(), Form::Goto, out),
         RawSimple::GotoSwitch(_, name, index) => {
-            note(*name, Form::GotoSwitch, out)?;
+            note(*name.get(), Form::GotoSwitch, out)?;
             expression_uses(index.get(), Reading::Value, out)
         }
         RawSimple::Call(name, arguments) => {
-            note(*name, Form::Call, out)?;
+            note(*name.get(), Form::Call, out)?;
             argument_uses(arguments.as_slice(), out)
         }
         RawSimple::Answer(at, e) => {

@@ -103,7 +103,7 @@ fn judge_simple(s: &RawSimple, named: &Named, sites: &Table<Site>, first: &mut O
         RawSimple::GotoSwitch(_, _, index) => whole_expression(index.get(), named, 0, first),
         RawSimple::Call(name, arguments) => {
             let arguments = arguments.as_slice();
-            judge_call(name, arguments, named, first);
+            judge_call(name.get(), arguments, named, first);
             count_arguments(arguments, first);
         }
         RawSimple::Answer(at, e) => {

@@ -348,6 +348,7 @@ fn make_primary(text: Source, e: &RawPrimary, operand: bool) -> Result<Boxed<Exp
         }
         RawPrimary::Ref(r) => make_value(text, r),
         RawPrimary::Call(name, arguments) => {
+            let name = name.get();
             let params = params_of(text.named, name);
             let arguments = make_arguments(text, params, arguments.as_slice())?;
             Boxed::new(
@@ -372,7 +373,7 @@ pub(crate) fn make_reference(text: Source, r: &RawRef) -> Result<Ref, NoMemory>
         RawRef::Two(name, first, second) => {
             let first = make_expression(text, first.get(), false)?;
             let second = make_expression(text, second.get(), false)?;
-            Ok(twice_indexed_place(text.named, text.numbers, name, first, second))
+            Ok(twice_indexed_place(text.named, text.numbers, name.get(), first, second))
         }
         RawRef::Bare(_, address) => {
             let address = make_expression(text, address.get(), false)?;

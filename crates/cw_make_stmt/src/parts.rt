@@ -32,7 +32,7 @@ pub(crate) fn ref_position(r: &RawRef) -> Position
     match r {
         RawRef::Name(name) => name.at,
         RawRef::One(name, _) => name.at,
-        RawRef::Two(name, _, _) => name.at,
+        RawRef::Two(name, _, _) => name.get().at,
         RawRef::Bare(at, _) => *at,
     }
 }

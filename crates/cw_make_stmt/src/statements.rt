@@ -81,10 +81,12 @@ fn make_simple(text: Source, s: &RawSimple) -> Result<Boxed<Stmt>, NoMemory>
         RawSimple::AssignBits(bits, r, e) => { bits_assignment(text, bits.get(), r.get(), e.get()) }
         RawSimple::Goto(at, name) => Boxed::new(
             text.alloc,
-            jump(text.named, text.numbers, at, name),
+            jump(text.named, text.numbers, at, name.get()),
         ),
-        RawSimple::GotoSwitch(at, name, index) => { switch_jump(text, at, name, index.get()) }
-        RawSimple::Call(name, arguments) => { call_statement(text, name, arguments.as_slice()) }
+        RawSimple::GotoSwitch(at, name, index) => { switch_jump(text, at, name.get(), index.get()) }
+        RawSimple::Call(name, arguments) => {
+            call_statement(text, name.get(), arguments.as_slice())
+        }
         RawSimple::Answer(at, e) => answer(text, at, e.get()),
         RawSimple::Block(block) => {
             let statements = make_block(text, block.get())?;

@@ -76,7 +76,10 @@ pub fn indexed_name(
     let first = Boxed::new(alloc, first)?;
     match second {
         None => Ok(RawRef::One(name, first)),
-        Some(second) => Ok(RawRef::Two(name, first, Boxed::new(alloc, second)?)),
+        Some(second) => {
+            let name = Boxed::new(alloc, name)?;
+            Ok(RawRef::Two(name, first, Boxed::new(alloc, second)?))
+        }
     }
 }
 

@@ -176,7 +176,7 @@ fn read_call_behind(
 {
     let (_, at) = taken(tokens, at, TokenKind::Symbol(Symbol::Open));
     let (arguments, at) = read_called(alloc, levels, tokens, at)?;
-    Ok((RawSimple::Call(name, arguments), at))
+    Ok((RawSimple::Call(Boxed::new(alloc, name)?, arguments), at))
 }
 
 /// A statement that begins with a name, behind it.
@@ -199,6 +199,7 @@ pub fn read_simple_behind(
     if next_is(tokens, at, TokenKind::Symbol(Symbol::Open)) {
         return read_call_behind(alloc, levels, tokens, at, name);
     }
+    let name = Boxed::new(alloc, name)?;
     Ok((RawSimple::Call(name, List::new(alloc)), at))
 }
 
@@ -267,6 +268,7 @@ pub fn read_goto(
 {
     let (word, at) = taken(tokens, at, TokenKind::Word(Word::Goto));
     let (name, at) = read_name(tokens, at)?;
+    let name = Boxed::new(alloc, name)?;
     if next_is(tokens, at, TokenKind::Symbol(Symbol::OpenSquare)) {
         let (_, at) = taken(tokens, at, TokenKind::Symbol(Symbol::OpenSquare));
         let (index, at) = read_boxed_subscript(alloc, levels, tokens, at)?;

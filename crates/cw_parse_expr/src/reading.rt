@@ -339,7 +339,7 @@ fn read_named(
     if next_is(tokens, at, TokenKind::Symbol(Symbol::Open)) {
         let (_, at) = take_kind(tokens, at, TokenKind::Symbol(Symbol::Open))?;
         let (arguments, at) = read_called(alloc, levels, tokens, at)?;
-        return Ok((RawPrimary::Call(name, arguments), at));
+        return Ok((RawPrimary::Call(Boxed::new(alloc, name)?, arguments), at));
     }
     Ok((RawPrimary::Ref(RawRef::Name(name)), at))
 }

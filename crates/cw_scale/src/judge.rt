@@ -245,7 +245,7 @@ fn judge_primary(e: &RawPrimary, named: &Named, scale: u8, first: &mut Option<Fa
         RawPrimary::Bracket(_, e) => judge_expression(e.get(), named, scale, first),
         RawPrimary::Ref(r) => judge_reference(r, named, first),
         RawPrimary::Call(name, arguments) => {
-            judge_call(name, arguments.as_slice(), named, first);
+            judge_call(name.get(), arguments.as_slice(), named, first);
         }
     }
 }

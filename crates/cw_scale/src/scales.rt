@@ -224,7 +224,7 @@ pub(crate) fn primary_shape(e: &RawPrimary, named: &Named) -> Shape
             plain(shape.natural)
         }
         RawPrimary::Ref(r) => reference_shape(r, named),
-        RawPrimary::Call(name, _) => plain(name_fraction(named, name)),
+        RawPrimary::Call(name, _) => plain(name_fraction(named, name.get())),
     }
 }
 
@@ -244,7 +244,7 @@ pub fn reference_shape(r: &RawRef, named: &Named) -> Shape
             name_shape(name, fraction_of_kind(kind), is_word_item_if(kind))
         }
         RawRef::One(name, _) => indexed_shape(kind_of(named, name)),
-        RawRef::Two(name, _, _) => indexed_shape(kind_of(named, name)),
+        RawRef::Two(name, _, _) => indexed_shape(kind_of(named, name.get())),
         RawRef::Bare(..) => place_shape(0, true),
     }
 }

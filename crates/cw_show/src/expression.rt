@@ -224,7 +224,7 @@ fn put_primary(out: &mut Text, primary: &RawPrimary)
         RawPrimary::Bracket(_, value) => put_bracketed(out, value.get()),
         RawPrimary::Ref(place) => put_ref(out, place),
         RawPrimary::Call(name, arguments) => {
-            put_name(out, &name.name);
+            put_name(out, &name.get().name);
             put_arguments(out, arguments.as_slice());
         }
     }
@@ -242,7 +242,7 @@ pub fn put_ref(out: &mut Text, reference: &RawRef)
             put_index(out, index.get());
         }
         RawRef::Two(name, first, second) => {
-            put_name(out, &name.name);
+            put_name(out, &name.get().name);
             put_symbol(out, Symbol::OpenSquare);
             put_expr(out, first.get());
             put_symbol(out, Symbol::Comma);

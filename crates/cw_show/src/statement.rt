@@ -233,15 +233,15 @@ fn put_simple(out: &mut Text, simple: &RawSimple)
         }
         RawSimple::Goto(_, label) => {
             put_word(out, Word::Goto);
-            put_name(out, &label.name);
+            put_name(out, &label.get().name);
         }
         RawSimple::GotoSwitch(_, switch, index) => {
             put_word(out, Word::Goto);
-            put_name(out, &switch.name);
+            put_name(out, &switch.get().name);
             put_index(out, index.get());
         }
         RawSimple::Call(name, arguments) => {
-            put_name(out, &name.name);
+            put_name(out, &name.get().name);
             put_call(out, arguments.as_slice());
         }
         RawSimple::Answer(_, value) => {

@@ -115,7 +115,7 @@ pub enum RawPrimary {
     /// A reference, or the name of a procedure without arguments.
     Ref(RawRef),
     /// `name ( expr , .. )`, with one argument at least.
-    Call(RawName, List<RawExpr>),
+    Call(Boxed<RawName>, List<RawExpr>),
 }
 
 /// A reference: `name`, `name [ expr ]`, `name [ expr , expr ]` or `[ expr ]`.
@@ -124,6 +124,6 @@ pub enum RawPrimary {
 pub enum RawRef {
     Name(RawName),
     One(RawName, Boxed<RawExpr>),
-    Two(RawName, Boxed<RawExpr>, Boxed<RawExpr>),
+    Two(Boxed<RawName>, Boxed<RawExpr>, Boxed<RawExpr>),
     Bare(Position, Boxed<RawExpr>),
 }

@@ -43,11 +43,11 @@ pub enum RawSimple {
     /// `BITS [ int , int ] ref := expr`.
     AssignBits(Boxed<RawBits>, Boxed<RawRef>, Boxed<RawExpr>),
     /// `GOTO name`.
-    Goto(Position, RawName),
+    Goto(Position, Boxed<RawName>),
     /// `GOTO name [ expr ]`.
-    GotoSwitch(Position, RawName, Boxed<RawExpr>),
+    GotoSwitch(Position, Boxed<RawName>, Boxed<RawExpr>),
     /// `name` or `name ( expr , .. )`.
-    Call(RawName, List<RawExpr>),
+    Call(Boxed<RawName>, List<RawExpr>),
     Answer(Position, Boxed<RawExpr>),
     Block(Boxed<RawBlock>),
 }

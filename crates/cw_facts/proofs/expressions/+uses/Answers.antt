@@ -172,7 +172,7 @@ pub primary_uses-returns-in_ok-note-in-Call : goal.primary_uses-returns-in_ok-no
 primary_uses-returns-in_ok-note-in-Call t c =
     on_ok_weaker c.argument_uses.result
     (call_more c.args.e.now c.args.reading c.in-Call.name c.in-Call.arguments c.as_slice-in-Call.result.now c.args.out.now c.note.new.out c.argument_uses.new.out
-    c.in-Call.is c.as_slice-in-Call.ensures c.in_ok-note-in-Call.ensures)
+    c.in-Call.is c.as_slice-in-Call.ensures (rw c.get-in-Call.ensures at c.in_ok-note-in-Call.ensures))
     c.argument_uses.ensures
 
 pub reference_uses-returns-in-Name : goal.reference_uses-returns-in-Name
@@ -191,9 +191,10 @@ reference_uses-returns-in_ok-note-in-One t c =
 pub reference_uses-returns-in_ok-expression_uses-in-Two : goal.reference_uses-returns-in_ok-expression_uses-in-Two
 reference_uses-returns-in_ok-expression_uses-in-Two t c =
     on_ok_weaker c.expression_uses-in-Two-2.result
-    (indexes_more c.args.r.now c.args.reading c.indexed-in-Two.result c.in-Two.name c.in-Two.first c.get-in-Two.result.now c.in-Two.second c.get-in-Two-2.result.now
+    (indexes_more c.args.r.now c.args.reading c.indexed-in-Two.result c.in-Two.name c.in-Two.first c.get-in-Two-2.result.now c.in-Two.second c.get-in-Two-3.result.now
     c.args.out.now c.note-in-Two.new.out c.expression_uses-in-Two.new.out c.expression_uses-in-Two-2.new.out
-    c.in-Two.is c.get-in-Two.ensures c.get-in-Two-2.ensures c.indexed-in-Two.ensures c.in_ok-note-in-Two.ensures c.in_ok-expression_uses-in-Two.ensures)
+    c.in-Two.is c.get-in-Two-2.ensures c.get-in-Two-3.ensures c.indexed-in-Two.ensures
+    (rw c.get-in-Two.ensures at c.in_ok-note-in-Two.ensures) c.in_ok-expression_uses-in-Two.ensures)
     c.expression_uses-in-Two-2.ensures
 
 pub reference_uses-returns-in-Bare : goal.reference_uses-returns-in-Bare

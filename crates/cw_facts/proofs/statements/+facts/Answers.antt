@@ -60,21 +60,22 @@ simple_facts-returns-in_ok-reference_uses-in-AssignBits t c =
 
 pub simple_facts-returns-in-Goto : goal.simple_facts-returns-in-Goto
 simple_facts-returns-in-Goto t c =
-    on_ok_weaker c.note.result (goto_more c.args.s.now c.in-Goto.field-0 c.in-Goto.name c.args.out.now c.note.new.out c.in-Goto.is) c.note.ensures
+    on_ok_weaker c.note.result (goto_more c.args.s.now c.in-Goto.field-0 c.in-Goto.name c.args.out.now c.note.new.out c.in-Goto.is)
+    (rw c.get-in-Goto.ensures at c.note.ensures)
 
 pub simple_facts-returns-in_ok-note-in-GotoSwitch : goal.simple_facts-returns-in_ok-note-in-GotoSwitch
 simple_facts-returns-in_ok-note-in-GotoSwitch t c =
     on_ok_weaker c.expression_uses-in-GotoSwitch.result
-    (goto_switch_more c.args.s.now c.in-GotoSwitch.field-0 c.in-GotoSwitch.name c.in-GotoSwitch.index c.get-in-GotoSwitch.result.now c.args.out.now
+    (goto_switch_more c.args.s.now c.in-GotoSwitch.field-0 c.in-GotoSwitch.name c.in-GotoSwitch.index c.get-in-GotoSwitch-2.result.now c.args.out.now
     c.note-in-GotoSwitch.new.out c.expression_uses-in-GotoSwitch.new.out
-    c.in-GotoSwitch.is c.get-in-GotoSwitch.ensures c.in_ok-note-in-GotoSwitch.ensures)
+    c.in-GotoSwitch.is c.get-in-GotoSwitch-2.ensures (rw c.get-in-GotoSwitch.ensures at c.in_ok-note-in-GotoSwitch.ensures))
     c.expression_uses-in-GotoSwitch.ensures
 
 pub simple_facts-returns-in_ok-note-in-Call : goal.simple_facts-returns-in_ok-note-in-Call
 simple_facts-returns-in_ok-note-in-Call t c =
     on_ok_weaker c.argument_uses.result
     (call_statement_more c.args.s.now c.in-Call.name c.in-Call.arguments c.as_slice.result.now c.args.out.now c.note-in-Call.new.out c.argument_uses.new.out
-    c.in-Call.is c.as_slice.ensures c.in_ok-note-in-Call.ensures)
+    c.in-Call.is c.as_slice.ensures (rw c.get-in-Call.ensures at c.in_ok-note-in-Call.ensures))
     c.argument_uses.ensures
 
 pub simple_facts-returns-in_ok-note-in-Answer : goal.simple_facts-returns-in_ok-note-in-Answer

@@ -58,7 +58,7 @@ pub judge_simple-returns-in-Call : goal.judge_simple-returns-in-Call
 judge_simple-returns-in-Call t c =
     call c.args.named.now c.args.sites.now c.args.s.now c.in-Call.name c.in-Call.arguments c.as_slice-arguments.result.now c.args.first.now c.judge_call.new.first
     c.count_arguments.new.first
-    c.in-Call.is c.as_slice-arguments.ensures c.judge_call.ensures c.count_arguments.ensures
+    c.in-Call.is c.as_slice-arguments.ensures (rw c.get-in-Call.ensures at c.judge_call.ensures) c.count_arguments.ensures
 
 pub judge_simple-returns-in-Answer : goal.judge_simple-returns-in-Answer
 judge_simple-returns-in-Answer t c =

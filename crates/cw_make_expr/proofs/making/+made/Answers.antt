@@ -281,7 +281,8 @@ pub make_primary-returns-in_ok-arguments-in-Call : goal.make_primary-returns-in_
 make_primary-returns-in_ok-arguments-in-Call t c =
     IfOk-weaker c.new-in-Call.result _ _ (λ z h. call_made c.args.text.named.now c.args.text.numbers.now c.args.e.now c.in-Call.name c.in-Call.arguments c.as_slice.result.now
     c.params_of-params.result.now c.in_ok-arguments-in-Call.arguments c.target.result c.call.result z c.args.operand
-    c.in-Call.is c.as_slice.ensures c.params_of-params.ensures c.in_ok-arguments-in-Call.ensures c.target.ensures c.call.ensures h) c.new-in-Call.ensures
+    c.in-Call.is c.as_slice.ensures (rw c.get-name.ensures at c.params_of-params.ensures) c.in_ok-arguments-in-Call.ensures
+    (rw c.get-name.ensures at c.target.ensures) c.call.ensures h) c.new-in-Call.ensures
 
 pub make_reference-returns-in-Name : goal.make_reference-returns-in-Name
 make_reference-returns-in-Name t c =
@@ -297,7 +298,8 @@ pub make_reference-returns-in_ok-second-in-Two : goal.make_reference-returns-in_
 make_reference-returns-in_ok-second-in-Two t c =
     twice_indexed_made c.args.text.named.now c.args.text.numbers.now c.args.r.now c.in-Two.name c.in-Two.first c.get-in-Two.result.now c.in-Two.second c.get-in-Two-2.result.now
     c.in_ok-first-in-Two.first c.in_ok-second-in-Two.second c.twice_indexed_place.result
-    c.in-Two.is c.get-in-Two.ensures c.get-in-Two-2.ensures c.in_ok-first-in-Two.ensures c.in_ok-second-in-Two.ensures c.twice_indexed_place.ensures
+    c.in-Two.is c.get-in-Two.ensures c.get-in-Two-2.ensures c.in_ok-first-in-Two.ensures c.in_ok-second-in-Two.ensures
+    (rw c.get-in-Two-3.ensures at c.twice_indexed_place.ensures)
 
 pub make_reference-returns-in_ok-address-in-Bare : goal.make_reference-returns-in_ok-address-in-Bare
 make_reference-returns-in_ok-address-in-Bare t c =

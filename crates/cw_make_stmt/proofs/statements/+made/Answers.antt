@@ -62,19 +62,19 @@ make_simple-returns-in-AssignBits t c =
 pub make_simple-returns-in-Goto : goal.make_simple-returns-in-Goto
 make_simple-returns-in-Goto t c =
     IfOk-weaker c.new-in-Goto.result _ _ (λ z h. goto_made c.args.text.named.now c.args.text.numbers.now c.args.s.now c.in-Goto.at c.in-Goto.name c.jump.result z c.in-Goto.is
-    c.jump.ensures h) c.new-in-Goto.ensures
+    (rw c.get-in-Goto.ensures at c.jump.ensures) h) c.new-in-Goto.ensures
 
 pub make_simple-returns-in-GotoSwitch : goal.make_simple-returns-in-GotoSwitch
 make_simple-returns-in-GotoSwitch t c =
     IfOk-weaker c.switch_jump.result _ _ (λ z h. goto_switch_made c.args.text.named.now c.args.text.numbers.now c.args.s.now c.in-GotoSwitch.at c.in-GotoSwitch.name
     c.in-GotoSwitch.index
-    c.get-in-GotoSwitch.result.now z
-    c.in-GotoSwitch.is c.get-in-GotoSwitch.ensures h) c.switch_jump.ensures
+    c.get-in-GotoSwitch-2.result.now z
+    c.in-GotoSwitch.is c.get-in-GotoSwitch-2.ensures h) (rw c.get-in-GotoSwitch.ensures at c.switch_jump.ensures)
 
 pub make_simple-returns-in-Call : goal.make_simple-returns-in-Call
 make_simple-returns-in-Call t c =
     IfOk-weaker c.call_statement.result _ _ (λ z h. call_made c.args.text.named.now c.args.text.numbers.now c.args.s.now c.in-Call.name c.in-Call.arguments c.as_slice.result.now z
-    c.in-Call.is c.as_slice.ensures h) c.call_statement.ensures
+    c.in-Call.is c.as_slice.ensures h) (rw c.get-in-Call.ensures at c.call_statement.ensures)
 
 pub make_simple-returns-in-Answer : goal.make_simple-returns-in-Answer
 make_simple-returns-in-Answer t c =

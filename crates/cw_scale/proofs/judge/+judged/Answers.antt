@@ -167,7 +167,7 @@ judge_primary-returns-in-Ref t c =
 pub judge_primary-returns-in-Call : goal.judge_primary-returns-in-Call
 judge_primary-returns-in-Call t c =
     call_arm_faults c.args.named.now c.args.e.now c.args.scale c.in-Call.name c.in-Call.arguments c.as_slice.result.now c.args.first.now c.judge_call.new.first
-    c.in-Call.is c.as_slice.ensures c.judge_call.ensures
+    c.in-Call.is c.as_slice.ensures (rw c.get-in-Call.ensures at c.judge_call.ensures)
 
 pub judge_reference-returns-in-One : goal.judge_reference-returns-in-One
 judge_reference-returns-in-One t c =

@@ -109,4 +109,4 @@ primary_shape-returns-in-Ref t c =
 
 pub primary_shape-returns-in-Call : goal.primary_shape-returns-in-Call
 primary_shape-returns-in-Call t c =
-    call_shape c.args.named.now c.args.e.now c.in-Call.name c.in-Call.field-1 c.name_fraction.result c.plain-in-Call.result c.in-Call.is c.name_fraction.ensures c.plain-in-Call.ensures
+    call_shape c.args.named.now c.args.e.now c.in-Call.name c.in-Call.field-1 c.name_fraction.result c.plain-in-Call.result c.in-Call.is (rw c.get-in-Call.ensures at c.name_fraction.ensures) c.plain-in-Call.ensures

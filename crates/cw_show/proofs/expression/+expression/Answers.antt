@@ -57,7 +57,7 @@ put_primary-returns-in-Ref t c = becomes c.put_ref.ensures (rw c.in-Ref.is (sym 
 
 pub put_primary-returns-in-Call : goal.put_primary-returns-in-Call
 put_primary-returns-in-Call t c = becomes (in_order c.put_name.ensures c.put_arguments.ensures)
-    (rw (c.in-Call.is, c.as_slice-in-Call.ensures) (sym (of_primary-Call steps c.in-Call.name c.in-Call.arguments)))
+    (rw (c.in-Call.is, c.get-in-Call.ensures, c.as_slice-in-Call.ensures) (sym (of_primary-Call steps c.in-Call.name c.in-Call.arguments)))
 
 pub put_ref-returns-in-Name : goal.put_ref-returns-in-Name
 put_ref-returns-in-Name t c = becomes c.put_name.ensures (rw c.in-Name.is (sym (of_reference-Name steps c.in-Name.name)))
@@ -69,7 +69,8 @@ put_ref-returns-in-One t c = becomes (in_order c.put_name-in-One.ensures c.put_i
 pub put_ref-returns-in-Two : goal.put_ref-returns-in-Two
 put_ref-returns-in-Two t c = becomes (in_order c.put_name-in-Two.ensures
     (in_order c.put_symbol.ensures (in_order c.put_expr.ensures (in_order c.put_symbol-in-Two.ensures (in_order c.put_expr-in-Two.ensures c.put_symbol-in-Two-2.ensures)))))
-    (rw (c.in-Two.is, c.get-in-Two.ensures, c.get-in-Two-2.ensures) (sym (of_reference-Two steps c.in-Two.name c.in-Two.first c.in-Two.second)))
+    (rw (c.in-Two.is, c.get-in-Two.ensures, c.get-in-Two-2.ensures, c.get-in-Two-3.ensures)
+    (sym (of_reference-Two steps c.in-Two.name c.in-Two.first c.in-Two.second)))
 
 pub put_ref-returns-in-Bare : goal.put_ref-returns-in-Bare
 put_ref-returns-in-Bare t c = becomes c.put_index-in-Bare.ensures (rw (c.in-Bare.is, c.get-in-Bare.ensures) (sym (of_reference-Bare steps c.in-Bare.field-0 c.in-Bare.index)))

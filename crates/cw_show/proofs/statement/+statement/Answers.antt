@@ -44,15 +44,17 @@ put_simple-returns-in-AssignBits t c = becomes (in_order c.put_bits.ensures c.pu
     (sym (of_simple-AssignBits steps c.in-AssignBits.bits c.in-AssignBits.place c.in-AssignBits.value)))
 
 pub put_simple-returns-in-Goto : goal.put_simple-returns-in-Goto
-put_simple-returns-in-Goto t c = becomes (in_order c.put_word.ensures c.put_name.ensures) (rw c.in-Goto.is (sym (of_simple-Goto steps c.in-Goto.field-0 c.in-Goto.label)))
+put_simple-returns-in-Goto t c = becomes (in_order c.put_word.ensures c.put_name.ensures)
+    (rw (c.in-Goto.is, c.get-in-Goto.ensures) (sym (of_simple-Goto steps c.in-Goto.field-0 c.in-Goto.label)))
 
 pub put_simple-returns-in-GotoSwitch : goal.put_simple-returns-in-GotoSwitch
 put_simple-returns-in-GotoSwitch t c = becomes (in_order c.put_word-in-GotoSwitch.ensures (in_order c.put_name-in-GotoSwitch.ensures c.put_index.ensures))
-    (rw (c.in-GotoSwitch.is, c.get-in-GotoSwitch.ensures) (sym (of_simple-GotoSwitch steps c.in-GotoSwitch.field-0 c.in-GotoSwitch.switch c.in-GotoSwitch.index)))
+    (rw (c.in-GotoSwitch.is, c.get-in-GotoSwitch.ensures, c.get-in-GotoSwitch-2.ensures)
+    (sym (of_simple-GotoSwitch steps c.in-GotoSwitch.field-0 c.in-GotoSwitch.switch c.in-GotoSwitch.index)))
 
 pub put_simple-returns-in-Call : goal.put_simple-returns-in-Call
 put_simple-returns-in-Call t c = becomes (in_order c.put_name-in-Call.ensures c.put_call.ensures)
-    (rw (c.in-Call.is, c.as_slice.ensures) (sym (of_simple-Call steps c.in-Call.name c.in-Call.arguments)))
+    (rw (c.in-Call.is, c.get-in-Call.ensures, c.as_slice.ensures) (sym (of_simple-Call steps c.in-Call.name c.in-Call.arguments)))
 
 pub put_simple-returns-in-Answer : goal.put_simple-returns-in-Answer
 put_simple-returns-in-Answer t c = becomes (in_order c.put_word-in-Answer.ensures c.put_expr.ensures)
