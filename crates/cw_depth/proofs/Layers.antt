@@ -1,25 +1,33 @@
 -- What a tree mentions, by its first layer.
 use Rattle.std.proofs.Common.{◌≡◌}
-use Rattle.cw_unit.specs.declared.unit.Arg.{Arg, out-Arg, map-Arg, fold_out-Arg}
-use Rattle.cw_unit.specs.declared.unit.Cond.{Cond, out-Cond, map-Cond, fold_out-Cond}
-use Rattle.cw_unit.specs.declared.unit.Spot.{Spot, out-Spot, map-Spot, fold_out-Spot}
+use Rattle.cw_unit.specs.declared.unit.Arg.{Arg, out-Arg, fold_out-Arg}
+use Rattle.cw_unit.specs.declared.unit.Cond.{Cond, out-Cond, fold_out-Cond}
+use Rattle.cw_unit.specs.declared.unit.Spot.{Spot, out-Spot, fold_out-Spot}
 use Rattle.cw_unit.specs.declared.unit.Ref.{Ref, out-Ref, map-Ref, fold_out-Ref}
-use Rattle.cw_unit.specs.declared.unit.Expr.{Expr, Expr-F, out-Expr, map-Expr, fold_out-Expr}
+use Rattle.cw_unit.specs.declared.unit.Expr.{Expr, Expr-F, out-Expr, fold_out-Expr}
 use Rattle.cw_unit.specs.declared.unit.Stmt.{Stmt, Stmt-F, out-Stmt, map-Stmt, fold_out-Stmt}
 use Rattle.cw_unit.specs.declared.unit.Arg.TheOpen.{Arg-F, Cond-F, Spot-F, Ref-F}
-use Rattle.cw_depth.specs.Mentions.{Mentions, in_spot, argument_step, condition_step, spot_step, ref_step, expression_step, in_expression, in_argument, in_condition, in_reference, statement_step, in_statement}
+use Rattle.cw_depth.specs.Gathered as gathered
+use Rattle.cw_depth.specs.Gathered.{condition_step, spot_step, ref_step}
+use Rattle.cw_depth.specs.Mentions.{Mentions, in_spot, of_call, argument_step, in_expression, in_argument, in_condition, in_reference, in_statement}
+
+abbrev expression_step : Expr-F Mentions Mentions Mentions Mentions Mentions → Mentions
+expression_step = gathered.expression_step argument_step of_call
+
+abbrev pub statement_step : Stmt-F Mentions → Mentions
+statement_step = gathered.statement_step argument_step of_call
 
 abbrev pub expression_layer : Expr-F Arg Cond Expr Spot Ref → Mentions
-expression_layer x = expression_step (map-Expr Arg Cond Expr Spot Ref Mentions Mentions Mentions Mentions Mentions in_argument in_condition in_expression in_spot in_reference x)
+expression_layer = gathered.expression_layer argument_step of_call
 
 abbrev pub argument_layer : Arg-F Arg Cond Expr Spot Ref → Mentions
-argument_layer x = argument_step (map-Arg Arg Cond Expr Spot Ref Mentions Mentions Mentions Mentions Mentions in_argument in_condition in_expression in_spot in_reference x)
+argument_layer = gathered.argument_layer argument_step of_call
 
 abbrev pub condition_layer : Cond-F Arg Cond Expr Spot Ref → Mentions
-condition_layer x = condition_step (map-Cond Arg Cond Expr Spot Ref Mentions Mentions Mentions Mentions Mentions in_argument in_condition in_expression in_spot in_reference x)
+condition_layer = gathered.condition_layer argument_step of_call
 
 abbrev pub spot_layer : Spot-F Arg Cond Expr Spot Ref → Mentions
-spot_layer x = spot_step (map-Spot Arg Cond Expr Spot Ref Mentions Mentions Mentions Mentions Mentions in_argument in_condition in_expression in_spot in_reference x)
+spot_layer = gathered.spot_layer argument_step of_call
 
 abbrev pub reference_layer : Ref-F Arg Cond Expr Spot Ref → Mentions
 reference_layer x = ref_step (map-Ref Arg Cond Expr Spot Ref Mentions Mentions Mentions Mentions Mentions in_argument in_condition in_expression in_spot in_reference x)

@@ -15,7 +15,8 @@ use Rattle.cw_depth.specs.declared.node.Node.{Node}
 use Rattle.cw_depth.specs.declared.node.Node.TheVariants.{Body, Procedure}
 use Rattle.cw_depth.specs.declared.mention.Mention.{Mention}
 use Rattle.cw_depth.specs.declared.mention.Mention.TheVariants as mention
-use Rattle.cw_depth.specs.Mentions.{Mentions, in_statement}
+use Rattle.cw_depth.specs.Gathered as gathered
+use Rattle.cw_depth.specs.Mentions.{Mentions, argument_step, of_call}
 
 abbrev pub segment_of : Node → ℕ
 segment_of (Body g) = g
@@ -43,12 +44,10 @@ spec_in_procedure k (Some p) = spec_in k p.params
 -- ---- a program, by its units
 
 abbrev pub mentions_of_unit : Option SourceUnit → Mentions
-mentions_of_unit None = []
-mentions_of_unit (Some u) = in_statement u.body
+mentions_of_unit = gathered.in_unit argument_step of_call
 
 abbrev pub mentions_of_procedure : Option Proc → Mentions
-mentions_of_procedure None = []
-mentions_of_procedure (Some p) = in_statement p.body
+mentions_of_procedure = gathered.in_procedure argument_step of_call
 
 module _ (units : List SourceUnit) where
   abbrev pub procedure_at : (segment number : ℕ) → Option Proc

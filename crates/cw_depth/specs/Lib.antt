@@ -1,3 +1,4 @@
+pub mod Gathered
 pub mod Mentions
 pub mod CallGraph
 pub mod Told

@@ -10,7 +10,7 @@ use Rattle.cw_unit.specs.LabelContinuation.{label_continuation, list_continuatio
 use Rattle.cw_unit.proofs.Continuations.{in-mark, in-loop, in-choice, in-list}
 use Rattle.cw_depth.specs.declared.node.Node.{Node}
 use Rattle.cw_depth.specs.Mentions as mentions
-use Rattle.cw_depth.proofs.Layers.{statement_layer}
+use Rattle.cw_depth.proofs.Layers.{statement_step, statement_layer}
 use Rattle.cw_deepest.specs.Programs.Calls as calls
 use Rattle.cw_deepest.specs.Programs.Calls.{Call, Calls}
 use Rattle.cw_deepest.proofs.Programs.Typing.{Stand, Typed}
@@ -85,7 +85,7 @@ module _ (us : List SourceUnit) (a : Node) (os : List (Option Spec)) where
   pub continues : (l : ℕ) (s : Stmt) → Continues l s
   continues l = ind-Stmt (Continues l)
       (λ x y is k h t.
-      let ms : mentions.in_statement (roll-Stmt x) ≡ statement_layer x = fold-roll-Stmt mentions.Mentions mentions.statement_step x in
+      let ms : mentions.in_statement (roll-Stmt x) ≡ statement_layer x = fold-roll-Stmt mentions.Mentions statement_step x in
       let cs : calls.in_statement (roll-Stmt x) ≡ statement_calls x = fold-roll-Stmt Calls calls.statement_step x in
       let h' : Stand us a (statement_layer x) (statement_calls x) = subst (λ z. Stand us a z (statement_calls x)) ms (subst (Stand us a (mentions.in_statement (roll-Stmt x))) cs h) in
       let r = subst (λ z. Stand us a (statement_layer z) (statement_calls z) → Continued (layer_continuation l z k)) is (λ g. layer-continues l y k g t) h' in

@@ -9,10 +9,10 @@ use Rattle.cw_unit.specs.declared.unit.Dest.TheVariants as dest
 use Rattle.cw_unit.specs.declared.unit.Target.{Target}
 use Rattle.cw_unit.specs.declared.unit.Felem.{Felem}
 use Rattle.cw_unit.specs.declared.unit.Felem.TheVariants as element
-use Rattle.cw_unit.specs.declared.unit.Expr.{Expr, Expr-F, out-Expr, map-Expr}
-use Rattle.cw_unit.specs.declared.unit.Arg.{Arg, out-Arg, map-Arg}
-use Rattle.cw_unit.specs.declared.unit.Cond.{Cond, out-Cond, map-Cond}
-use Rattle.cw_unit.specs.declared.unit.Spot.{Spot, out-Spot, map-Spot}
+use Rattle.cw_unit.specs.declared.unit.Expr.{Expr, Expr-F, out-Expr}
+use Rattle.cw_unit.specs.declared.unit.Arg.{Arg, out-Arg}
+use Rattle.cw_unit.specs.declared.unit.Cond.{Cond, out-Cond}
+use Rattle.cw_unit.specs.declared.unit.Spot.{Spot, out-Spot}
 use Rattle.cw_unit.specs.declared.unit.Ref.{Ref, out-Ref}
 use Rattle.cw_unit.specs.declared.unit.Arg.TheOpen as layer
 use Rattle.cw_unit.specs.declared.unit.Arg.TheOpen.{Arg-F, Cond-F, Spot-F, Ref-F}
@@ -24,6 +24,7 @@ use Rattle.cw_unit.specs.Scales.{answer_scale}
 use Rattle.cw_unit.specs.Work.{Work, FormAt, Do, Enter, Loop, index_work, statement_work, expression_work, spot_work, condition_work, element_work, run_all, give_all, go_work}
 use Rattle.cw_depth.specs.declared.node.Node.{Node}
 use Rattle.cw_depth.specs.declared.mention.Mention.{Mention}
+use Rattle.cw_depth.specs.Gathered as gathered
 use Rattle.cw_depth.specs.Mentions as mentions
 use Rattle.cw_depth.specs.CallGraph.{Mentioned}
 use Rattle.cw_depth.proofs.Layers.{expression_layer, condition_layer, spot_layer, statement_layer}
@@ -36,20 +37,16 @@ use Rattle.cw_deepest.proofs.Programs.Typing.{Stand, IsLoop, Typed}
 -- ---- the calls of a tree, by its first layer
 
 abbrev pub expression_calls : Expr-F Arg Cond Expr Spot Ref → Calls
-expression_calls x =
-    calls.expression_step (map-Expr Arg Cond Expr Spot Ref Argument Calls Calls Calls Calls calls.of_argument calls.in_condition calls.in_expression calls.in_spot calls.in_reference x)
+expression_calls = gathered.expression_layer calls.argument_step calls.of_call
 
 abbrev pub argument_calls : Arg-F Arg Cond Expr Spot Ref → Argument
-argument_calls x =
-    calls.argument_step (map-Arg Arg Cond Expr Spot Ref Argument Calls Calls Calls Calls calls.of_argument calls.in_condition calls.in_expression calls.in_spot calls.in_reference x)
+argument_calls = gathered.argument_layer calls.argument_step calls.of_call
 
 abbrev pub condition_calls : Cond-F Arg Cond Expr Spot Ref → Calls
-condition_calls x =
-    calls.condition_step (map-Cond Arg Cond Expr Spot Ref Argument Calls Calls Calls Calls calls.of_argument calls.in_condition calls.in_expression calls.in_spot calls.in_reference x)
+condition_calls = gathered.condition_layer calls.argument_step calls.of_call
 
 abbrev pub spot_calls : Spot-F Arg Cond Expr Spot Ref → Calls
-spot_calls x =
-    calls.spot_step (map-Spot Arg Cond Expr Spot Ref Argument Calls Calls Calls Calls calls.of_argument calls.in_condition calls.in_expression calls.in_spot calls.in_reference x)
+spot_calls = gathered.spot_layer calls.argument_step calls.of_call
 
 abbrev pub statement_calls : Stmt-F Stmt → Calls
 statement_calls x = calls.statement_step (map-Stmt Stmt Calls calls.in_statement x)

@@ -11,7 +11,8 @@ use Rattle.cw_unit.specs.declared.descriptor.Spec.{Spec}
 use Rattle.cw_depth.specs.declared.node.Node.{Node}
 use Rattle.cw_depth.specs.declared.node.Node.TheVariants.{Body, Procedure}
 use Rattle.cw_depth.specs.CallGraph.{segment_of, spec_of, procedure_at, named_by, parameter_of}
-use Rattle.cw_deepest.specs.Programs.Calls.{Passed, LabelOrSwitch, OwnProcedure, CommonProcedure, Parameter, Call, Calls, in_statement}
+use Rattle.cw_depth.specs.Gathered as gathered
+use Rattle.cw_deepest.specs.Programs.Calls.{Passed, LabelOrSwitch, OwnProcedure, CommonProcedure, Parameter, Call, Calls, argument_step, of_call}
 
 -- the control parameters of a procedure in order, each with its specification if it takes a procedure
 abbrev pub taken_in : List Param → List (Option Spec)
@@ -65,12 +66,10 @@ spec_if None = None
 spec_if (Some x) = Some (spec_of x)
 
 abbrev pub calls_of_unit : Option SourceUnit → Calls
-calls_of_unit None = []
-calls_of_unit (Some u) = in_statement u.body
+calls_of_unit = gathered.in_unit argument_step of_call
 
 abbrev pub calls_of_procedure : Option Proc → Calls
-calls_of_procedure None = []
-calls_of_procedure (Some x) = in_statement x.body
+calls_of_procedure = gathered.in_procedure argument_step of_call
 
 module _ (units : List SourceUnit) where
   -- the calls in the body of a node
