@@ -1,8 +1,4 @@
 //! Why a text is no HEX text.
-ghost use Rattle.cw_hex.specs.declared.fault.HexFault.TheVariants as faults;
-ghost use Rattle.std.specs.Prelude.{◌≡◌};
-
-use cw_word::NoMemory;
 use std::fmt;
 use thiserror::Error;
 
@@ -26,12 +22,4 @@ pub enum HexFault {
     NoEnd { line: u64 },
     #[error("NoMemory")]
     NoMemory,
-}
-
-impl From<NoMemory> for HexFault {
-    ghost from_gives = { λ _ fault. fault ≡ faults.NoMemory };
-
-    fn from(_: NoMemory) -> HexFault {
-        HexFault::NoMemory
-    }
 }

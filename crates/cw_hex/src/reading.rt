@@ -71,7 +71,9 @@ impl Reading {
 pub fn load_hex(alloc: Global, text: &[u8]) -> Result<Cpu, HexFault>
     ensures { AnswersHex text.now result }
 {
-    let cpu = Cpu::start(alloc, &[0], &[])?;
+    let Ok(cpu) = Cpu::start(alloc, &[0], &[]) else {
+        return Err(HexFault::NoMemory);
+    };
     let mut reading = Reading {
         cpu,
         base: 0,

@@ -5,15 +5,11 @@ ghost use Rattle.cw_lib.specs.LibraryFormat.{header};
 ghost use Rattle.cw_lib.specs.Reading.{first_member, members_of, AnswersHeader, AnswersNumber, IsBehindMember, FailsMember, AnswersOpen};
 
 use crate::fault::LibFault;
-use byteorder::{ByteOrder, LittleEndian};
 use cw_fields::{bytes_in, long_in, word_in};
-use cw_view::View;
+use cw_view::{HEADER, HeaderFault, View, version_behind};
 
 /// How a library begins.
 const MARK: [u8; 4] = *b"C66L";
-
-/// The bytes of the mark and the version.
-const HEADER: usize = 6;
 
 /// The place of the first member.
 const START: usize = 8;
@@ -29,20 +25,14 @@ pub struct Lib<'a> {
 fn header_of(bytes: &[u8]) -> Result<(), LibFault>
     ensures { AnswersHeader bytes.now result }
 {
-    let size = bytes.len().min(4);
-    if bytes[..size] != MARK[..size] {
-        return Err(LibFault::NotLibrary);
-    }
-    if bytes.len() < HEADER {
-        return Err(LibFault::Truncated {
+    match version_behind(MARK, bytes) {
+        Ok(1) => Ok(()),
+        Ok(_) => Err(LibFault::BadVersion),
+        Err(HeaderFault::OtherMark) => Err(LibFault::NotLibrary),
+        Err(HeaderFault::Short) => Err(LibFault::Truncated {
             at: bytes.len() as u64,
-        });
+        }),
     }
-    let version = LittleEndian::read_u16(&bytes[4..]);
-    if version != 1 {
-        return Err(LibFault::BadVersion);
-    }
-    Ok(())
 }
 
 // The number of members.

@@ -26,20 +26,23 @@ take_short n xs m le (inr h) = take_all n xs h.1 ∙ sym (take_all m xs (omega (
 min_is : (a b n : ℕ) → n ≡ min a b → (n ≤ a) × ((n ≡ b) ⊎ ((n ≡ a) × (a ≤ b))) × (n ≤ b) × ((n ≡ a) ⊎ ((n ≡ b) × (b ≤ a)))
 min_is a b n e = (omega arith, grind arith, omega arith, grind arith)
 
--- What a comparison with as much of the mark as there are bytes for tells.
-pub other_mark : (mark bytes : List ℕ) (n : ℕ) (r : Bool) → n ≡ min (length bytes) (length mark) → r ≡ not (bytes_eq (take n bytes) (take n mark)) → r ≡ true
-    → take (length mark) bytes ≢ take (length bytes) mark
-other_mark mark bytes n r e is h same =
-    let m = min_is (length bytes) (length mark) n e in
-    let first = sym (take_short (length mark) bytes n m.0 m.1) ∙ same ∙ take_short (length bytes) mark n m.2 m.3 in
-    ne_by (bytes_eq (take n bytes) (take n mark)) r is h ((bytes_eq-Decides (take n bytes) (take n mark)).1 first)
+-- As much of the mark as there are bytes for: what is compared, and what is said of it.
+same_part : (mark bytes : List ℕ) (n : ℕ) → length mark ≡ 4 → n ≡ min (length bytes) 4 → (take n bytes ≡ take 4 bytes) × (take n mark ≡ take (length bytes) mark)
+same_part mark bytes n four e =
+    let m = min_is (length bytes) 4 n e in
+    (sym (take_short 4 bytes n m.0 m.1), sym (take_short (length bytes) mark n (omega (arith, m.2, four)) (rw four m.3)))
 
-pub same_mark : (mark bytes : List ℕ) (n : ℕ) (r : Bool) → n ≡ min (length bytes) (length mark) → r ≡ not (bytes_eq (take n bytes) (take n mark)) → r ≡ false
-    → take (length mark) bytes ≡ take (length bytes) mark
-same_mark mark bytes n r e is h =
-    let m = min_is (length bytes) (length mark) n e in
-    let first = (bytes_eq-Decides (take n bytes) (take n mark)).0 (eq_by (bytes_eq (take n bytes) (take n mark)) r is h) in
-    take_short (length mark) bytes n m.0 m.1 ∙ first ∙ sym (take_short (length bytes) mark n m.2 m.3)
+pub other_mark : (mark bytes : List ℕ) (n : ℕ) (r : Bool) → length mark ≡ 4 → n ≡ min (length bytes) 4 → r ≡ not (bytes_eq (take n bytes) (take n mark)) → r ≡ true
+    → take 4 bytes ≢ take (length bytes) mark
+other_mark mark bytes n r four e is h same =
+    let p = same_part mark bytes n four e in
+    ne_by (bytes_eq (take n bytes) (take n mark)) r is h ((bytes_eq-Decides (take n bytes) (take n mark)).1 (p.0 ∙ same ∙ sym p.1))
+
+pub same_mark : (mark bytes : List ℕ) (n : ℕ) (r : Bool) → length mark ≡ 4 → n ≡ min (length bytes) 4 → r ≡ not (bytes_eq (take n bytes) (take n mark)) → r ≡ false
+    → take 4 bytes ≡ take (length bytes) mark
+same_mark mark bytes n r four e is h =
+    let p = same_part mark bytes n four e in
+    sym p.0 ∙ (bytes_eq-Decides (take n bytes) (take n mark)).0 (eq_by (bytes_eq (take n bytes) (take n mark)) r is h) ∙ p.1
 
 pub header_is : (mark bytes : List ℕ) (v : ℕ) → length mark ≡ 4 → IsBytes bytes → 6 ≤ length bytes → take 4 bytes ≡ take (length bytes) mark
     → v ≡ little_number 2 (take (length bytes - 4) (drop 4 bytes)) → bytes ≡ (mark ++ little_bytes 2 v) ++ drop 6 bytes

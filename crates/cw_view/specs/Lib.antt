@@ -3,6 +3,7 @@ pub mod Reading
 pub mod Views
 pub mod ObjectFormat
 pub mod Fronts
+pub mod Headers
 pub mod Splitting
 pub mod Values
 pub mod Uniqueness

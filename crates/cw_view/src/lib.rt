@@ -5,6 +5,7 @@ mod building;
 mod descriptor;
 mod fault;
 mod front;
+mod header;
 pub mod laws;
 mod payload;
 mod records;
@@ -12,6 +13,7 @@ mod view;
 
 pub use building::{DescFault, descriptors_of, read_desc};
 pub use fault::ObjFault;
+pub use header::{HEADER, HeaderFault, version_behind};
 pub use payload::{
     read_body, read_definition, read_family, read_item, read_preset, read_reloc, read_statement,
 };

@@ -7,6 +7,7 @@ ghost use Rattle.cw_view.specs.Fronts.{AnswersVersion, AnswersRecord, AnswersRec
 
 use crate::fault::ObjFault;
 use crate::front::{END, Front, HEAD, can_follow};
+use crate::header::{HEADER, HeaderFault, version_behind};
 use crate::records::Records;
 use byteorder::{ByteOrder, LittleEndian};
 use cw_fields::{named, text_in};
@@ -14,9 +15,6 @@ use cw_word::Name;
 
 /// How an object begins.
 const MARK: [u8; 4] = *b"C66O";
-
-/// The bytes of the mark and the version.
-const HEADER: usize = 6;
 
 /// The records of an object, as slices of its bytes.
 #[derive(Clone, Copy)]
@@ -30,20 +28,18 @@ pub struct View<'a> {
 fn version_of(bytes: &[u8]) -> Result<u16, ObjFault>
     ensures { AnswersVersion bytes.now result }
 {
-    let size = bytes.len().min(4);
-    if bytes[..size] != MARK[..size] {
-        return Err(ObjFault::NotObject);
-    }
-    if bytes.len() < HEADER {
-        return Err(ObjFault::Truncated {
+    match version_behind(MARK, bytes) {
+        Ok(version) => {
+            if version != 1 && version != 2 {
+                return Err(ObjFault::BadVersion);
+            }
+            Ok(version)
+        }
+        Err(HeaderFault::OtherMark) => Err(ObjFault::NotObject),
+        Err(HeaderFault::Short) => Err(ObjFault::Truncated {
             at: bytes.len() as u64,
-        });
+        }),
     }
-    let version = LittleEndian::read_u16(&bytes[4..]);
-    if version != 1 && version != 2 {
-        return Err(ObjFault::BadVersion);
-    }
-    Ok(version)
 }
 
 // The kind of the record at a place, behind one of another kind, and the size of its payload.
