@@ -2,6 +2,8 @@
 //! those of what bcc makes of the same in C, and how long a text takes by its size.
 #![tactic(auto)]
 
+ghost use Rattle.std.specs.Prelude.{◌<◌, ◌≤◌, length};
+
 mod passes;
 
 use cw_cpu86::Cpu;
@@ -19,7 +21,7 @@ use std::rt::Clock;
 use std::time::Instant;
 
 /// A text, and how many bytes bcc makes of the same in C: Debian's bcc with `-0 -O`, which tests neither overflow nor the places of elements (docs/bcc).
-#[derive(Drop)]
+#[derive(Clone, Copy)]
 struct Sample {
     name: &'static str,
     text: &'static str,
@@ -58,8 +60,36 @@ BUSY: SEEN[1] := SEEN[1] + 1; KIND[1] := -1; GOTO NEXT;
 DONE: WRITEBYTE(SEEN[0]); WRITEBYTE(SEEN[1]); WRITEBYTE(KIND[1])
 END FINISH";
 
-// The bytes of code of a text, without the library, where it is compiled.
-fn code_of(alloc: Global, text: &str) -> Option<usize> {
+const SAMPLES: &[Sample] = &[
+    Sample {
+        name: "first",
+        text: FIRST,
+        by_bcc: 23,
+    },
+    Sample {
+        name: "loops",
+        text: LOOPS,
+        by_bcc: 91,
+    },
+    Sample {
+        name: "factorial",
+        text: FACTORIAL,
+        by_bcc: 73,
+    },
+    Sample {
+        name: "filter",
+        text: FILTER,
+        by_bcc: 51,
+    },
+    Sample {
+        name: "control",
+        text: CONTROL,
+        by_bcc: 115,
+    },
+];
+
+// The object of a text, where it is compiled.
+fn object_of(alloc: Global, text: &str) -> Option<List<u8>> {
     if text.len() > 1_048_576 {
         return None;
     }
@@ -67,7 +97,13 @@ fn code_of(alloc: Global, text: &str) -> Option<usize> {
         return None;
     };
     let made = segment.made;
-    match View::open(made.object.as_slice()) {
+    Some(made.object)
+}
+
+// The bytes of its code, without the library.
+fn code_of(alloc: Global, text: &str) -> Option<usize> {
+    let object = object_of(alloc, text)?;
+    match View::open(object.as_slice()) {
         Ok(view) => Some(view.code().len()),
         Err(_) => None,
     }
@@ -86,13 +122,40 @@ fn measure(rt: &impl Print, alloc: Global, sample: &Sample) -> anyhow::Result<()
 
 /// The texts of a program, one or two, the bytes that it reads, and how many instructions run of what bcc makes of the same in C, without the routines
 /// that read and write a byte.
-#[derive(Drop)]
+#[derive(Clone, Copy)]
 struct Program {
     name: &'static str,
     texts: &'static [&'static str],
     input: &'static [u8],
     by_bcc: u32,
 }
+
+const PROGRAMS: &[Program] = &[
+    Program {
+        name: "first",
+        texts: &[FIRST],
+        input: b"",
+        by_bcc: 11,
+    },
+    Program {
+        name: "loops",
+        texts: &[LOOPS],
+        input: b"",
+        by_bcc: 2418,
+    },
+    Program {
+        name: "factorial",
+        texts: &[FACTORIAL],
+        input: b"",
+        by_bcc: 206,
+    },
+    Program {
+        name: "filter and control",
+        texts: &[FILTER, CONTROL],
+        input: b"\x28\x78\xC8\xC8",
+        by_bcc: 174,
+    },
+];
 
 const LIMITS: Limits = Limits {
     area: 1000,
@@ -109,27 +172,23 @@ const FEWER: u64 = 131_072;
 const HALVINGS: u32 = 17;
 
 // The objects of texts, where they are compiled.
-fn objects_of(alloc: Global, texts: &[&str]) -> Option<Vec<Vec<u8>>> {
+fn objects_of(alloc: Global, texts: &[&str]) -> Option<Vec<List<u8>>> {
     let mut objects = Vec::new(alloc);
     for text in texts {
-        if text.len() > 1_048_576 {
-            return None;
-        }
-        let segment = compile_text(alloc, text.as_bytes(), 0).ok()?;
-        let object = segment.made.object.as_slice().to_vec(alloc).ok()?;
+        let object = object_of(alloc, text)?;
         objects.push(object).ok()?;
     }
     Some(objects)
 }
 
 // One object or two, linked.
-fn linked(alloc: Global, objects: &[Vec<u8>]) -> Option<Linked> {
+fn linked(alloc: Global, objects: &[List<u8>]) -> Option<Linked> {
     match objects {
-        [object] => match View::open(object) {
+        [object] => match View::open(object.as_slice()) {
             Ok(view) => link(alloc, &[view], &LIMITS).ok(),
             Err(_) => None,
         },
-        [first, second] => match (View::open(first), View::open(second)) {
+        [first, second] => match (View::open(first.as_slice()), View::open(second.as_slice())) {
             (Ok(first), Ok(second)) => link(alloc, &[first, second], &LIMITS).ok(),
             _ => None,
         },
@@ -137,30 +196,82 @@ fn linked(alloc: Global, objects: &[Vec<u8>]) -> Option<Linked> {
     }
 }
 
+// Whether a program, over this input and output, has not ended after so many instructions.
+fn goes_on(
+    alloc: Global,
+    code: &[u8],
+    words: &[u16],
+    input: &mut MemSource,
+    out: &mut MemSink,
+    count: u64,
+) -> Option<bool>
+    requires some { 0 < length code.now }
+    requires code { length code.now ≤ 65536 }
+    requires words { length words.now ≤ 32768 }
+{
+    let mut cpu = Cpu::start(alloc, code, words).ok()?;
+    Some(run_image(&mut cpu, input, out, count) == ImageEnd::Unfinished)
+}
+
+// The same over this input, with what it writes kept nowhere.
+fn goes_on_from(
+    alloc: Global,
+    code: &[u8],
+    words: &[u16],
+    input: &mut MemSource,
+    count: u64,
+) -> Option<bool>
+    requires some { 0 < length code.now }
+    requires code { length code.now ≤ 65536 }
+    requires words { length words.now ≤ 32768 }
+{
+    let mut out = MemSink::new(alloc, MOST, MOST, List::new(alloc)).ok()?;
+    goes_on(alloc, code, words, input, &mut out, count)
+}
+
+// The same where it reads these bytes.
+fn goes_on_with(alloc: Global, code: &[u8], words: &[u16], bytes: &[u8], count: u64) -> Option<bool>
+    requires some { 0 < length code.now }
+    requires code { length code.now ≤ 65536 }
+    requires words { length words.now ≤ 32768 }
+{
+    let bytes = List::of(bytes.to_vec(alloc).ok()?);
+    let mut input = MemSource::new(bytes, MOST, List::new(alloc));
+    goes_on_from(alloc, code, words, &mut input, count)
+}
+
 // How many instructions a program runs to its end, by runs from its start: a run reads ahead, so it goes on with all of its input only by itself.
-fn instructions_of(alloc: Global, program: &Program) -> Option<u64> {
-    let objects = objects_of(alloc, program.texts)?;
-    let linked = linked(alloc, &objects)?;
-    let code = linked.image.code.as_slice();
-    let words = linked.image.words.as_slice();
-    if code.is_empty() || code.len() > 65_536 || words.len() > 32_768 {
-        return None;
-    }
+fn instructions_to_end(alloc: Global, code: &[u8], words: &[u16], bytes: &[u8]) -> Option<u64>
+    requires some { 0 < length code.now }
+    requires code { length code.now ≤ 65536 }
+    requires words { length words.now ≤ 32768 }
+{
     let mut few = 0_u64;
     let mut enough = FEWER;
     for _ in 0..HALVINGS {
         let count = few.wrapping_add(enough) / 2;
-        let mut cpu = Cpu::start(alloc, code, words).ok()?;
-        let bytes = List::of(program.input.to_vec(alloc).ok()?);
-        let mut input = MemSource::new(bytes, MOST, List::new(alloc));
-        let mut out = MemSink::new(alloc, MOST, MOST, List::new(alloc)).ok()?;
-        if run_image(&mut cpu, &mut input, &mut out, count) == ImageEnd::Unfinished {
+        if goes_on_with(alloc, code, words, bytes, count)? {
             few = count;
         } else {
             enough = count;
         }
     }
     if enough < FEWER { Some(enough) } else { None }
+}
+
+fn instructions_of_linked(alloc: Global, linked: &Linked, bytes: &[u8]) -> Option<u64> {
+    let code = linked.image.code.as_slice();
+    let words = linked.image.words.as_slice();
+    if code.is_empty() || code.len() > 65_536 || words.len() > 32_768 {
+        return None;
+    }
+    instructions_to_end(alloc, code, words, bytes)
+}
+
+fn instructions_of(alloc: Global, program: &Program) -> Option<u64> {
+    let objects = objects_of(alloc, program.texts)?;
+    let linked = linked(alloc, &objects)?;
+    instructions_of_linked(alloc, &linked, program.input)
 }
 
 fn run(rt: &impl Print, alloc: Global, program: &Program) -> anyhow::Result<()> {
@@ -185,17 +296,17 @@ fn long_text(alloc: Global, statements: u32) -> Result<String, AllocError> {
 }
 
 // Compiles a text of so many statements again and again, and tells how long each token took.
-fn time(
+fn time_text_of(
     rt: &(impl Print + Eprint + Clock),
     alloc: Global,
+    text: &str,
     statements: u32,
     times: u32,
 ) -> anyhow::Result<()> {
-    let text = long_text(alloc, statements)?;
     let mut bytes = 0_usize;
     let start = Instant::now(rt)?;
     for _ in 0..times {
-        bytes = code_of(alloc, text.as_str()).unwrap_or(0);
+        bytes = code_of(alloc, text).unwrap_or(0);
     }
     let took = start.elapsed(rt)?.as_micros();
     println!(rt; "{statements} statements, {bytes} bytes of code")?;
@@ -207,6 +318,16 @@ fn time(
         )?;
     }
     Ok(())
+}
+
+fn time(
+    rt: &(impl Print + Eprint + Clock),
+    alloc: Global,
+    statements: u32,
+    times: u32,
+) -> anyhow::Result<()> {
+    let text = long_text(alloc, statements)?;
+    time_text_of(rt, alloc, text.as_str(), statements, times)
 }
 
 // Tells the share of each pass in so many microseconds.
@@ -222,14 +343,13 @@ fn tell(rt: &impl Eprint, spans: &[Span], whole: u128) -> anyhow::Result<()> {
     Ok(())
 }
 
-// Tells the share of each pass in compiling a text of so many statements, in hundredths; what is left goes to orders, code and the object.
-fn share(rt: &(impl Eprint + Clock), alloc: Global, statements: u32) -> anyhow::Result<()> {
-    let text = long_text(alloc, statements)?;
+// Tells the share of each pass in compiling a text, in hundredths; what is left goes to orders, code and the object.
+fn share_of(rt: &(impl Eprint + Clock), alloc: Global, text: &str) -> anyhow::Result<()> {
     if text.len() > 1_048_576 {
         return Ok(());
     }
     let start = Instant::now(rt)?;
-    let _bytes = code_of(alloc, text.as_str());
+    let _bytes = code_of(alloc, text);
     let whole = start.elapsed(rt)?.as_micros();
     let mut spans = Spans::new(alloc);
     time_text(rt, alloc, text.as_bytes(), &mut spans);
@@ -239,64 +359,17 @@ fn share(rt: &(impl Eprint + Clock), alloc: Global, statements: u32) -> anyhow::
     }
 }
 
+// The same of a text of so many statements.
+fn share(rt: &(impl Eprint + Clock), alloc: Global, statements: u32) -> anyhow::Result<()> {
+    let text = long_text(alloc, statements)?;
+    share_of(rt, alloc, text.as_str())
+}
+
 fn main(rt: HostRuntime) -> anyhow::Result<()> {
-    let samples = [
-        Sample {
-            name: "first",
-            text: FIRST,
-            by_bcc: 23,
-        },
-        Sample {
-            name: "loops",
-            text: LOOPS,
-            by_bcc: 91,
-        },
-        Sample {
-            name: "factorial",
-            text: FACTORIAL,
-            by_bcc: 73,
-        },
-        Sample {
-            name: "filter",
-            text: FILTER,
-            by_bcc: 51,
-        },
-        Sample {
-            name: "control",
-            text: CONTROL,
-            by_bcc: 115,
-        },
-    ];
-    for sample in &samples {
+    for sample in SAMPLES {
         measure(&rt, rt.alloc(), sample)?;
     }
-    let programs = [
-        Program {
-            name: "first",
-            texts: &[FIRST],
-            input: b"",
-            by_bcc: 11,
-        },
-        Program {
-            name: "loops",
-            texts: &[LOOPS],
-            input: b"",
-            by_bcc: 2418,
-        },
-        Program {
-            name: "factorial",
-            texts: &[FACTORIAL],
-            input: b"",
-            by_bcc: 206,
-        },
-        Program {
-            name: "filter and control",
-            texts: &[FILTER, CONTROL],
-            input: b"\x28\x78\xC8\xC8",
-            by_bcc: 174,
-        },
-    ];
-    for program in &programs {
+    for program in PROGRAMS {
         run(&rt, rt.alloc(), program)?;
     }
     time(&rt, rt.alloc(), 166, 640)?;

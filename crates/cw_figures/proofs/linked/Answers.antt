@@ -7,4 +7,4 @@ pub link-requires-in-Ok-Ok-clause-opened : goal.link-requires-in-Ok-Ok-clause-op
 link-requires-in-Ok-Ok-clause-opened c =
     let first = c.in-Ok-Ok.first in
     let second = c.in-Ok-Ok.second in
-    All-cons IsOpened first (second ∷ []) (c.deref-in-len2.result.now, c.in-Ok-Ok.ensures) (All-cons IsOpened second [] (c.deref-in-len2-2.result.now, c.in-Ok-Ok.ensures') (All-nil IsOpened))
+    All-cons IsOpened first (second ∷ []) (c.as_slice-in-len2.result.now, c.in-Ok-Ok.ensures) (All-cons IsOpened second [] (c.as_slice-in-len2-2.result.now, c.in-Ok-Ok.ensures') (All-nil IsOpened))
