@@ -28,21 +28,21 @@ const LIMITS: Limits = Limits {
     depth: 20,
 };
 
-/// A word: its name, and what stands behind.
+/// A word: its name, what stands behind, and whether a number was asked for that does not stand there.
 #[derive(Clone, Copy)]
 struct Spelled<'a> {
     name: &'a str,
     numbers: &'a str,
+    is_wrong: bool,
 }
 
 impl<'a> Spelled<'a> {
     fn of(word: &'a str) -> Spelled<'a> {
-        match word.split_once(':') {
-            Some((name, numbers)) => Spelled { name, numbers },
-            None => Spelled {
-                name: word,
-                numbers: "",
-            },
+        let (name, numbers) = word.split_once(':').unwrap_or((word, ""));
+        Spelled {
+            name,
+            numbers,
+            is_wrong: false,
         }
     }
 
@@ -50,24 +50,39 @@ impl<'a> Spelled<'a> {
         self.numbers.split(':').nth(k).unwrap_or("")
     }
 
-    fn byte(&self, k: usize) -> Option<u8> {
-        self.part(k).parse::<u8>().ok()
+    // What was asked for, where it is there; else this, and the word is wrong.
+    fn known<T: Copy>(&mut self, found: Option<T>, otherwise: T) -> T {
+        match found {
+            Some(found) => found,
+            None => {
+                self.is_wrong = true;
+                otherwise
+            }
+        }
     }
 
-    fn word(&self, k: usize) -> Option<u16> {
-        self.part(k).parse::<u16>().ok()
+    fn byte(&mut self, k: usize) -> u8 {
+        self.known(self.part(k).parse::<u8>().ok(), 0)
     }
 
-    fn long(&self, k: usize) -> Option<u32> {
-        self.part(k).parse::<u32>().ok()
+    fn word(&mut self, k: usize) -> u16 {
+        self.known(self.part(k).parse::<u16>().ok(), 0)
     }
 
-    fn signed(&self, k: usize) -> Option<i16> {
-        self.part(k).parse::<i16>().ok()
+    fn long(&mut self, k: usize) -> u32 {
+        self.known(self.part(k).parse::<u32>().ok(), 0)
     }
 
-    fn scale(&self, k: usize) -> Option<i8> {
-        self.part(k).parse::<i8>().ok()
+    fn signed(&mut self, k: usize) -> i16 {
+        self.known(self.part(k).parse::<i16>().ok(), 0)
+    }
+
+    fn scale(&mut self, k: usize) -> i8 {
+        self.known(self.part(k).parse::<i8>().ok(), 0)
+    }
+
+    fn comparator(&mut self, k: usize) -> Comparator {
+        self.known(comparator(self.part(k)), Comparator::Equal)
     }
 }
 
@@ -112,137 +127,128 @@ fn lined(name: &str, line: u16) -> Option<Order> {
         "SetVariable" => Some(Order::SetVariable(line)),
         "AddStep" => Some(Order::AddStep(line)),
         "PutVariable" => Some(Order::PutVariable(line)),
-        _ => None,
+        _ => bare(name),
     }
 }
 
 // Orders with one number and a line.
-fn of_word_lined(name: &str, n: u16, line: u16) -> Option<Order> {
-    match name {
+fn of_number_lined(word: &mut Spelled<'_>, line: u16) -> Option<Order> {
+    match word.name {
         "GoSwitchCommon" => Some(Order::GoSwitchCommon {
-            descriptor: n,
+            descriptor: word.word(0),
             line,
         }),
-        "CallProc" => Some(Order::CallProc { procedure: n, line }),
+        "CallProc" => Some(Order::CallProc {
+            procedure: word.word(0),
+            line,
+        }),
         "CallCommon" => Some(Order::CallCommon {
-            descriptor: n,
+            descriptor: word.word(0),
             line,
         }),
         "GoSwitch" => Some(Order::GoSwitch {
-            switch: u32::from(n),
+            switch: word.long(0),
             line,
         }),
         "GoSwitchSpecial" => Some(Order::GoSwitchSpecial {
-            place: u8::try_from(n).ok()?,
+            place: word.byte(0),
             line,
         }),
         "CallSpecial" => Some(Order::CallSpecial {
-            place: u8::try_from(n).ok()?,
+            place: word.byte(0),
             line,
         }),
-        _ => of_word(name, n),
+        _ => lined(word.name, line),
     }
 }
 
 // Orders with one number.
-fn of_word(name: &str, n: u16) -> Option<Order> {
-    match name {
-        "Const" => Some(Order::Const(n)),
-        "FrameHome" => Some(Order::FrameHome(n)),
-        "LabelCommon" => Some(Order::LabelCommon(n)),
-        "SwitchCommon" => Some(Order::SwitchCommon(n)),
-        "ProcOut" => Some(Order::ProcOut(n)),
-        "ProcCommon" => Some(Order::ProcCommon(n)),
-        "GoCommon" => Some(Order::GoCommon(n)),
-        "Enter" => Some(Order::Enter(n)),
-        "Start" => Some(Order::Start(n)),
-        _ => of_byte(name, u8::try_from(n).ok()?),
-    }
-}
-
-fn of_byte(name: &str, n: u8) -> Option<Order> {
-    match name {
-        "SpecialOut" => Some(Order::SpecialOut(n)),
-        "GoSpecial" => Some(Order::GoSpecial(n)),
-        _ => of_number(name, u32::from(n)),
-    }
-}
-
-fn of_number(name: &str, n: u32) -> Option<Order> {
-    match name {
-        "Jump" => Some(Order::Jump(n)),
-        "Exhausted" => Some(Order::Exhausted(n)),
-        "LabelOut" => Some(Order::LabelOut(n)),
-        "SwitchOut" => Some(Order::SwitchOut(n)),
-        "GoMain" => Some(Order::GoMain(n)),
-        _ => None,
+fn of_number(word: &mut Spelled<'_>, line: u16) -> Option<Order> {
+    match word.name {
+        "Const" => Some(Order::Const(word.word(0))),
+        "FrameHome" => Some(Order::FrameHome(word.word(0))),
+        "LabelCommon" => Some(Order::LabelCommon(word.word(0))),
+        "SwitchCommon" => Some(Order::SwitchCommon(word.word(0))),
+        "ProcOut" => Some(Order::ProcOut(word.word(0))),
+        "ProcCommon" => Some(Order::ProcCommon(word.word(0))),
+        "GoCommon" => Some(Order::GoCommon(word.word(0))),
+        "Enter" => Some(Order::Enter(word.word(0))),
+        "Start" => Some(Order::Start(word.word(0))),
+        "SpecialOut" => Some(Order::SpecialOut(word.byte(0))),
+        "GoSpecial" => Some(Order::GoSpecial(word.byte(0))),
+        "Jump" => Some(Order::Jump(word.long(0))),
+        "Exhausted" => Some(Order::Exhausted(word.long(0))),
+        "LabelOut" => Some(Order::LabelOut(word.long(0))),
+        "SwitchOut" => Some(Order::SwitchOut(word.long(0))),
+        "GoMain" => Some(Order::GoMain(word.long(0))),
+        _ => of_number_lined(word, line),
     }
 }
 
 // Orders of parts and of storage.
-fn of_parts(word: Spelled<'_>, line: u16) -> Option<Order> {
+fn of_parts(word: &mut Spelled<'_>, line: u16) -> Option<Order> {
     match word.name {
         "Home" => Some(Order::Home {
-            family: word.word(0)?,
-            offset: word.word(1)?,
+            family: word.word(0),
+            offset: word.word(1),
         }),
         "LoadPart" => Some(Order::LoadPart {
-            t: word.byte(0)?,
-            b: word.byte(1)?,
+            t: word.byte(0),
+            b: word.byte(1),
             signed: word.part(2) == "s",
         }),
         "StorePart" => Some(Order::StorePart {
-            t: word.byte(0)?,
-            b: word.byte(1)?,
+            t: word.byte(0),
+            b: word.byte(1),
         }),
         "Take" => Some(Order::Take {
-            t: word.byte(0)?,
-            b: word.byte(1)?,
+            t: word.byte(0),
+            b: word.byte(1),
         }),
         "Bind" => Some(Order::Bind {
-            argument: word.byte(0)?,
-            family: word.word(1)?,
-            offset: word.word(2)?,
+            argument: word.byte(0),
+            family: word.word(1),
+            offset: word.word(2),
         }),
         "BindFrame" => Some(Order::BindFrame {
-            argument: word.byte(0)?,
-            offset: word.word(1)?,
+            argument: word.byte(0),
+            offset: word.word(1),
         }),
         _ => of_signs(word, line),
     }
 }
 
 // Orders with other numbers.
-fn of_signs(word: Spelled<'_>, line: u16) -> Option<Order> {
+fn of_signs(word: &mut Spelled<'_>, line: u16) -> Option<Order> {
     match word.name {
         "Rescale" => Some(Order::Rescale {
-            from: word.byte(0)?,
-            to: word.byte(1)?,
+            from: word.byte(0),
+            to: word.byte(1),
             line,
         }),
         "Mul" => Some(Order::Mul {
-            power: word.scale(0)?,
+            power: word.scale(0),
             line,
         }),
         "Div" => Some(Order::Div {
-            power: word.scale(0)?,
+            power: word.scale(0),
             line,
         }),
         "IndexLess" => Some(Order::IndexLess {
-            lower: word.signed(0)?,
+            lower: word.signed(0),
             line,
         }),
         "InBounds" => Some(Order::InBounds {
-            lower: word.signed(0)?,
-            upper: word.signed(1)?,
+            lower: word.signed(0),
+            upper: word.signed(1),
             line,
         }),
         "JumpIf" => Some(Order::JumpIf {
-            comparator: comparator(word.part(0))?,
-            mark: word.long(1)?,
+            comparator: word.comparator(0),
+            mark: word.long(1),
         }),
         "Return" => Some(Order::Return {
-            arguments: word.byte(0)?,
+            arguments: word.byte(0),
             answers: word.part(1) == "1",
         }),
         _ => of_elements(word, line),
@@ -250,29 +256,29 @@ fn of_signs(word: Spelled<'_>, line: u16) -> Option<Order> {
 }
 
 // Orders of elements and entries.
-fn of_elements(word: Spelled<'_>, line: u16) -> Option<Order> {
+fn of_elements(word: &mut Spelled<'_>, line: u16) -> Option<Order> {
     match word.name {
         "Element" => Some(Order::Element {
-            lower: word.signed(0)?,
-            span: word.word(1)?,
+            lower: word.signed(0),
+            span: word.word(1),
             line,
         }),
         "ElementOfTwo" => Some(Order::ElementOfTwo {
-            lower: word.signed(0)?,
-            second: word.signed(1)?,
-            width: word.word(2)?,
+            lower: word.signed(0),
+            second: word.signed(1),
+            width: word.word(2),
             line,
         }),
         "ElementInside" => Some(Order::ElementInside {
-            lower: word.signed(0)?,
-            second: word.signed(1)?,
-            width: word.word(2)?,
-            span: word.word(3)?,
+            lower: word.signed(0),
+            second: word.signed(1),
+            width: word.word(2),
+            span: word.word(3),
         }),
         "Entry" => Some(Order::Entry {
-            width: word.word(0)?,
-            word: word.word(1)?,
-            span: word.word(2)?,
+            width: word.word(0),
+            word: word.word(1),
+            span: word.word(2),
             line,
         }),
         _ => of_steps(word, line),
@@ -280,69 +286,56 @@ fn of_elements(word: Spelled<'_>, line: u16) -> Option<Order> {
 }
 
 // The step of a loop.
-fn of_steps(word: Spelled<'_>, line: u16) -> Option<Order> {
+fn of_steps(word: &mut Spelled<'_>, line: u16) -> Option<Order> {
     match word.name {
         "NextStep" => Some(Order::NextStep {
             looped: Place::Word {
-                family: word.word(0)?,
-                offset: word.word(1)?,
+                family: word.word(0),
+                offset: word.word(1),
             },
             line,
-            mark: word.long(2)?,
+            mark: word.long(2),
         }),
         "NextStepFrame" => Some(Order::NextStep {
-            looped: Place::Frame(word.word(0)?),
+            looped: Place::Frame(word.word(0)),
             line,
-            mark: word.long(1)?,
+            mark: word.long(1),
         }),
-        _ => None,
+        _ => of_number(word, line),
     }
 }
 
-fn marks(alloc: Global, word: Spelled<'_>) -> Option<List<u32>> {
+fn marks(alloc: Global, numbers: &str) -> Option<List<u32>> {
     let mut marks = List::new(alloc);
-    for part in word.numbers.split(':') {
+    for part in numbers.split(':') {
         marks.push(part.parse::<u32>().ok()?).ok()?;
     }
     Some(marks)
 }
 
-// Orders that go on by a number, each with a list of marks.
-fn of_marks(alloc: Global, word: Spelled<'_>, line: u16) -> Option<Order> {
+// An order; those that go on by a number have a list of marks.
+fn order(alloc: Global, word: &mut Spelled<'_>, line: u16) -> Option<Order> {
     match word.name {
-        "LoopWay" => Some(Order::LoopWay(marks(alloc, word)?)),
+        "LoopWay" => Some(Order::LoopWay(marks(alloc, word.numbers)?)),
         "SwitchWay" => Some(Order::SwitchWay {
-            marks: marks(alloc, word)?,
+            marks: marks(alloc, word.numbers)?,
             line,
         }),
-        _ => None,
+        _ => of_parts(word, line),
     }
 }
 
-fn order(alloc: Global, word: Spelled<'_>, line: u16) -> Option<Order> {
-    if let Some(order) = of_marks(alloc, word, line) {
-        return Some(order);
+fn goal(text: &str) -> Option<Goal> {
+    match text.strip_prefix('c') {
+        Some(descriptor) => Some(Goal::Common(descriptor.parse::<u16>().ok()?)),
+        None => Some(Goal::Own(text.parse::<u32>().ok()?)),
     }
-    if let Some(order) = bare(word.name) {
-        return Some(order);
-    }
-    if let Some(order) = lined(word.name, line) {
-        return Some(order);
-    }
-    if let Some(order) = of_parts(word, line) {
-        return Some(order);
-    }
-    of_word_lined(word.name, word.word(0)?, line)
 }
 
-fn goals(alloc: Global, word: Spelled<'_>) -> Option<List<Goal>> {
+fn goals(alloc: Global, numbers: &str) -> Option<List<Goal>> {
     let mut goals = List::new(alloc);
-    for part in word.numbers.split(':') {
-        let goal = match part.strip_prefix('c') {
-            Some(descriptor) => Goal::Common(descriptor.parse::<u16>().ok()?),
-            None => Goal::Own(part.parse::<u32>().ok()?),
-        };
-        goals.push(goal).ok()?;
+    for part in numbers.split(':') {
+        goals.push(goal(part)?).ok()?;
     }
     Some(goals)
 }
@@ -387,34 +380,34 @@ impl Segment {
         placed
     }
 
-    fn add_label(&mut self, word: Spelled<'_>, in_procedure: bool) -> Option<()> {
-        let mark = word.long(0)?;
+    fn add_label(&mut self, word: &mut Spelled<'_>, in_procedure: bool) -> Option<()> {
+        let mark = word.long(0);
         self.orders
             .labels
             .push(LabelMark { mark, in_procedure })
             .ok()
     }
 
-    fn add_procedure(&mut self, alloc: Global, word: Spelled<'_>) -> Option<()> {
-        let mark = word.long(0)?;
-        let count = word.byte(1)?;
+    fn add_procedure(&mut self, alloc: Global, word: &mut Spelled<'_>) -> Option<()> {
+        let mark = word.long(0);
+        let count = word.byte(1);
         self.place_mark(alloc, mark)?;
         self.orders.procedures.push(mark).ok()?;
         self.arguments.push(usize::from(count)).ok()
     }
 
-    fn add_name(&mut self, word: Spelled<'_>) -> Option<()> {
-        let definition = definition(word.part(2), word.long(3)?)?;
-        let name = (word.word(0)?, usize::from(word.byte(1)?), definition);
+    fn add_name(&mut self, word: &mut Spelled<'_>) -> Option<()> {
+        let definition = definition(word.part(2), word.long(3))?;
+        let name = (word.word(0), usize::from(word.byte(1)), definition);
         self.defined.push(name).ok()
     }
 
-    fn add_switch(&mut self, alloc: Global, word: Spelled<'_>) -> Option<()> {
-        let goals = goals(alloc, word)?;
+    fn add_switch(&mut self, alloc: Global, numbers: &str) -> Option<()> {
+        let goals = goals(alloc, numbers)?;
         self.orders.switches.push(goals).ok()
     }
 
-    fn add_order(&mut self, alloc: Global, word: Spelled<'_>, line: u16) -> Option<()> {
+    fn add_order(&mut self, alloc: Global, word: &mut Spelled<'_>, line: u16) -> Option<()> {
         let order = order(alloc, word, line)?;
         self.orders.list.push(order).ok()
     }
@@ -425,14 +418,14 @@ impl Segment {
     }
 
     // The orders have this line.
-    fn add(&mut self, alloc: Global, word: Spelled<'_>, line: u16) -> Option<()> {
+    fn add(&mut self, alloc: Global, word: &mut Spelled<'_>, line: u16) -> Option<()> {
         match word.name {
             "Proc" => self.add_procedure(alloc, word),
             "Label" => self.add_label(word, false),
             "LabelIn" => self.add_label(word, true),
-            "Switch" => self.add_switch(alloc, word),
+            "Switch" => self.add_switch(alloc, word.numbers),
             "Names" => self.add_name(word),
-            "Mark" => self.add_mark(alloc, word.long(0)?),
+            "Mark" => self.add_mark(alloc, word.long(0)),
             "Line" => Some(()),
             _ => self.add_order(alloc, word, line),
         }
@@ -440,11 +433,11 @@ impl Segment {
 }
 
 // The line of the orders from a word on.
-fn line_behind(word: Spelled<'_>, line: u16) -> Option<u16> {
+fn line_behind(word: &mut Spelled<'_>, line: u16) -> u16 {
     match word.name {
         "Line" | "Start" => word.word(0),
-        "Segment" | "Proc" => Some(0),
-        _ => Some(line),
+        "Segment" | "Proc" => 0,
+        _ => line,
     }
 }
 
@@ -456,12 +449,12 @@ fn set_place(places: &mut Vec<u32>, mark: usize, place: u32) -> Option<()> {
     Some(())
 }
 
-fn limits(word: Spelled<'_>) -> Option<Limits> {
-    Some(Limits {
-        area: word.long(0)?,
-        frames: word.long(1)?,
-        depth: word.word(2)?,
-    })
+fn limits(word: &mut Spelled<'_>) -> Limits {
+    Limits {
+        area: word.long(0),
+        frames: word.long(1),
+        depth: word.word(2),
+    }
 }
 
 impl Program {
@@ -471,11 +464,11 @@ impl Program {
         self.segments.push(segment).ok()
     }
 
-    fn add(&mut self, alloc: Global, word: Spelled<'_>, line: u16) -> Option<()> {
+    fn add(&mut self, alloc: Global, word: &mut Spelled<'_>, line: u16) -> Option<()> {
         match word.name {
             "Segment" => self.begin(alloc),
             "Limits" => {
-                self.limits = limits(word)?;
+                self.limits = limits(word);
                 Some(())
             }
             _ => self.segments.last_mut()?.add(alloc, word, line),
@@ -486,9 +479,12 @@ impl Program {
         let mut line = 0;
         self.begin(alloc)?;
         for spelled in text.split(' ') {
-            let word = Spelled::of(spelled);
-            line = line_behind(word, line)?;
-            self.add(alloc, word, line)?;
+            let mut word = Spelled::of(spelled);
+            line = line_behind(&mut word, line);
+            self.add(alloc, &mut word, line)?;
+            if word.is_wrong {
+                return None;
+            }
         }
         Some(())
     }
