@@ -1,4 +1,5 @@
 pub mod Quotients
+pub mod Counting
 pub mod Layers
 pub mod Scales
 pub mod NoLabels
