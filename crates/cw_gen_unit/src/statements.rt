@@ -1,12 +1,12 @@
 //! Statements.
-ghost use Rattle.std.specs.Prelude.{◌≡◌, ℕ, ◌+◌, ◌∷◌, ◌||◌, [], Option, None, OnOk, IfOk, slice_get};
+ghost use Rattle.std.specs.Prelude.{◌≡◌, ℕ, ◌+◌, ◌∷◌, ◌||◌, [], map, true, Option, None, OnOk, IfOk, slice_get};
 ghost use Rattle.cw_unit.specs.declared.unit.Stmt.TheOpen as statement;
-ghost use Rattle.cw_gen_expr.specs.Pieces.{plain, followed_by};
+ghost use Rattle.cw_gen_expr.specs.Pieces.{plain, followed_by, sequence};
 ghost use Rattle.cw_gen_expr.specs.Output.{made, added, Adds};
 ghost use Rattle.cw_gen_expr.specs.ReferenceExpressions.{scope_with, at_line, expression_piece, store_orders};
 ghost use Rattle.cw_gen_unit.specs.ReferenceStatements.{begin_orders, after_statement_call, own_order as spec_own_order, goal_order as spec_goal_order, jump_order as spec_jump_order};
-ghost use Rattle.cw_gen_unit.specs.ReferenceStatements.{jump_piece, jump_past, statement_step, statement_piece};
-ghost use Rattle.cw_gen_unit.specs.Endings.{is_empty as spec_is_empty, ends_behind as spec_ends_behind, comes_to_end};
+ghost use Rattle.cw_gen_unit.specs.ReferenceStatements.{jump_piece, jump_past, loop_piece, statement_step, statement_piece};
+ghost use Rattle.cw_gen_unit.specs.Endings.{is_empty as spec_is_empty, ends_behind as spec_ends_behind, list_ends, comes_to_end};
 
 use crate::begun::{begin_loop, end_loop};
 use crate::switches::{owned_marks, switch_order};
@@ -16,8 +16,8 @@ use cw_gen_expr::output::Output;
 use cw_gen_expr::tree::{put_address, put_arguments, put_condition, put_expression};
 use cw_order::Order;
 use cw_unit::layout::Layout;
-use cw_unit::unit::{Arg, Dest, Expr, Field, Goal, Label, Param, Ref, Stmt, Target, Unit};
-use cw_word::NoMemory;
+use cw_unit::unit::{Arg, Dest, Expr, Felem, Field, Goal, Label, Param, Ref, Stmt, Target, Unit};
+use cw_word::{Boxed, List, NoMemory};
 use std::alloc::Global;
 
 /// Adds the start of a statement.
@@ -261,12 +261,28 @@ fn put_answer(
     }
 }
 
+// What is asked of a box or a list names all that a statement is made of at each call. These two name it once.
+
+/// The statement in a box.
+fn inner(statement: &Boxed<Stmt>) -> &Stmt
+    ensures { result.now ≡ statement.now }
+{
+    statement.get()
+}
+
+/// The statements of a list.
+fn members(statements: &List<Stmt>) -> &[Stmt]
+    ensures { result.now ≡ statements.now }
+{
+    statements.as_slice()
+}
+
 /// Whether a statement has no orders: a list of none.
 fn is_empty(statement: &Stmt) -> bool
     ensures { result ≡ spec_is_empty statement.now }
 {
     match statement {
-        Stmt::Seq(statements) => statements.as_slice().is_empty(),
+        Stmt::Seq(statements) => members(statements).is_empty(),
         _ => false,
     }
 }
@@ -296,6 +312,7 @@ fn one_ends(first: bool, second: bool) -> bool
 
 /// Adds the orders of a statement of a body: the segment's, or that of the procedure `who`, with these parameters and an answer of this
 /// scale. It answers whether a run may come to the end of the statement.
+#[cycle(statements)]
 fn put_statement(
     alloc: Global,
     out: &mut Output,
@@ -339,78 +356,48 @@ fn put_statement(
             false
         }
         Stmt::If(line, condition, holds, fails) => {
+            let holds = inner(holds);
+            let fails = inner(fails);
             put_begin(out, *line);
             let end = out.reserve();
             let other = out.reserve();
             put_condition(
                 out, unit, layout, parameters, *line, condition, false, other,
             );
-            let first = put_statement(
-                alloc,
-                out,
-                unit,
-                layout,
-                parameters,
-                who,
-                answer,
-                holds.get(),
-            );
-            put_jump_past(out, first, fails.get(), end);
+            let first = put_statement(alloc, out, unit, layout, parameters, who, answer, holds);
+            put_jump_past(out, first, fails, end);
             out.put_mark(other);
-            let second = put_statement(
-                alloc,
-                out,
-                unit,
-                layout,
-                parameters,
-                who,
-                answer,
-                fails.get(),
-            );
+            let second = put_statement(alloc, out, unit, layout, parameters, who, answer, fails);
             out.put_mark(end);
             one_ends(first, second)
         }
         Stmt::For(line, looped, reference, elements, body) => {
-            put_begin(out, *line);
-            match begin_loop(
+            put_loop(
                 alloc,
                 out,
                 unit,
                 layout,
                 parameters,
+                who,
+                answer,
+                inner(body),
                 *line,
                 *looped,
                 reference,
                 elements.as_slice(),
-            ) {
-                Ok(begun) => {
-                    put_statement(
-                        alloc,
-                        out,
-                        unit,
-                        layout,
-                        parameters,
-                        who,
-                        answer,
-                        body.get(),
-                    );
-                    end_loop(out, layout, *line, *looped, begun);
-                    true
-                }
-                Err(_) => {
-                    out.fail();
-                    true
-                }
-            }
+            );
+            true
         }
-        Stmt::Seq(statements) => {
-            let mut before = true;
-            for member in statements.as_slice() {
-                let ends = put_statement(alloc, out, unit, layout, parameters, who, answer, member);
-                before = ends_behind(before, member, ends);
-            }
-            before
-        }
+        Stmt::Seq(statements) => put_row(
+            alloc,
+            out,
+            unit,
+            layout,
+            parameters,
+            who,
+            answer,
+            members(statements),
+        ),
         Stmt::Mark(labels, statement) => {
             out.put_labels(labels.as_slice());
             put_statement(
@@ -421,10 +408,64 @@ fn put_statement(
                 parameters,
                 who,
                 answer,
-                statement.get(),
+                inner(statement),
             )
         }
     }
+}
+
+/// Adds the orders of a FOR around a body.
+#[cycle(statements)]
+fn put_loop(
+    alloc: Global,
+    out: &mut Output,
+    unit: &Unit,
+    layout: &Layout,
+    parameters: &[Param],
+    who: Option<u16>,
+    answer: u8,
+    body: &Stmt,
+    line: u16,
+    looped: u32,
+    reference: &Ref,
+    elements: &[Felem],
+)
+    ensures { Adds (loop_piece (at_line line (scope_with unit.now layout.now parameters.now)) looped reference.now elements.now
+        (statement_piece (scope_with unit.now layout.now parameters.now) who answer body.now)) out.old out.new }
+{
+    put_begin(out, line);
+    match begin_loop(
+        alloc, out, unit, layout, parameters, line, looped, reference, elements,
+    ) {
+        Ok(begun) => {
+            put_statement(alloc, out, unit, layout, parameters, who, answer, body);
+            end_loop(out, layout, line, looped, begun);
+        }
+        Err(_) => out.fail(),
+    }
+}
+
+/// Adds the orders of statements in a row, and answers whether a run may come to the end of the last.
+#[cycle(statements)]
+fn put_row(
+    alloc: Global,
+    out: &mut Output,
+    unit: &Unit,
+    layout: &Layout,
+    parameters: &[Param],
+    who: Option<u16>,
+    answer: u8,
+    statements: &[Stmt],
+) -> bool
+    ensures orders { Adds (sequence (map (statement_piece (scope_with unit.now layout.now parameters.now) who answer) statements.now)) out.old out.new }
+    ensures ends { result ≡ list_ends true (map (λ t. (t, comes_to_end t)) statements.now) }
+{
+    let mut before = true;
+    for member in statements {
+        let ends = put_statement(alloc, out, unit, layout, parameters, who, answer, member);
+        before = ends_behind(before, member, ends);
+    }
+    before
 }
 
 /// The same, or NoMemory.

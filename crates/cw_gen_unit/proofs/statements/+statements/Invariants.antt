@@ -5,10 +5,10 @@ use Rattle.cw_gen_expr.proofs.Adding.{Coming}
 use Rattle.cw_gen_unit.specs.Endings.{list_ends}
 use Rattle.cw_gen_unit.specs.ReferenceStatements.{statement_piece}
 use Rattle.cw_gen_unit.proofs.Layers.{with_ends}
-use Rattle.cw_gen_unit.proofs.statements.+put_statement.Given as goal
+use Rattle.cw_gen_unit.proofs.statements.+statements.Given as goal
 
-abbrev pub invariant-loop-member : goal.invariant-loop-member
-invariant-loop-member l =
+abbrev pub invariant-put_row-loop-member : goal.invariant-put_row-loop-member
+invariant-put_row-loop-member l =
     let piece = statement_piece (scope_with l.unit l.layout l.parameters) l.who l.answer in
-    Coming (sequence (map piece l.member-items)) (sequence (map piece (drop l.member-index l.member-items))) l.initial.out l.out
-    × (list_ends l.before (with_ends (drop l.member-index l.member-items)) ≡ list_ends true (with_ends l.member-items))
+    Coming (sequence (map piece l.statements)) (sequence (map piece (drop l.member-index l.statements))) l.initial.out l.out
+    × (list_ends l.before (with_ends (drop l.member-index l.statements)) ≡ list_ends true (with_ends l.statements))
