@@ -9,3 +9,4 @@ pub mod Ways
 pub mod Reaching
 pub mod Backward
 pub mod Within
+mod Orders

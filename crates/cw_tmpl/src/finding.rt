@@ -50,13 +50,23 @@ fn part_fetched(place: Place, t: u8, b: u8, signed: bool) -> Block
     }
 }
 
+/// The block of an order behind the address of a place.
+fn fetched_by(place: Place, order: &Order) -> Block
+    ensures { result ≡ fetched place (Some order.now) }
+{
+    match order {
+        Order::Load => Block::Fetch(place),
+        Order::LoadPart { t, b, signed } => part_fetched(place, *t, *b, *signed),
+        _ => Block::Single,
+    }
+}
+
 fn fetched(place: Place, orders: &[Order], behind: usize) -> Block
     ensures { result ≡ fetched place (slice_get orders.now behind) }
 {
     match orders.get(behind) {
-        Some(Order::Load) => Block::Fetch(place),
-        Some(Order::LoadPart { t, b, signed }) => part_fetched(place, *t, *b, *signed),
-        _ => Block::Single,
+        Some(order) => fetched_by(place, order),
+        None => Block::Single,
     }
 }
 
@@ -70,15 +80,25 @@ fn part_assigned(place: Place, t: u8, b: u8) -> Block
     }
 }
 
+/// The block of an order behind a `Save` and the address of a place, where another one is the next.
+fn assigned_by(place: Place, order: &Order, orders: &[Order], next: usize) -> Block
+    ensures { result ≡ assigned place (Some order.now) (slice_get orders.now next) }
+{
+    match order {
+        Order::Load => with_use(Simple::Contents(place), use_at(orders, next)),
+        Order::Store => Block::Assign(place),
+        Order::StorePart { t, b } => part_assigned(place, *t, *b),
+        _ => Block::Single,
+    }
+}
+
 // `next` is the place behind `behind`.
 fn assigned(place: Place, orders: &[Order], behind: usize, next: usize) -> Block
     ensures { result ≡ assigned place (slice_get orders.now behind) (slice_get orders.now next) }
 {
     match orders.get(behind) {
-        Some(Order::Load) => with_use(Simple::Contents(place), use_at(orders, next)),
-        Some(Order::Store) => Block::Assign(place),
-        Some(Order::StorePart { t, b }) => part_assigned(place, *t, *b),
-        _ => Block::Single,
+        Some(order) => assigned_by(place, order, orders, next),
+        None => Block::Single,
     }
 }
 
@@ -167,14 +187,24 @@ fn counted(word: u16, down: bool, line: u16, with: Use) -> Block
     }
 }
 
+/// The block of a number and the order behind it, which is no use of a simple operand.
+fn number_scaled_by(word: u16, order: &Order) -> Block
+    ensures { result ≡ number_scaled word (Some order.now) }
+{
+    match order {
+        Order::Div { power, line } => divided(word, *power, *line),
+        Order::Mul { power, line } => halved(word, *power, *line),
+        _ => Block::Single,
+    }
+}
+
 // A number behind which is no use of a simple operand.
 fn number_scaled(word: u16, orders: &[Order]) -> Block
     ensures { result ≡ number_scaled word (slice_get orders.now 1) }
 {
     match orders.get(1) {
-        Some(Order::Div { power, line }) => divided(word, *power, *line),
-        Some(Order::Mul { power, line }) => halved(word, *power, *line),
-        _ => Block::Single,
+        Some(order) => number_scaled_by(word, order),
+        None => Block::Single,
     }
 }
 
@@ -251,6 +281,23 @@ fn element_used(element: Element, with: Option<Use>, other: Block) -> Block
     }
 }
 
+/// The block of an order behind a `Save` and an element, where another one is the next, and another block where it neither assigns nor fetches.
+fn element_saved_by(
+    element: Element,
+    order: &Order,
+    orders: &[Order],
+    next: usize,
+    other: Block,
+) -> Block
+    ensures { result ≡ element_saved element (Some order.now) (slice_get orders.now next) other }
+{
+    match order {
+        Order::Load => element_used(element, use_at(orders, next), other),
+        Order::Store => Block::AssignElement(element),
+        _ => other,
+    }
+}
+
 /// An element behind a `Save` that is assigned or used, and another block where it is neither.
 fn element_saved(element: Element, orders: &[Order], other: Block) -> Block
     ensures { result ≡ element_saved element (slice_get orders.now (length (element_orders element)))
@@ -258,9 +305,8 @@ fn element_saved(element: Element, orders: &[Order], other: Block) -> Block
 {
     let behind = orders_of_element(element);
     match orders.get(behind) {
-        Some(Order::Load) => element_used(element, use_at(orders, behind + 1), other),
-        Some(Order::Store) => Block::AssignElement(element),
-        _ => other,
+        Some(order) => element_saved_by(element, order, orders, behind + 1, other),
+        None => other,
     }
 }
 
@@ -381,13 +427,23 @@ fn fetched_behind(offset: u16, orders: &[Order]) -> Block
     }
 }
 
-/// The number that the order at a place puts.
+/// The number that an order puts.
+fn number_of(order: &Order) -> Option<u16>
+    ensures { result ≡ number_of (Some order.now) }
+{
+    match order {
+        Order::Const(word) => Some(*word),
+        _ => None,
+    }
+}
+
+/// That of the order at a place.
 fn number_at(orders: &[Order], place: usize) -> Option<u16>
     ensures { result ≡ number_of (slice_get orders.now place) }
 {
     match orders.get(place) {
-        Some(Order::Const(word)) => Some(*word),
-        _ => None,
+        Some(order) => number_of(order),
+        None => None,
     }
 }
 

@@ -39,27 +39,36 @@ pub(crate) fn place_at(orders: &[Order]) -> Option<Place>
     }
 }
 
-pub(crate) fn use_at(orders: &[Order], place: usize) -> Option<Use>
-    ensures { result ≡ use_of (slice_get orders.now place) }
+fn use_of(order: &Order) -> Option<Use>
+    ensures { result ≡ use_of (Some order.now) }
 {
-    match orders.get(place) {
-        Some(Order::Add(line)) => Some(Use::Add(*line)),
-        Some(Order::Sub(line)) => Some(Use::Subtract(*line)),
-        Some(Order::Mul { power, line }) => {
+    match order {
+        Order::Add(line) => Some(Use::Add(*line)),
+        Order::Sub(line) => Some(Use::Subtract(*line)),
+        Order::Mul { power, line } => {
             if *power == 0 {
                 Some(Use::Multiply(*line))
             } else {
                 None
             }
         }
-        Some(Order::And) => Some(Use::Mask),
-        Some(Order::Or) => Some(Use::Union),
-        Some(Order::Xor) => Some(Use::Differ),
-        Some(Order::JumpIf { comparator, mark }) => Some(Use::Compare {
+        Order::And => Some(Use::Mask),
+        Order::Or => Some(Use::Union),
+        Order::Xor => Some(Use::Differ),
+        Order::JumpIf { comparator, mark } => Some(Use::Compare {
             comparator: *comparator,
             mark: *mark,
         }),
         _ => None,
+    }
+}
+
+pub(crate) fn use_at(orders: &[Order], place: usize) -> Option<Use>
+    ensures { result ≡ use_of (slice_get orders.now place) }
+{
+    match orders.get(place) {
+        Some(order) => use_of(order),
+        None => None,
     }
 }
 
@@ -86,17 +95,27 @@ fn address_test(lower: i16, span: u16, first: u16) -> Option<Test>
     Some(Test::Address { zero })
 }
 
-/// The bounds that the order at a place compares an index with.
-pub(crate) fn bounds_at(orders: &[Order], place: usize) -> Option<Bounds>
-    ensures { result ≡ bounds_at (slice_get orders.now place) }
+/// The bounds that an order compares an index with.
+fn bounds_of(order: &Order) -> Option<Bounds>
+    ensures { result ≡ bounds_at (Some order.now) }
 {
-    match orders.get(place) {
-        Some(Order::InBounds { lower, upper, line }) => Some(Bounds {
+    match order {
+        Order::InBounds { lower, upper, line } => Some(Bounds {
             lower: *lower,
             upper: *upper,
             line: *line,
         }),
         _ => None,
+    }
+}
+
+/// Those of the order at a place.
+pub(crate) fn bounds_at(orders: &[Order], place: usize) -> Option<Bounds>
+    ensures { result ≡ bounds_at (slice_get orders.now place) }
+{
+    match orders.get(place) {
+        Some(order) => bounds_of(order),
+        None => None,
     }
 }
 
@@ -120,28 +139,56 @@ fn tested_by(orders: &[Order], place: usize, begins: i16, span: u16) -> Option<T
     bounds_test(bounds, begins, span)
 }
 
+fn saves(order: &Order) -> bool
+    ensures { result ≡ is_save (Some order.now) }
+{
+    matches!(order, Order::Save)
+}
+
 pub(crate) fn is_save(orders: &[Order], place: usize) -> bool
     ensures { result ≡ is_save (slice_get orders.now place) }
 {
-    matches!(orders.get(place), Some(Order::Save))
+    match orders.get(place) {
+        Some(order) => saves(order),
+        None => false,
+    }
+}
+
+fn loads(order: &Order) -> bool
+    ensures { result ≡ is_load (Some order.now) }
+{
+    matches!(order, Order::Load)
 }
 
 pub(crate) fn is_load(orders: &[Order], place: usize) -> bool
     ensures { result ≡ is_load (slice_get orders.now place) }
 {
-    matches!(orders.get(place), Some(Order::Load))
+    match orders.get(place) {
+        Some(order) => loads(order),
+        None => false,
+    }
 }
 
-/// The word of a storage family whose address the order at a place puts.
-pub(crate) fn home_at(orders: &[Order], place: usize) -> Option<Home>
-    ensures { result ≡ home_of (slice_get orders.now place) }
+/// The word of a storage family whose address an order puts.
+fn home_of(order: &Order) -> Option<Home>
+    ensures { result ≡ home_of (Some order.now) }
 {
-    match orders.get(place) {
-        Some(Order::Home { family, offset }) => Some(Home {
+    match order {
+        Order::Home { family, offset } => Some(Home {
             family: *family,
             offset: *offset,
         }),
         _ => None,
+    }
+}
+
+/// That of the order at a place.
+pub(crate) fn home_at(orders: &[Order], place: usize) -> Option<Home>
+    ensures { result ≡ home_of (slice_get orders.now place) }
+{
+    match orders.get(place) {
+        Some(order) => home_of(order),
+        None => None,
     }
 }
 
@@ -231,32 +278,38 @@ pub(crate) fn element_at(orders: &[Order]) -> Option<Element>
     element_behind(index, orders, orders_of_address(index))
 }
 
-/// What the order at a place forms of an index that has been compared with bounds from a lower one.
-pub(crate) fn form_at(orders: &[Order], place: usize, lower: i16) -> Option<Form>
-    ensures { result ≡ form_of lower (slice_get orders.now place) }
+/// What an order forms of an index that has been compared with bounds from a lower one.
+fn form_of(order: &Order, lower: i16) -> Option<Form>
+    ensures { result ≡ form_of lower (Some order.now) }
 {
-    match orders.get(place) {
-        Some(
-            Order::Element {
-                lower: begins,
-                span,
-                line,
-            },
-        ) => element_form(lower, *begins, *span, *line),
-        Some(
-            Order::Entry {
-                width,
-                word,
-                span,
-                line,
-            },
-        ) => Some(Form::Entry {
+    match order {
+        Order::Element {
+            lower: begins,
+            span,
+            line,
+        } => element_form(lower, *begins, *span, *line),
+        Order::Entry {
+            width,
+            word,
+            span,
+            line,
+        } => Some(Form::Entry {
             width: *width,
             word: *word,
             span: *span,
             line: *line,
         }),
         _ => None,
+    }
+}
+
+/// The same of the order at a place.
+pub(crate) fn form_at(orders: &[Order], place: usize, lower: i16) -> Option<Form>
+    ensures { result ≡ form_of lower (slice_get orders.now place) }
+{
+    match orders.get(place) {
+        Some(order) => form_of(order, lower),
+        None => None,
     }
 }
 
