@@ -447,17 +447,27 @@ fn number_at(orders: &[Order], place: usize) -> Option<u16>
     }
 }
 
-/// The block of a word of the frame that these orders compare with a number, if there is one, and another block where they do not.
-fn number_compared(offset: u16, number: Option<u16>, orders: &[Order], other: Block) -> Block
-    ensures { result ≡ number_compared offset number (slice_get orders.now 4) other }
+/// The block of a word of the frame that an order compares with a number, and another block where it does not.
+fn compared_by(offset: u16, with: u16, order: &Order, other: Block) -> Block
+    ensures { result ≡ number_compared offset (Some with) (Some order.now) other }
 {
-    match (number, orders.get(4)) {
-        (Some(with), Some(Order::JumpIf { comparator, mark })) => Block::CompareWord {
+    match order {
+        Order::JumpIf { comparator, mark } => Block::CompareWord {
             offset,
             with,
             comparator: *comparator,
             mark: *mark,
         },
+        _ => other,
+    }
+}
+
+/// The block of a word of the frame that these orders compare with a number, if there is one, and another block where they do not.
+fn number_compared(offset: u16, number: Option<u16>, orders: &[Order], other: Block) -> Block
+    ensures { result ≡ number_compared offset number (slice_get orders.now 4) other }
+{
+    match (number, orders.get(4)) {
+        (Some(with), Some(order)) => compared_by(offset, with, order, other),
         _ => other,
     }
 }

@@ -1,7 +1,7 @@
 //! What orders of a block name: a place, a use, bounds, an element, or what is formed of an index behind its bounds.
 ghost use Rattle.std.specs.Prelude.{◌≡◌, ◌<◌, ◌-ℤ◌, if◌then◌else◌, ◌&&◌, Some, None, int_le, slice_get};
 ghost use Rattle.cw_tmpl.specs.Blocks.{use_of, zero_word, address_test, bounds_at, bounds_test, tested_by};
-ghost use Rattle.cw_tmpl.specs.Blocks.{is_save, is_load, home_of, array_of, element_in, element_addressed, element_bounded};
+ghost use Rattle.cw_tmpl.specs.Blocks.{is_save, is_load, home_of, array_from, array_of, element_in, element_addressed, element_bounded};
 ghost use Rattle.cw_tmpl.specs.declared.blocks.Form.TheVariants as form;
 ghost use Rattle.cw_tmpl.specs.Blocks.{element_behind, element_at, place_at, is_within, form_of, entries_within, form_within};
 
@@ -192,18 +192,28 @@ pub(crate) fn home_at(orders: &[Order], place: usize) -> Option<Home>
     }
 }
 
-/// The item of which the orders at two places make the address of an element.
-fn array_at(orders: &[Order], puts: usize, forms: usize) -> Option<Array>
-    ensures { result ≡ array_of (slice_get orders.now puts) (slice_get orders.now forms) }
+/// The item that begins with a word, where an order makes the address of an element of it.
+fn array_from(home: Home, order: &Order) -> Option<Array>
+    ensures { result ≡ array_from (Some home) (Some order.now) }
 {
-    match (home_at(orders, puts), orders.get(forms)) {
-        (Some(home), Some(Order::Element { lower, span, line })) => Some(Array {
+    match order {
+        Order::Element { lower, span, line } => Some(Array {
             family: home.family,
             first: home.offset,
             lower: *lower,
             span: *span,
             line: *line,
         }),
+        _ => None,
+    }
+}
+
+/// The item of which the orders at two places make the address of an element.
+fn array_at(orders: &[Order], puts: usize, forms: usize) -> Option<Array>
+    ensures { result ≡ array_of (slice_get orders.now puts) (slice_get orders.now forms) }
+{
+    match (home_at(orders, puts), orders.get(forms)) {
+        (Some(home), Some(order)) => array_from(home, order),
         _ => None,
     }
 }

@@ -1,10 +1,10 @@
 //! Elements of two dimensions, where both indexes are compared with their bounds and an instruction names the second one.
 ghost use Rattle.std.specs.Prelude.{◌≡◌, ◌<◌, ◌+◌, ◌*◌, ◌-ℤ◌, ◌&&◌, pos, true, nat_lt, length, Some, slice_get};
 ghost use Rattle.cw_tmpl.specs.Blocks.{column_orders, orders_to_row, is_within, is_save, bounds_at, column_at, last_within, row_within};
-ghost use Rattle.cw_tmpl.specs.Blocks.{row_if, same_bound, item_of, row_made, row_formed, row_behind, row_saved, row_from, row_at};
+ghost use Rattle.cw_tmpl.specs.Blocks.{row_if, same_bound, item_from, item_of, row_made, row_formed, row_behind, row_saved, row_from, row_at};
 
 use crate::blocks::{Bounds, orders_of_address};
-use crate::operands::{bounds_at, home_at, is_save, is_within};
+use crate::operands::{Home, bounds_at, home_at, is_save, is_within};
 use cw_order::{Order, Place};
 
 /// A second index that an instruction names.
@@ -129,22 +129,17 @@ fn begins_at(rows: Bounds, columns: Bounds, lower: i16, second: i16) -> bool
     same_bound(rows.lower, lower) && same_bound(columns.lower, second)
 }
 
-/// The item of which the orders at two places make the address of an element.
-fn item_at(orders: &[Order], puts: usize, forms: usize) -> Option<Item>
-    ensures { result ≡ item_of (slice_get orders.now puts) (slice_get orders.now forms) }
+/// The item that begins with a word, where an order makes the address of an element of it.
+fn item_from(home: Home, order: &Order) -> Option<Item>
+    ensures { result ≡ item_from (Some home) (Some order.now) }
 {
-    match (home_at(orders, puts), orders.get(forms)) {
-        (
-            Some(home),
-            Some(
-                Order::ElementInside {
-                    lower,
-                    second,
-                    width,
-                    span,
-                },
-            ),
-        ) => Some(Item {
+    match order {
+        Order::ElementInside {
+            lower,
+            second,
+            width,
+            span,
+        } => Some(Item {
             family: home.family,
             first: home.offset,
             lower: *lower,
@@ -152,6 +147,16 @@ fn item_at(orders: &[Order], puts: usize, forms: usize) -> Option<Item>
             width: *width,
             span: *span,
         }),
+        _ => None,
+    }
+}
+
+/// The item of which the orders at two places make the address of an element.
+fn item_at(orders: &[Order], puts: usize, forms: usize) -> Option<Item>
+    ensures { result ≡ item_of (slice_get orders.now puts) (slice_get orders.now forms) }
+{
+    match (home_at(orders, puts), orders.get(forms)) {
+        (Some(home), Some(order)) => item_from(home, order),
         _ => None,
     }
 }
