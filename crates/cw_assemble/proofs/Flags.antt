@@ -1,7 +1,8 @@
 -- Flags that are set one after another.
-use Rattle.std.proofs.Common.{suc, ◌+◌, ◌∷◌, Option, drop, drop-cons, get_or, sym, ap, ap₂, ◌∙◌, arith}
+use Rattle.std.proofs.Common.{suc, ◌+◌, ◌≤◌, [], ◌∷◌, Option, drop, drop-cons, get_or, refl, sym, ap, ap₂, ◌∙◌, arith}
+use Rattle.std.proofs.lemmas.List.{drop_all}
 use Rattle.std.proofs.Math.Bool.{or_assoc}
-use Rattle.std.specs.Prelude.{◌≡◌, ℕ, ◌<◌, List, length, Bool, false, ◌||◌, ◌&&◌}
+use Rattle.std.specs.Prelude.{◌≡◌, ℕ, ◌<◌, List, length, Bool, true, false, ◌||◌, ◌&&◌}
 use Rattle.cw_unit.specs.declared.unit.Goal.{Goal}
 use Rattle.cw_unit.specs.declared.unit.Def.{Def}
 use Rattle.cw_order.specs.declared.order.Order.{Order}
@@ -55,6 +56,17 @@ set_next_switch named xs i one gs has now new old all lt is same flagged long se
       ∙ ap (λ l. flag now k || switches_list_label named i l k) (sym here)
       ∙ s.each k inside;
 }
+
+or_none : (b : Bool) → (b || false) ≡ b
+or_none true = refl
+or_none false = refl
+
+-- where no item is left, all flags are set
+pub all_set : {A : Type 0} (left : List A → ℕ → Bool) (all : ℕ → Bool) (xs : List A) (i : ℕ) (now old : List Bool) → length xs ≤ i → ((k : ℕ) → left [] k ≡ false)
+    → Setting now old (left (drop i xs)) all → (k : ℕ) → k < length old → flag now k ≡ (flag old k || all k)
+all_set left all xs i now old past none s k inside =
+    let unset : left (drop i xs) k ≡ false = ap (λ l. left l k) (drop_all i xs past) ∙ none k in
+    sym (or_none (flag now k)) ∙ ap (λ b. flag now k || b) (sym unset) ∙ s.each k inside
 
 -- those of a test are set
 abbrev Sets : (old new : List Bool) → (test : ℕ → Bool) → Type 0

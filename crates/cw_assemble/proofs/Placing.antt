@@ -1,5 +1,6 @@
 -- Lists of places that grow by one in each turn of a loop.
-use Rattle.std.proofs.Common.{◌≡◌, ℕ, suc, ◌+◌, ◌<◌, List, [], ◌∷◌, ◌++◌, length, drop, drop-cons, get_or, Option, sym, ap, ap₂, ◌∙◌, append_assoc, subst, arith}
+use Rattle.std.proofs.Common.{◌≡◌, ℕ, suc, ◌+◌, ◌<◌, ◌≤◌, List, [], ◌∷◌, ◌++◌, length, drop, drop-cons, get_or, Option, sym, ap, ap₂, ◌∙◌, append_assoc, subst, arith}
+use Rattle.std.proofs.lemmas.List.{append-nil, drop_all}
 use Rattle.std.specs.Prelude.{Bool, ◌&&◌, not}
 use Rattle.cw_unit.specs.declared.unit.Goal.{Goal}
 use Rattle.cw_order.specs.declared.order.LabelMark.{LabelMark}
@@ -22,6 +23,10 @@ item_here xs k d lt =
 -- a place in a list that is named by another way
 pub at_index : {A : Type 0} {xs ys : List A} (k : ℕ) → xs ≡ ys → k < length xs → k < length ys
 at_index k same lt = subst (λ l. k < length l) same lt
+
+-- where no item is left, all of the list is there
+pub all_there : {A B : Type 0} (rest : List A → List B) (xs : List A) (k : ℕ) (list whole : List B) → length xs ≤ k → rest [] ≡ [] → list ++ rest (drop k xs) ≡ whole → list ≡ whole
+all_there rest xs k list whole past none e = sym (append-nil list) ∙ ap (λ l. list ++ l) (sym (ap rest (drop_all k xs past) ∙ none)) ∙ e
 
 -- the place of an order's code, and that behind its block
 pub place_more : (forms : Forms) (places new : List ℕ) (at left behind next : ℕ) (list : List Order) (k : ℕ) (b : Block) (o : Order) (short : Bool) (whole : List ℕ) → k < length list → o ≡ get_or list k o

@@ -39,7 +39,7 @@ fn put_address(code: &mut Draft, place: Place)
     ensures { Adds code.old (address_pieces place) code.new }
 {
     match place {
-        Place::Word { .. } => code.put_all(&[]),
+        Place::Word { .. } => code.put_nothing(),
         Place::Frame(_) => code.put_all(&[Coded::Whole(load(BX, BASE))]),
     }
 }
@@ -158,7 +158,7 @@ pub(crate) fn put_from_lower(code: &mut Draft, lower: i16)
     ensures { Adds code.old (from_lower lower) code.new }
 {
     if lower == 0 {
-        code.put_all(&[]);
+        code.put_nothing();
     } else {
         code.put_all(&[Coded::Whole(operate_number(5, SI, lower.cast_unsigned()))]);
     }
@@ -510,7 +510,7 @@ pub(crate) fn put_block(
     ensures { Adds code.old (block_pieces names.now (length code.old.assembly.bytes) number short block order.now) code.new }
 {
     match block {
-        Block::Within(_) => code.put_all(&[]),
+        Block::Within(_) => code.put_nothing(),
         Block::Single => put_single(code, short, order, number, names),
         Block::Fetch(place) => put_fetch(code, place),
         Block::Assign(place) => put_assign(code, place),

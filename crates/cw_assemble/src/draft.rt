@@ -48,6 +48,11 @@ impl Draft {
         }
     }
 
+    /// Adds no pieces.
+    pub(crate) fn put_nothing(&mut self)
+        ensures { Adds self.old [] self.new }
+    {}
+
     /// The code, or NoMemory where it has failed.
     pub(crate) fn finish(self) -> Result<Assembly, NoMemory>
         ensures { IfOk result (λ assembly. (self.failed ≡ false) × (assembly ≡ self.assembly)) }

@@ -36,7 +36,7 @@ fn put_less_bound(code: &mut Draft, line: u16, lower: i16)
     ensures { Adds code.old (less_bound line lower) code.new }
 {
     if lower == 0 {
-        code.put_all(&[]);
+        code.put_nothing();
     } else {
         put_index_by(code, 5, line, lower.cast_unsigned());
     }
@@ -47,7 +47,7 @@ fn put_plus_word(code: &mut Draft, line: u16, word: u16)
     ensures { Adds code.old (plus_word line word) code.new }
 {
     if word == 0 {
-        code.put_all(&[]);
+        code.put_nothing();
     } else {
         put_index_by(code, 0, line, word);
     }
@@ -58,7 +58,7 @@ fn put_times_width(code: &mut Draft, line: u16, width: u16)
     ensures { Adds code.old (times_width line width) code.new }
 {
     if width == 1 {
-        code.put_all(&[]);
+        code.put_nothing();
     } else {
         put_times(code, ADDRESS, line, width);
     }
@@ -138,7 +138,7 @@ pub(crate) fn put_top_from_lower(code: &mut Draft, lower: i16)
     ensures { Adds code.old (top_from_lower lower) code.new }
 {
     if lower == 0 {
-        code.put_all(&[]);
+        code.put_nothing();
     } else {
         code.put_all(&[Coded::Whole(with_number(5, lower.cast_unsigned()))]);
     }
@@ -149,7 +149,7 @@ pub(crate) fn put_times_entry(code: &mut Draft, width: u16)
     ensures { Adds code.old (times_entry width) code.new }
 {
     if width == 1 {
-        code.put_all(&[]);
+        code.put_nothing();
     } else {
         code.put_all(&[
             Coded::Whole(set_word(BX, width)),

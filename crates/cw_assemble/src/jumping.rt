@@ -199,7 +199,7 @@ pub(crate) fn put_landing(code: &mut Draft, has: bool, label: &LabelMark, names:
     if has {
         put_base_jump(code, names.mark(label.mark));
     } else {
-        code.put_all(&[]);
+        code.put_nothing();
     }
 }
 
@@ -250,7 +250,7 @@ pub(crate) fn put_switch(code: &mut Draft, has: bool, goals: &List<Goal>, names:
     if has {
         put_routine(code, goals.as_slice(), names);
     } else {
-        code.put_all(&[]);
+        code.put_nothing();
     }
 }
 

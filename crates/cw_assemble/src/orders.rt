@@ -193,7 +193,7 @@ pub(crate) fn put_order(code: &mut Draft, order: &Order, names: &Names)
         Order::ReadByte => put_read_byte(code),
         Order::WriteByte => put_write_byte(code),
         Order::NextBody => put_next_body(code),
-        Order::Drop | Order::Mark | Order::Start(_) => code.put_all(&[]),
+        Order::Drop | Order::Mark | Order::Start(_) => code.put_nothing(),
     }
 }
 

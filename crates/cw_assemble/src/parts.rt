@@ -22,7 +22,7 @@ fn put_shifted(code: &mut Draft, once: Instr, by_count: Instr, places: u8)
     ensures { Adds code.old (shifted once by_count places) code.new }
 {
     match places {
-        0 => code.put_all(&[]),
+        0 => code.put_nothing(),
         1 => code.put_all(&[Coded::Whole(once)]),
         _ => code.put_all(&[
             Coded::Whole(set_word(CX, u16::from(places))),
@@ -63,7 +63,7 @@ fn put_lowest(code: &mut Draft, t: u8, b: u8)
     ensures { Adds code.old (lowest_if (t + b == 16) t) code.new }
 {
     if t + b == 16 {
-        code.put_all(&[]);
+        code.put_nothing();
     } else {
         code.put_all(&[Coded::Whole(with_number(4, ones(t)))]);
     }

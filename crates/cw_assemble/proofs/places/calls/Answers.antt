@@ -1,6 +1,6 @@
-use Rattle.std.proofs.Common.{None}
+use Rattle.std.proofs.Common.{None, refl}
 use Rattle.cw_tmpl.specs.Backward.{calls_from}
-use Rattle.cw_assemble.proofs.Placing.{call_more}
+use Rattle.cw_assemble.proofs.Placing.{all_there, call_more}
 use Rattle.cw_assemble.proofs.NotedBlocks.{noted_behind}
 use Rattle.cw_assemble.proofs.places.calls.Goals as goal
 
@@ -14,3 +14,6 @@ loop-k-preserved c =
           within c.index-orders-k.is c.block_noted-block.ensures.value c.check_of-check.ensures c.call_for-call.ensures c.in_ok-behind.ensures c.call_after-last.ensures c.orders_left-left.ensures c.in_ok-push.ensures.ok c.loop-k.invariant.0,
       noted_behind c.args.blocks.now list c.loop-k.left c.orders_left-left.result k c.block_noted-block.result c.index-orders-k.result within c.index-orders-k.is c.block_noted-block.ensures.value c.orders_left-left.ensures c.loop-k.invariant.1,
     )
+
+pub returns : goal.returns
+returns c = all_there (calls_from c.args.longest.now c.loop-k.last c.loop-k.k c.loop-k.left) c.args.orders.now c.loop-k.k c.loop-k.list _ c.loop-k-test.false refl c.loop-k.invariant.0
