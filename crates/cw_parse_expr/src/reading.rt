@@ -1,12 +1,13 @@
 //! Expressions, conditions and references from left to right.
 ghost use Rattle.cw_grammar.specs.Tokens.{behind};
-ghost use Rattle.cw_grammar.specs.Grammar.{a_pair, a_list, an_option, an_expr, a_cond, a_cand, a_cmp, a_sum, a_term, a_differ, a_union, a_mask};
+ghost use Rattle.cw_grammar.specs.Grammar.{a_pair, a_list, an_option, a_from, a_name, an_expr, a_cond, a_cand, a_cmp, a_sum, a_term, a_differ, a_union, a_mask};
 ghost use Rattle.cw_grammar.specs.Grammar.{a_prim, a_primary, a_type, a_ref, bracketed, subscript, indexed, called, located, conditional};
-ghost use Rattle.cw_grammar.specs.Rules.{word as grammar_word, symbol, optional, commas, ◌*>◌, reference, worded, enclosed, named};
+ghost use Rattle.cw_grammar.specs.Rules.{word as grammar_word, symbol, optional, commas, ◌*>◌, ◌<*◌, reference, worded, enclosed, named};
 ghost use Rattle.cw_grammar.specs.Rules.{number_type, primary, prim, mask, union, differ, term, sum, cmp, cand, condition, expr};
-ghost use Rattle.cw_grammar.specs.Reading.{Gives, read, inside};
-ghost use Rattle.cw_lex.specs.declared.token.Symbol.TheVariants.{Comma};
+ghost use Rattle.cw_grammar.specs.Reading.{Gives, read, inside, applied};
+ghost use Rattle.cw_lex.specs.declared.token.Symbol.TheVariants.{Comma, CloseSquare};
 ghost use Rattle.cw_operand.specs.Operands.{location, forced, in_brackets, addressed};
+ghost use Rattle.cw_parse_expr.specs.References.{element, bare};
 
 use crate::chains::{FactorSign, Sign, read_chained};
 use cw_grammar::reading::{read_name, read_optional_sign, read_type};
@@ -25,7 +26,7 @@ use cw_tree::expression::{
     RawCand, RawCmp, RawCond, RawDiffer, RawExpr, RawMask, RawPrim, RawPrimary, RawRef, RawSum,
     RawTerm, RawUnion,
 };
-use cw_tree::leaf::RawType;
+use cw_tree::leaf::{RawName, RawType};
 use cw_word::{Boxed, List};
 use std::alloc::Global;
 
@@ -36,14 +37,15 @@ fn read_bracketed(
     levels: u8,
     tokens: &[Token],
     at: usize,
-) -> Result<(RawExpr, usize), Stop>
+) -> Result<(Boxed<RawExpr>, usize), Stop>
     ensures { Gives (λ x. (x.0, behind tokens.now x.1)) result (inside levels an_expr bracketed (behind tokens.now at)) }
 {
     if levels == 0 {
         return Err(deep(tokens, at));
     }
-    let inner = read_expr(alloc, levels - 1, tokens, at)?;
-    read_before(tokens, inner, TokenKind::Symbol(Symbol::Close))
+    let (inner, at) = read_expr(alloc, levels - 1, tokens, at)?;
+    let boxed = Boxed::new(alloc, inner)?;
+    read_before(tokens, (boxed, at), TokenKind::Symbol(Symbol::Close))
 }
 
 #[tactic(auto, using(cw_grammar::proofs::Levels::inside_opened, cw_grammar::proofs::Levels::inside_full), unfolding(cw_grammar::specs::Table::rule))]
@@ -63,6 +65,7 @@ pub fn read_subscript(
     read_before(tokens, inner, TokenKind::Symbol(Symbol::CloseSquare))
 }
 
+// The second index, if there is one, and the bracket behind.
 #[cycle(reader)]
 fn read_second(
     alloc: Global,
@@ -70,14 +73,15 @@ fn read_second(
     tokens: &[Token],
     at: usize,
 ) -> Result<(Option<RawExpr>, usize), Stop>
-    ensures { Gives (λ x. (x.0, behind tokens.now x.1)) result (read levels (an_option an_expr) (optional (symbol Comma *> expr)) (behind tokens.now at)) }
+    ensures { Gives (λ x. (x.0, behind tokens.now x.1)) result (read levels (an_option an_expr) (optional (symbol Comma *> expr) <* symbol CloseSquare) (behind tokens.now at)) }
 {
+    let close = TokenKind::Symbol(Symbol::CloseSquare);
     if next_is(tokens, at, TokenKind::Symbol(Symbol::Comma)) {
         let (_, at) = take_kind(tokens, at, TokenKind::Symbol(Symbol::Comma))?;
         let (second, at) = read_expr(alloc, levels, tokens, at)?;
-        return Ok((Some(second), at));
+        return read_before(tokens, (Some(second), at), close);
     }
-    Ok((None, at))
+    read_before(tokens, (None, at), close)
 }
 
 #[tactic(auto, using(cw_grammar::proofs::Levels::inside_opened, cw_grammar::proofs::Levels::inside_full), unfolding(cw_grammar::specs::Table::rule))]
@@ -95,7 +99,6 @@ pub fn read_indexed(
     }
     let (first, at) = read_expr(alloc, levels - 1, tokens, at)?;
     let (second, at) = read_second(alloc, levels - 1, tokens, at)?;
-    let (_, at) = take_kind(tokens, at, TokenKind::Symbol(Symbol::CloseSquare))?;
     Ok(((first, second), at))
 }
 
@@ -138,14 +141,15 @@ fn read_located(
     levels: u8,
     tokens: &[Token],
     at: usize,
-) -> Result<(RawRef, usize), Stop>
+) -> Result<(Boxed<RawRef>, usize), Stop>
     ensures { Gives (λ x. (x.0, behind tokens.now x.1)) result (inside levels a_ref located (behind tokens.now at)) }
 {
     if levels == 0 {
         return Err(deep(tokens, at));
     }
-    let inner = read_reference(alloc, levels - 1, tokens, at)?;
-    read_before(tokens, inner, TokenKind::Symbol(Symbol::Close))
+    let (reference, at) = read_reference(alloc, levels - 1, tokens, at)?;
+    let boxed = Boxed::new(alloc, reference)?;
+    read_before(tokens, (boxed, at), TokenKind::Symbol(Symbol::Close))
 }
 
 #[cycle(reader)]
@@ -159,8 +163,7 @@ fn read_branch(
     ensures { Gives (λ x. (x.0, behind tokens.now x.1)) result (read levels an_expr (grammar_word word *> expr) (behind tokens.now at)) }
 {
     let (_, at) = take_kind(tokens, at, TokenKind::Word(word))?;
-    let (branch, at) = read_expr(alloc, levels, tokens, at)?;
-    Ok((branch, at))
+    read_expr(alloc, levels, tokens, at)
 }
 
 #[tactic(auto, using(cw_grammar::proofs::Levels::inside_opened, cw_grammar::proofs::Levels::inside_full), unfolding(cw_grammar::specs::Table::rule))]
@@ -182,6 +185,38 @@ fn read_conditional(
     Ok(((test, (yes, no)), at))
 }
 
+// What stands behind the name of an element.
+#[cycle(reader)]
+fn read_element(
+    alloc: Global,
+    levels: u8,
+    tokens: &[Token],
+    at: usize,
+    name: RawName,
+) -> Result<(RawRef, usize), Stop>
+    ensures { Gives (λ x. (x.0, behind tokens.now x.1)) result (applied name (read levels (a_from a_name a_ref) element (behind tokens.now at))) }
+{
+    let (_, at) = take_kind(tokens, at, TokenKind::Symbol(Symbol::OpenSquare))?;
+    let (index, at) = read_indexed(alloc, levels, tokens, at)?;
+    let reference = indexed_name(alloc, name, index)?;
+    Ok((reference, at))
+}
+
+#[cycle(reader)]
+fn read_bare(
+    alloc: Global,
+    levels: u8,
+    tokens: &[Token],
+    at: usize,
+) -> Result<(RawRef, usize), Stop>
+    ensures { Gives (λ x. (x.0, behind tokens.now x.1)) result (read levels a_ref bare (behind tokens.now at)) }
+{
+    let (bracket, at) = take_kind(tokens, at, TokenKind::Symbol(Symbol::OpenSquare))?;
+    let (address, at) = read_subscript(alloc, levels, tokens, at)?;
+    let address = Boxed::new(alloc, address)?;
+    Ok((RawRef::Bare(position(bracket), address), at))
+}
+
 #[tactic(auto, unfolding(cw_grammar::specs::Rules::reference))]
 #[cycle(reader)]
 pub fn read_reference(
@@ -192,21 +227,14 @@ pub fn read_reference(
 ) -> Result<(RawRef, usize), Stop>
     ensures { Gives (λ x. (x.0, behind tokens.now x.1)) result (read levels a_ref reference (behind tokens.now at)) }
 {
-    if next_is(tokens, at, TokenKind::Name) {
-        let (name, at) = read_name(tokens, at)?;
-        if next_is(tokens, at, TokenKind::Symbol(Symbol::OpenSquare)) {
-            let (_, at) = take_kind(tokens, at, TokenKind::Symbol(Symbol::OpenSquare))?;
-            let (index, at) = read_indexed(alloc, levels, tokens, at)?;
-            return Ok((indexed_name(alloc, name, index)?, at));
-        }
-        return Ok((RawRef::Name(name), at));
+    if !next_is(tokens, at, TokenKind::Name) {
+        return read_bare(alloc, levels, tokens, at);
     }
-    let (bracket, at) = take_kind(tokens, at, TokenKind::Symbol(Symbol::OpenSquare))?;
-    let (inner, at) = read_subscript(alloc, levels, tokens, at)?;
-    Ok((
-        RawRef::Bare(position(bracket), Boxed::new(alloc, inner)?),
-        at,
-    ))
+    let (name, at) = read_name(tokens, at)?;
+    if next_is(tokens, at, TokenKind::Symbol(Symbol::OpenSquare)) {
+        return read_element(alloc, levels, tokens, at, name);
+    }
+    Ok((RawRef::Name(name), at))
 }
 
 #[cycle(reader)]
@@ -221,7 +249,6 @@ fn read_location(
     let (word, at) = take_kind(tokens, at, TokenKind::Word(Word::Location))?;
     let (_, at) = take_kind(tokens, at, TokenKind::Symbol(Symbol::Open))?;
     let (reference, at) = read_located(alloc, levels, tokens, at)?;
-    let reference = Boxed::new(alloc, reference)?;
     Ok((RawPrimary::Location(position(word), reference), at))
 }
 
@@ -253,7 +280,6 @@ fn read_forced(
     let (kind, at) = read_boxed_type(alloc, tokens, at)?;
     let (_, at) = take_kind(tokens, at, TokenKind::Symbol(Symbol::Open))?;
     let (inner, at) = read_bracketed(alloc, levels, tokens, at)?;
-    let inner = Boxed::new(alloc, inner)?;
     Ok((RawPrimary::Forced(kind, inner), at))
 }
 
@@ -284,7 +310,6 @@ fn read_in_brackets(
 {
     let (bracket, at) = take_kind(tokens, at, TokenKind::Symbol(Symbol::Open))?;
     let (inner, at) = read_bracketed(alloc, levels, tokens, at)?;
-    let inner = Boxed::new(alloc, inner)?;
     Ok((RawPrimary::Bracket(position(bracket), inner), at))
 }
 
@@ -297,9 +322,7 @@ fn read_addressed(
 ) -> Result<(RawPrimary, usize), Stop>
     ensures { Gives (λ x. (x.0, behind tokens.now x.1)) result (read levels a_primary addressed (behind tokens.now at)) }
 {
-    let (bracket, at) = take_kind(tokens, at, TokenKind::Symbol(Symbol::OpenSquare))?;
-    let (inner, at) = read_subscript(alloc, levels, tokens, at)?;
-    let reference = RawRef::Bare(position(bracket), Boxed::new(alloc, inner)?);
+    let (reference, at) = read_bare(alloc, levels, tokens, at)?;
     Ok((RawPrimary::Ref(reference), at))
 }
 
@@ -331,9 +354,7 @@ fn read_named(
 {
     let (name, at) = read_name(tokens, at)?;
     if next_is(tokens, at, TokenKind::Symbol(Symbol::OpenSquare)) {
-        let (_, at) = take_kind(tokens, at, TokenKind::Symbol(Symbol::OpenSquare))?;
-        let (index, at) = read_indexed(alloc, levels, tokens, at)?;
-        let reference = indexed_name(alloc, name, index)?;
+        let (reference, at) = read_element(alloc, levels, tokens, at, name)?;
         return Ok((RawPrimary::Ref(reference), at));
     }
     if next_is(tokens, at, TokenKind::Symbol(Symbol::Open)) {

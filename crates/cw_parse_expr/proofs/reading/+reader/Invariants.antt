@@ -20,6 +20,12 @@ decreases-read_located l = 100 * l.levels + 0
 abbrev pub decreases-read_conditional : goal.decreases-read_conditional
 decreases-read_conditional l = 100 * l.levels + 0
 
+abbrev pub decreases-read_element : goal.decreases-read_element
+decreases-read_element l = 100 * l.levels + 1
+
+abbrev pub decreases-read_bare : goal.decreases-read_bare
+decreases-read_bare l = 100 * l.levels + 1
+
 abbrev pub decreases-read_reference : goal.decreases-read_reference
 decreases-read_reference l = 100 * l.levels + 2
 
