@@ -261,16 +261,35 @@ fn judge_declaration(blocks: &[Names], declaration: &Declaration, findings: &mut
 
 // ---- blocks
 
+// The names of a block with what one more fact declares in it.
+fn with_declared(table: Names, fact: &Fact) -> Result<Names, NoMemory>
+    ensures { IfOk result (λ t. t ≡ table ++ (said fact.now).declared) }
+{
+    match fact {
+        Fact::Declares(declaration) => table.with(declaration.get()),
+        _ => Ok(table),
+    }
+}
+
 pub(crate) fn declared(alloc: Global, facts: &[Fact]) -> Result<Names, NoMemory>
     ensures { IfOk result (λ t. t ≡ all_declared (map said facts.now)) }
 {
     let mut table = Names::new(alloc);
     for fact in facts {
-        if let Fact::Declares(declaration) = fact {
-            table = table.with(declaration.get())?;
-        }
+        table = with_declared(table, fact)?;
     }
     Ok(table)
+}
+
+// Puts the names of one more block innermost.
+fn enter(facts: &[Fact], alloc: Global, blocks: &mut Vec<Names>) -> Result<(), NoMemory>
+    ensures { OnOk result (blocks.new.items ≡ within blocks.old.items (map said facts.now)) }
+{
+    let own = declared(alloc, facts)?;
+    match blocks.push(own) {
+        Ok(()) => Ok(()),
+        Err(_) => Err(NoMemory),
+    }
 }
 
 #[cycle(judged)]
@@ -328,11 +347,10 @@ fn judge_block(
         ≡ findings.old.resolved ++ all_resolved (within blocks.old.items (map said facts.now))
         (map said facts.now)) }
 {
-    if blocks.push(declared(alloc, facts)?).is_err() {
-        return Err(NoMemory);
-    }
+    let outer = blocks.len();
+    enter(facts, alloc, blocks)?;
     judge_facts(facts, alloc, blocks, findings)?;
-    let _own = blocks.pop();
+    blocks.truncate(outer);
     Ok(())
 }
 
