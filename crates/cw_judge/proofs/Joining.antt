@@ -1,6 +1,7 @@
 -- Parts that are judged one after another.
-use Rattle.std.proofs.Common.{◌≡◌, ℕ, ◌+◌, ◌≤◌, ◌<◌, List, [], ◌∷◌, length, drop, get_or, sym, ap, ◌∙◌, Option, None}
+use Rattle.std.proofs.Common.{◌≡◌, ℕ, ◌+◌, ◌≤◌, ◌<◌, List, [], ◌∷◌, length, drop, get_or, sym, ap, ap₂, ◌∙◌, Option, None}
 use Rattle.std.proofs.lemmas.List.{drop_all}
+use Rattle.cw_tree.specs.declared.segment.RawComm.{RawComm}
 use Rattle.cw_table.specs.declared.table.Row.{Row}
 use Rattle.cw_scope.specs.declared.resolve.Named.{Named}
 use Rattle.cw_scale.specs.declared.fault.Fault.{Fault}
@@ -29,13 +30,21 @@ module _ {A : Type 0} (all : List A → Judgement) (one : A → Judgement) where
   pub no_more : ((o : Option Fault) → all [] o ≡ o) → (xs : List A) (i : ℕ) (after end : Option Fault) → length xs ≤ i → all (drop i xs) after ≡ end → after ≡ end
   no_more stop xs i after end h k = sym (stop after) ∙ ap (λ l. all l after) (sym (drop_all i xs h)) ∙ k
 
-pub all_parts : (named : Named) (things : List Thing) (known : Known) (sites : List (Row Site)) (absolute : List (Row ℕ)) (a b c : Option Fault)
-    → known ≡ all_known nothing_known things → a ≡ things_judged nothing_known things None → absolute ≡ absolute_addresses named.raw.now.comms → sites ≡ known.sites
-    → b ≡ communicators_judged named sites absolute named.raw.now.comms a → c ≡ block_judged named sites named.raw.now.block b → c ≡ text_judged named things None
-all_parts named things known sites absolute a b c k j l s e f =
+-- by where the things of a text stand
+abbrev placed : Named → List (Row Site) → Judgement
+placed named sites =
+    both (communicators_judged named sites (absolute_addresses named.raw.now.comms) named.raw.now.comms) (block_judged named sites named.raw.now.block)
+
+pub placed_parts : (named : Named) (sites : List (Row Site)) (absolute : List (Row ℕ)) (listed again : List RawComm) (a b c : Option Fault)
+    → absolute ≡ absolute_addresses listed → listed ≡ named.raw.now.comms → again ≡ named.raw.now.comms
+    → b ≡ communicators_judged named sites absolute again a → c ≡ block_judged named sites named.raw.now.block b → c ≡ placed named sites a
+placed_parts named sites absolute listed again a b c l s t e f =
+    let by_addresses : b ≡ communicators_judged named sites (absolute_addresses named.raw.now.comms) named.raw.now.comms a =
+    e ∙ ap₂ (λ (x : List (Row ℕ)) (cs : List RawComm). communicators_judged named sites x cs a) (l ∙ ap absolute_addresses s) t in
+    f ∙ ap (block_judged named sites named.raw.now.block) by_addresses
+
+pub all_parts : (named : Named) (things : List Thing) (known : Known) (sites : List (Row Site)) (a b : Option Fault)
+    → known ≡ all_known nothing_known things → a ≡ things_judged nothing_known things None → sites ≡ known.sites → b ≡ placed named sites a → b ≡ text_judged named things None
+all_parts named things known sites a b k j s e =
     let at : sites ≡ sites_of things = s ∙ ap (λ (x : Known). x.sites) k in
-    let listed : b ≡ communicators_judged named (sites_of things) (absolute_addresses named.raw.now.comms) named.raw.now.comms (things_judged nothing_known things None) =
-    e ∙ ap (λ (x : List (Row Site)). communicators_judged named x absolute named.raw.now.comms a) at
-    ∙ ap (λ (x : List (Row ℕ)). communicators_judged named (sites_of things) x named.raw.now.comms a) l
-    ∙ ap (communicators_judged named (sites_of things) (absolute_addresses named.raw.now.comms) named.raw.now.comms) j in
-    f ∙ ap (λ (x : List (Row Site)). block_judged named x named.raw.now.block b) at ∙ ap (block_judged named (sites_of things) named.raw.now.block) listed
+    e ∙ ap (λ (x : List (Row Site)). placed named x a) at ∙ ap (placed named (sites_of things)) j

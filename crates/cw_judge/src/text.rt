@@ -1,8 +1,9 @@
 //! A whole text is judged.
-ghost use Rattle.std.specs.Prelude.{◌≡◌, ◌++◌, ◌∷◌, [], None, IfOk};
+ghost use Rattle.std.specs.Prelude.{◌≡◌, ◌++◌, ◌∷◌, [], None, IfOk, OnOk};
 ghost use Rattle.cw_amount.specs.Amounts.{place_amount};
+ghost use Rattle.cw_scale.specs.Faults.{both};
 ghost use Rattle.cw_judge.specs.Judged.{address_or_none, aitem_address, aitems_addresses, communicator_addresses, absolute_addresses, citem_judged};
-ghost use Rattle.cw_judge.specs.Judged.{citems_judged, communicator_judged, communicators_judged, text_judged, first_type_fault};
+ghost use Rattle.cw_judge.specs.Judged.{citems_judged, communicator_judged, communicators_judged, block_judged, text_judged, first_type_fault};
 
 use crate::declared::{judge_common_overlaid, judge_declared};
 use crate::statements::judge_block;
@@ -125,21 +126,35 @@ fn judge_communicators(by: Grounds, lists: &[RawComm], first: &mut Option<Fault>
     }
 }
 
+// Judges the communicators and the block of a text, by where its things stand.
+fn judge_placed(
+    alloc: Global,
+    named: &Named,
+    sites: &Table<Site>,
+    first: &mut Option<Fault>,
+) -> Result<(), NoMemory>
+    ensures { OnOk result (first.new
+        ≡ both (communicators_judged named.now sites.now (absolute_addresses named.now.raw.now.comms) named.now.raw.now.comms)
+        (block_judged named.now sites.now named.now.raw.now.block) first.old) }
+{
+    let absolute = absolute_addresses(alloc, named.raw.comms.as_slice())?;
+    let by = Grounds {
+        named: &*named,
+        sites: &*sites,
+        absolute: &absolute,
+    };
+    judge_communicators(by, named.raw.comms.as_slice(), first);
+    judge_block(&named.raw.block, named, sites, first);
+    Ok(())
+}
+
 // The first fault of a text that stores these things.
 fn judge_stored(alloc: Global, named: &Named, things: &[Thing]) -> Result<Option<Fault>, NoMemory>
     ensures { IfOk result (λ fault. fault ≡ text_judged named.now things.now None) }
 {
     let mut first = None;
     let known = judge_things(alloc, things, &mut first)?;
-    let absolute = absolute_addresses(alloc, named.raw.comms.as_slice())?;
-    let sites = known.sites();
-    let by = Grounds {
-        named: &*named,
-        sites: &*sites,
-        absolute: &absolute,
-    };
-    judge_communicators(by, named.raw.comms.as_slice(), &mut first);
-    judge_block(&named.raw.block, named, sites, &mut first);
+    judge_placed(alloc, named, known.sites(), &mut first)?;
     Ok(first)
 }
 
