@@ -1,8 +1,10 @@
 -- What is judged of an expression, a primary and a reference, arm by arm: its shape, and its faults.
-use Rattle.std.proofs.Common.{◌≡◌, ℕ, List, map, max, Bool, Option, refl, sym, ap, ap₂, ◌∙◌}
+use Rattle.std.proofs.Common.{◌≡◌, ℕ, List, [], map, max, Bool, Option, is_some, refl, sym, ap, ap₂, ◌∙◌}
+use Rattle.cw_amount.specs.Amounts.{octal_word}
 use Rattle.cw_tree.specs.declared.leaf.Position.{Position}
 use Rattle.cw_tree.specs.declared.leaf.RawName.{RawName}
 use Rattle.cw_tree.specs.declared.leaf.RawNumber.{RawNumber}
+use Rattle.cw_tree.specs.declared.leaf.RawOctal.{RawOctal}
 use Rattle.cw_tree.specs.declared.leaf.RawType.{RawType}
 use Rattle.cw_tree.specs.declared.expression.RawExpr.TheVariants as expr
 use Rattle.cw_tree.specs.declared.expression.RawPrimary.TheVariants as prime
@@ -27,7 +29,7 @@ use Rattle.cw_scale.specs.declared.fault.Rule.TheVariants as rule
 use Rattle.cw_scale.specs.declared.scales.Shape.{Shape}
 use Rattle.cw_scale.specs.Faults.{unless}
 use Rattle.cw_scale.specs.Types.{type_judged}
-use Rattle.cw_tree.proofs.Expressions.{of_comparison-out, of_expression-Choice, of_expression-Sum, of_primary-Bracket, of_primary-Call, of_primary-Forced, of_primary-Location, of_primary-Number, of_primary-Ref, of_reference-Bare, of_reference-One, of_reference-Two, of_reference-out}
+use Rattle.cw_tree.proofs.Expressions.{of_comparison-out, of_expression-Choice, of_expression-Sum, of_primary-Bracket, of_primary-Call, of_primary-Forced, of_primary-Location, of_primary-Number, of_primary-Octal, of_primary-Ref, of_reference-Bare, of_reference-Name, of_reference-One, of_reference-Two, of_reference-out}
 use Rattle.cw_scale.specs.Kinds.{kind_of, signature_of, fraction_of, fraction_of_kind}
 use Rattle.cw_scale.specs.TypeRules.{Judged, plain, number_shape, number_operand, fits_at, call_faults}
 use Rattle.cw_scale.specs.TypeRules.{expression_step, primary_step, reference_step}
@@ -44,6 +46,9 @@ module _ (named : Named) where
   number-layer : (n : RawNumber) → primary named (prime.Number n) ≡ primary_step named (layer.Number n)
   number-layer n = of_primary-Number (steps named) n
 
+  octal-layer : (n : RawOctal) → primary named (prime.Octal n) ≡ primary_step named (layer.Octal n)
+  octal-layer n = of_primary-Octal (steps named) n
+
   location-layer : (at : Position) (x : RawRef) → primary named (prime.Location at x) ≡ primary_step named (layer.Location at (reference named x))
   location-layer at x = of_primary-Location (steps named) at x
 
@@ -58,6 +63,9 @@ module _ (named : Named) where
 
   call-layer : (n : RawName) (es : List RawExpr) → primary named (prime.Call n es) ≡ primary_step named (layer.Call n (map (expression named) es))
   call-layer n es = of_primary-Call (steps named) n es
+
+  name-layer : (n : RawName) → reference named (ref.Name n) ≡ reference_step named (layer.Name n)
+  name-layer n = of_reference-Name (steps named) n
 
   one-layer : (n : RawName) (a : RawExpr) → reference named (ref.One n a) ≡ reference_step named (layer.One n (expression named a))
   one-layer n a = of_reference-One (steps named) n a
@@ -145,6 +153,11 @@ module _ (named : Named) where
   number_faults e f k fits o0 o1 is hf h =
       h ∙ ap (λ b. unless b rule.NumberRange k.at o0) hf ∙ ap (λ (j : Judged). j.faults f o0) (sym (ap (primary named) is ∙ number-layer k))
 
+  pub octal_faults : (e : RawPrimary) (f : ℕ) (k : RawOctal) (fits : Bool) (o0 o1 : Option Fault) → e ≡ prime.Octal k → fits ≡ is_some (octal_word k.number.number)
+      → o1 ≡ unless fits rule.NumberRange k.number.at o0 → o1 ≡ (primary named e).faults f o0
+  octal_faults e f k fits o0 o1 is hf h =
+      h ∙ ap (λ b. unless b rule.NumberRange k.number.at o0) hf ∙ ap (λ (j : Judged). j.faults f o0) (sym (ap (primary named) is ∙ octal-layer k))
+
   pub location_faults : (e : RawPrimary) (f : ℕ) (at : Position) (x x' : RawRef) (o0 o1 : Option Fault) → e ≡ prime.Location at x → x' ≡ x → o1 ≡ (reference named x').faults 0 o0
       → o1 ≡ (primary named e).faults f o0
   location_faults e f at x x' o0 o1 is same h =
@@ -186,6 +199,9 @@ module _ (named : Named) where
   call_arm_faults e f n es es' o0 o1 is same h =
       h ∙ ap (λ (l : List RawExpr). call_faults named (signature_of named n) n (map (expression named) l) o0) same
       ∙ ap (λ (j : Judged). j.faults f o0) (sym (ap (primary named) is ∙ call-layer n es))
+
+  pub name_faults : (e : RawRef) (n : RawName) (o0 o1 : Option Fault) → e ≡ ref.Name n → o1 ≡ call_faults named (signature_of named n) n [] o0 → o1 ≡ (reference named e).faults 0 o0
+  name_faults e n o0 o1 is h = h ∙ ap (λ (j : Judged). j.faults 0 o0) (sym (ap (reference named) is ∙ name-layer n))
 
   pub index_faults : (e : RawRef) (n : RawName) (a a' : RawExpr) (o0 o1 : Option Fault) → e ≡ ref.One n a → a' ≡ a → o1 ≡ (expression named a').faults 0 o0
       → o1 ≡ (reference named e).faults 0 o0

@@ -296,7 +296,7 @@ fn judge_arguments(
     let mut rest = params;
     for argument in arguments {
         match rest {
-            [] => {}
+            [] => return,
             [param, others @ ..] => {
                 judge_argument(argument, param, named, first);
                 rest = others;

@@ -1,4 +1,4 @@
-use Rattle.std.proofs.Common.{◌≡◌, length, drop, refl, sym, ap, ◌∙◌, arith}
+use Rattle.std.proofs.Common.{◌≡◌, length, drop, is_some, refl, sym, ap, ◌∙◌, arith}
 use Rattle.cw_tree.specs.declared.expression.RawDiffer.{out-RawDiffer}
 use Rattle.cw_tree.specs.declared.expression.RawMask.{out-RawMask}
 use Rattle.cw_tree.specs.declared.expression.RawPrim.{out-RawPrim}
@@ -8,10 +8,10 @@ use Rattle.cw_tree.specs.declared.expression.RawCand.{out-RawCand}
 use Rattle.cw_tree.specs.declared.expression.RawCond.{out-RawCond}
 use Rattle.cw_tree.specs.declared.expression.RawSum.{out-RawSum}
 use Rattle.cw_scale.specs.TypeRules.{condition, conjunction, comparison, sum, term, differ, union, mask, prim, primary}
-use Rattle.cw_scale.proofs.Arms.{choice_faults, sum_alone_faults, comparison_faults, number_faults, location_faults, forced_faults, bracket_faults, reference_arm_faults, call_arm_faults, index_faults, indexes_faults, address_faults}
+use Rattle.cw_scale.proofs.Arms.{choice_faults, sum_alone_faults, comparison_faults, number_faults, octal_faults, location_faults, forced_faults, bracket_faults, reference_arm_faults, call_arm_faults, name_faults, index_faults, indexes_faults, address_faults}
 use Rattle.cw_scale.proofs.Chains.{head_judged, next_judged, no_operand, no_sign}
 use Rattle.cw_scale.proofs.Layers.{logic_goes_on, logic_ends, each_goes_on, each_ends, term_none, term_alone, prim_alone, prim_within, condition-layer, conjunction-layer, sum-layer, term-layer, differ-layer, union-layer, mask-layer, prim-layer}
-use Rattle.cw_scale.proofs.Passing.{all_judged}
+use Rattle.cw_scale.proofs.Passing.{all_judged, argument_judged, no_parameter, taken_judged, refused}
 use Rattle.cw_scale.proofs.judge.+judged.Goals as goal
 
 pub judge_condition-loop-operand-preserved : goal.judge_condition-loop-operand-preserved
@@ -120,6 +120,15 @@ judge_prim-returns-in_default t c =
     (prim-layer c.args.named.now c.args.e.now) c.as_slice.ensures c.in_default.len_at_least c.judge_each_bits.ensures
     c.primary_shape-shape.ensures c.judge_primary-in_default.ensures
 
+pub judge_arguments-loop-argument-preserved : goal.judge_arguments-loop-argument-preserved
+judge_arguments-loop-argument-preserved t c =
+    argument_judged c.args.named.now c.loop-argument.rest.now c.param-item.result c.args.arguments.now c.loop-argument.argument-index c.argument-item.result c.loop-argument.first c.judge_argument.new.first _
+    c.in-len1-up.len_at_least c.param-item.is c.loop-argument-test.true c.argument-item.is c.judge_argument.ensures c.loop-argument.invariant
+
+pub judge_arguments-returns-in-empty : goal.judge_arguments-returns-in-empty
+judge_arguments-returns-in-empty t c =
+    no_parameter c.args.named.now c.loop-argument.rest.now c.args.arguments.now c.loop-argument.argument-index c.loop-argument.first _ c.in-empty.len_below c.loop-argument.invariant
+
 pub judge_arguments-returns : goal.judge_arguments-returns
 judge_arguments-returns t c =
     all_judged c.args.named.now c.loop-argument.rest.now c.args.arguments.now c.loop-argument.argument-index c.loop-argument.first _ c.loop-argument-test.false c.loop-argument.invariant
@@ -143,6 +152,11 @@ judge_comparison-returns t c =
 pub judge_primary-returns-in-Number : goal.judge_primary-returns-in-Number
 judge_primary-returns-in-Number t c =
     number_faults c.args.named.now c.args.e.now c.args.scale c.in-Number.n c.fits_at.result c.args.first.now c.keep_unless.new.first c.in-Number.is c.fits_at.ensures c.keep_unless.ensures
+
+pub judge_primary-returns-in-Octal : goal.judge_primary-returns-in-Octal
+judge_primary-returns-in-Octal t c =
+    octal_faults c.args.named.now c.args.e.now c.args.scale c.in-Octal.n c.is_some-fits.result c.args.first.now c.keep_unless-in-Octal.new.first
+    c.in-Octal.is (c.is_some-fits.ensures ∙ ap is_some c.octal_word.ensures.value) c.keep_unless-in-Octal.ensures
 
 pub judge_primary-returns-in-Location : goal.judge_primary-returns-in-Location
 judge_primary-returns-in-Location t c =
@@ -169,6 +183,9 @@ judge_primary-returns-in-Call t c =
     call_arm_faults c.args.named.now c.args.e.now c.args.scale c.in-Call.name c.in-Call.arguments c.as_slice.result.now c.args.first.now c.judge_call.new.first
     c.in-Call.is c.as_slice.ensures (rw c.get-in-Call.ensures at c.judge_call.ensures)
 
+pub judge_reference-returns-in-Name : goal.judge_reference-returns-in-Name
+judge_reference-returns-in-Name t c = name_faults c.args.named.now c.args.r.now c.in-Name.name c.args.first.now c.judge_call.new.first c.in-Name.is c.judge_call.ensures
+
 pub judge_reference-returns-in-One : goal.judge_reference-returns-in-One
 judge_reference-returns-in-One t c =
     index_faults c.args.named.now c.args.r.now c.in-One.field-0 c.in-One.i c.get.result.now c.args.first.now c.judge_expression.new.first c.in-One.is c.get.ensures c.judge_expression.ensures
@@ -183,3 +200,13 @@ pub judge_reference-returns-in-Bare : goal.judge_reference-returns-in-Bare
 judge_reference-returns-in-Bare t c =
     address_faults c.args.named.now c.args.r.now c.in-Bare.field-0 c.in-Bare.e c.get-in-Bare.result.now c.args.first.now c.judge_expression-in-Bare.new.first
     c.in-Bare.is c.get-in-Bare.ensures c.judge_expression-in-Bare.ensures
+
+pub judge_call-returns-then-all_taken : goal.judge_call-returns-then-all_taken
+judge_call-returns-then-all_taken t c =
+    taken_judged c.args.named.now c.args.name.now c.in-Some.signature.now c.as_slice-params.result.now c.args.arguments.now c.all_taken.result c.in-Some.ensures c.as_slice-params.ensures c.all_taken.ensures
+    c.args.first.now c.judge_arguments.new.first c.if-all_taken.true c.judge_arguments.ensures
+
+pub judge_call-returns-else-all_taken : goal.judge_call-returns-else-all_taken
+judge_call-returns-else-all_taken t c =
+    refused c.args.named.now c.args.name.now c.in-Some.signature.now c.as_slice-params.result.now c.args.arguments.now c.all_taken.result c.in-Some.ensures c.as_slice-params.ensures c.all_taken.ensures
+    c.args.first.now c.keep.new.first c.if-all_taken.false c.keep.ensures
